@@ -17,7 +17,7 @@ from pathlib import Path
 from typing import BinaryIO, Dict, Iterable, Iterator, List, Optional
 
 from .ends import End, Folder, NoJournal, NotBuilt, TooMuch, Unfit
-from .journal import BYTES_MOST, HEADER_BYTES, RECORD_BYTES, files_of, is_open, open_file
+from .journal import BYTES_MOST, FRONT_BYTES, HEADER_BYTES, RECORD_BYTES, files_of, is_open, open_file
 from .scratch import bounded, scratch
 from .service import find_program
 from .words import State, state
@@ -26,7 +26,6 @@ LARGEST = 2**30  # bytes of a file: more than a full journal behind a checkpoint
 AT_ONCE_MOST = 2**26  # bytes of both files, which are read before they are written: that takes the shortest time
 SECONDS = 60
 DAY = 24 * 60 * 60
-FRONT_BYTES = max(HEADER_BYTES.values())
 
 
 class NotEmpty(Unfit):

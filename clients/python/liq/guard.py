@@ -28,13 +28,14 @@ import stat
 import struct
 import sys
 from pathlib import Path
-from typing import BinaryIO, Dict, Iterator, List, NamedTuple, Optional, Set, Tuple, Union
+from typing import BinaryIO, Dict, Iterator, List, NamedTuple, Optional, Set, Tuple
 
-from .backup import DAY, FRONT_BYTES, LARGEST, fronts, open_copy
+from .backup import DAY, LARGEST, fronts, open_copy
 from .ends import End, Folder, TooMuch, Unfit
-from .journal import CHECKPOINT_BYTES_MOST, HEADER_BYTES, KINDS, LIMITS, PIECE_BYTES, RECORD_BYTES, SIDES
-from .journal import DamagedFile, copy_file, files_of, open_file, read_checkpoint, read_command
+from .journal import FRONT_BYTES, KINDS, PIECE_BYTES, RECORD_BYTES, SIDES
+from .journal import DamagedFile, Header, copy_file, files_of, open_file, read_checkpoint, read_command, read_header
 from .scratch import bounded, scratch
+from .units import counted
 
 RECORDS_READ = 1_000_001  # the gate behind a full journal's last record is that of this one, and liq reads no further
 RECORDS_AT_ONCE = 8128
@@ -75,15 +76,6 @@ class Line(NamedTuple):
 
 
 # ---- one file
-
-
-class Header(NamedTuple):
-    """A whole header, whatever its gate is: its digest is right."""
-
-    bytes: int
-    generation: int
-    begin: int
-    digest: bytes
 
 
 class Seen(NamedTuple):
@@ -162,38 +154,24 @@ def look_at(path: Path) -> Seen:
         seen = Seen(path, size, file.read(FRONT_BYTES))
         if size < 57:
             return seen
-        header = _read_header(seen, file)
-        if isinstance(header, str):
-            return seen._replace(fault=(0, header))
+        try:
+            header = _read_header(seen, file)
+        except DamagedFile as fault:
+            return seen._replace(fault=(0, fault.why))
         return _read_records(file, seen._replace(header=header))
 
 
-def _read_header(seen: Seen, file: BinaryIO) -> Union[Header, str]:
-    """The header, or why it isn't whole."""
-    data = seen.front
-    length = HEADER_BYTES.get(data[1:9], 0)
-    if not length:
-        return "its name is that of no journal"
-    if len(data) < length:
-        return "bytes are missing"
-    generation, checkpoint = struct.unpack(">2Q", data[9:25])
-    if generation == 0 or seen.path.stem != SIDES[(generation + 1) % 2]:
-        return f"generation {generation} is none of this file"
-    if (checkpoint == 0) != (generation == 1) or checkpoint > CHECKPOINT_BYTES_MOST:
-        return f"a checkpoint of {checkpoint} bytes in generation {generation}"
-    if length == 65 and int.from_bytes(data[25:33], "big") != LIMITS[2]:
-        return "its limit is another"
-    begin = length + checkpoint
-    if seen.size < begin:
-        return "bytes are missing"
-    if os.lseek(file.fileno(), 0, os.SEEK_HOLE) < begin:  # of 2^36 bytes that are nowhere none is read
-        return "a hole is in its checkpoint"
-    digest = hashlib.sha256(data[1 : length - 32])
-    for at in range(length, begin, PIECE_BYTES):
-        digest.update(read_at(file, at, min(PIECE_BYTES, begin - at)))
-    if digest.digest() != data[length - 32 : length]:
-        return "its digest is another"
-    return Header(length, generation, begin, digest.digest())
+def _read_header(seen: Seen, file: BinaryIO) -> Header:
+    """The header, whose digest is right. Raises `DamagedFile`."""
+    header = read_header(seen.path, seen.front, seen.size)
+    if os.lseek(file.fileno(), 0, os.SEEK_HOLE) < header.begin:  # of 2^36 bytes that are nowhere none is read
+        raise DamagedFile(seen.path, 0, "a hole is in its checkpoint")
+    digest = hashlib.sha256(header.fields)
+    for at in range(header.bytes, header.begin, PIECE_BYTES):
+        digest.update(read_at(file, at, min(PIECE_BYTES, header.begin - at)))
+    if digest.digest() != header.digest:
+        raise DamagedFile(seen.path, 0, "its digest is another")
+    return header
 
 
 def _read_records(file: BinaryIO, seen: Seen) -> Seen:
@@ -262,11 +240,6 @@ def read_at(file: BinaryIO, at: int, count: int) -> bytes:
 BRING_BACK = "bring back a copy"
 MEND = "start no run; see --mend, or bring back a copy"
 IF_ANSWERED = "If it was answered, the gate rotted: see --mend --answered"
-
-
-def counted(count: int, what: str) -> str:
-    """A count and what is counted."""
-    return f"{count} {what}" + ("" if count == 1 else "s")
 
 
 def distrusted(folder: Folder) -> Iterator[str]:
@@ -718,7 +691,8 @@ def compared(found: Look, path: Folder, note: Optional[Note]) -> Iterator[Line]:
             if note and not noted_file(found, note):
                 gone = f"the note has {note}, which later rotations wrote over: it can't be compared"
                 yield Line(gone, is_finding=False)
-            write_note(path, note_of(found.current))
+            if read_note(path) == note:  # else another guard has written one meanwhile, which stays
+                write_note(path, note_of(found.current))
     except (Unfit, OSError) as fault:
         yield Line(f"the note: {fault}")
 

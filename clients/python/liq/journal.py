@@ -27,6 +27,7 @@ NO_HINT = 2**32 - 1
 COMMAND = struct.Struct(">B3xIQ2I5Q2I24x")
 RECORD_BYTES = 129
 HEADER_BYTES = {b"LIQJRNL1": 57, b"LIQJRNL2": 65}
+FRONT_BYTES = max(HEADER_BYTES.values())
 CHECKPOINT_BYTES_MOST = 2**36
 RECORDS_MOST = 1_000_000
 BYTES_MOST = 2**28  # of a file that is read, unless a call is told another number: twice a full journal
@@ -85,6 +86,38 @@ class Command(NamedTuple):
         return f"{self.client} {self.number} {self.call}"
 
 
+class Header(NamedTuple):
+    """How a file begins: how many bytes that has, where the records begin, and the digest over the fields and the
+    checkpoint."""
+
+    bytes: int
+    generation: int
+    begin: int
+    fields: bytes
+    digest: bytes
+
+
+def read_header(path: Path, front: bytes, size: int) -> Header:
+    """The header of a file of so many bytes, by its first ones and whatever its gate is. Raises `DamagedFile` by the
+    first field that is wrong, or where bytes are missing; the digest is not tested."""
+    length = HEADER_BYTES.get(front[1:9], 0)
+    if not length:
+        raise DamagedFile(path, 0, "its name is that of no journal")
+    if len(front) < length:
+        raise DamagedFile(path, 0, "bytes are missing")
+    generation, checkpoint = struct.unpack(">2Q", front[9:25])
+    if generation == 0 or path.stem in SIDES and path.stem != SIDES[(generation + 1) % 2]:
+        raise DamagedFile(path, 0, f"generation {generation} is none of this file")
+    if (checkpoint == 0) != (generation == 1) or checkpoint > CHECKPOINT_BYTES_MOST:
+        raise DamagedFile(path, 0, f"a checkpoint of {checkpoint} bytes in generation {generation}")
+    fields, digest = front[1 : length - 32], front[length - 32 : length]
+    if length == 65 and int.from_bytes(fields[24:], "big") != LIMITS[2]:
+        raise DamagedFile(path, 0, "its limit is another")
+    if size < length + checkpoint:
+        raise DamagedFile(path, 0, "bytes are missing")
+    return Header(length, generation, length + checkpoint, fields, digest)
+
+
 class Disk:
     """One of the two files, whole: its header, its checkpoint, if it has one, and its records. It has at most `most`
     bytes."""
@@ -99,24 +132,10 @@ class Disk:
             self.checkpoint = read_checkpoint(self.path, self.data[self.header : self.begin], self.header)
 
     def _read_header(self) -> None:
-        data = self.data
-        self.header = HEADER_BYTES.get(data[1:9], 0)
-        if not self.header:
-            raise DamagedFile(self.path, 0, "its name is that of no journal")
+        found = read_header(self.path, self.data[:FRONT_BYTES], len(self.data))
+        self.header, self.generation, self.begin = found.bytes, found.generation, found.begin
         self.version = 1 if self.header == 57 else 2
-        self.generation, length = struct.unpack(">2Q", data[9:25])
-        side = SIDES[(self.generation + 1) % 2]
-        if self.generation == 0 or self.path.stem in SIDES and self.path.stem != side:
-            raise DamagedFile(self.path, 0, f"generation {self.generation} is none of this file")
-        if (length == 0) != (self.generation == 1) or length > CHECKPOINT_BYTES_MOST:
-            raise DamagedFile(self.path, 0, f"a checkpoint of {length} bytes in generation {self.generation}")
-        self.begin = self.header + length
-        if len(data) < self.begin:
-            raise DamagedFile(self.path, 0, "bytes are missing")
-        fields = data[1 : self.header - 32]
-        if self.version == 2 and int.from_bytes(fields[24:], "big") != LIMITS[2]:
-            raise DamagedFile(self.path, 0, "its limit is another")
-        if hashlib.sha256(fields + data[self.header : self.begin]).digest() != data[self.header - 32 : self.header]:
+        if hashlib.sha256(found.fields + self.data[self.header : self.begin]).digest() != found.digest:
             raise DamagedFile(self.path, 0, "its digest is another")
 
     def _read_records(self) -> Iterator[Command]:

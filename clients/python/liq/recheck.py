@@ -30,6 +30,7 @@ from .refusals import Refusal
 from .scratch import bounded, scratch, words_of
 from .service import Service
 from .shares import PlainLedger, Share
+from .units import counted
 from .words import Audit, AuditRow, audit
 
 SAME = ("generation", "clients")  # the fields of a checkpoint in which a replay may differ
@@ -351,11 +352,6 @@ def compare_audit(rows: List[Row], found: Audit) -> List[str]:
     if len(rows) != len(found.rows) or found.within != found.of:
         faults.append(f"audit has {len(found.rows)} rows, within {found.within} of {found.of}, beside {len(rows)} here")
     return faults
-
-
-def counted(count: int, what: str) -> str:
-    """A count and what is counted."""
-    return f"{count} {what}" + ("" if count == 1 else "s")
 
 
 def cut_off(part: Fraction) -> str:

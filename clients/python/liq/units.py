@@ -39,6 +39,11 @@ def show_lusd(millionths: int) -> str:
     return _text(millionths, 6)
 
 
+def counted(count: int, what: str) -> str:
+    """A count and what is counted: `counted(2, "trove")` is `2 troves`."""
+    return f"{count} {what}" + ("" if count == 1 else "s")
+
+
 def _units(amount: Amount, places: int) -> int:
     if isinstance(amount, bool) or not isinstance(amount, (str, int)):
         raise TypeError(f"{amount!r}: write it as text, as in \"1.5\", so that nothing is rounded")

@@ -70,7 +70,6 @@ class Looking(InFolder):
         return status, written.getvalue()
 
 
-@unittest.skipIf(sys.version_info < (3, 10), "scripts/forge wants Python 3.10")
 class Gates(Looking):
     """What stands behind a gate that is shut."""
 
@@ -281,7 +280,6 @@ def torn(before: Pair, after: Pair, chance: random.Random) -> Iterator[Pair]:
         yield {**before, side: bytes(written)}
 
 
-@unittest.skipIf(sys.version_info < (3, 10), "scripts/forge wants Python 3.10")
 class Notes(Looking):
     """A market beside a note of an earlier look."""
 
@@ -373,7 +371,6 @@ class Notes(Looking):
         self.assertEqual(self.run_guard("--note", str(self.folder / "none" / "note"))[0], 1)
 
 
-@unittest.skipIf(sys.version_info < (3, 10), "scripts/forge wants Python 3.10")
 class Mended(Looking):
     """Gates that are opened again."""
 
@@ -483,7 +480,6 @@ class Mended(Looking):
         self.assertEqual((self.folder / "left.liq").read_bytes()[gate_of(2)], 0)
 
 
-@unittest.skipIf(sys.version_info < (3, 10), "scripts/forge wants Python 3.10")
 class Files(Looking):
     """What a file is, whose, and under which names. Nothing is waited for."""
 
