@@ -1,5 +1,6 @@
 use Rattle.std.proofs.Common.{Err, Result, ap, sym, subst, refl}
 use Rattle.liq_types.specs.declared.replies.Reply.{Reply}
+use Rattle.liq_types.specs.declared.requests.Request.{Request}
 use Rattle.liq_ends.specs.declared.halts.Halt.{Halt}
 use Rattle.liq_ends.specs.declared.halts.Halt.TheVariants.{ReadFault, WriteFault, DiskFault}
 use Rattle.liq_ends.specs.Causes.{WriteCause}
@@ -39,3 +40,11 @@ returns-in_err-reply-in-Do-clause-past g c ol or l r start requests past =
     let halt = c.in_err-reply-in-Do.field-0.0 in
     subst (λ (end : Result (Unit {0}) Halt). Passes g.D.Disk.seen g.D.Disk.moment g.D.Disk.left_at ol or l r start requests c.args.request.now end store) (sym (handed_on c.from_residual-in_err-reply-in-Do.result halt c.from_residual-in_err-reply-in-Do.ensures.1))
     (passes_as Reply (Unit {0}) (λ rs. IsPastOf g.D.Disk.seen g.D.Disk.moment g.D.Disk.left_at ol or l r start rs store) (λ rs q. IsStoppedPastOf g.D.Disk.seen g.D.Disk.moment g.D.Disk.left_at ol or l r start rs q store) requests c.args.request.now halt (c.in_err-reply-in-Do.ensures.past ol or l r start requests past))
+
+pub returns-in_ok-reply-in-Do-clause-past : goal.returns-in_ok-reply-in-Do-clause-past
+returns-in_ok-reply-in-Do-clause-past g c ol or l r start requests past = c.in_ok-reply-in-Do.ensures.past ol or l r start requests past
+
+pub returns-in-Ask-clause-past : goal.returns-in-Ask-clause-past
+returns-in-Ask-clause-past g c ol or l r start requests past =
+    subst (λ (q : Request). Passes g.D.Disk.seen g.D.Disk.moment g.D.Disk.left_at ol or l r start requests q c.answer_query.result c.answer_query.new.self.store) (sym c.in-Ask.is)
+    (c.answer_query.ensures.past ol or l r start requests past)
