@@ -26,20 +26,3 @@ fn effective_user_in(status: &[u8]) -> Option<u32> {
     let users = str::from_utf8(users).ok()?;
     users.split_whitespace().nth(1)?.parse().ok()
 }
-
-#[cfg(test)]
-mod tests {
-    use super::*;
-    use std::process::Abort;
-    use std::test::Fail;
-
-    #[test]
-    fn the_effective_user_is_the_second(rt: HostRuntime) -> Result<(), Fail> {
-        let status = b"Name:\tUid: \xc3\nPid:\t12\nUid:\t1000\t0\t2\t3\nGid:\t4\t5\t6\t7\n";
-        assert_eq!(rt; effective_user_in(status), Some(0));
-        assert_eq!(rt; effective_user_in(b"Uid:\t1000\n"), None);
-        assert_eq!(rt; effective_user_in(b"Uid:\t1000\t4294967296\n"), None);
-        assert_eq!(rt; effective_user_in(b"Name:\tliq\n"), None);
-        Ok(())
-    }
-}
