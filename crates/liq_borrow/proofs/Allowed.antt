@@ -1,13 +1,12 @@
 -- The rules of an opening, a change, a closing and a moved gain, read once by their places: what each tells where none refuses.
-use Rattle.std.proofs.Common.{◌≡◌, ℕ, ◌-◌, ◌≤◌, ◌<◌, Bool, true, false, cond, refl, ap, sym, ◌∙◌, nat_lt, List, [], ◌∷◌, Some, None, Option, arith}
+use Rattle.std.proofs.Common.{◌≡◌, ℕ, ◌≤◌, ◌<◌, Bool, true, false, refl, nat_lt, None, Option, arith}
 use Rattle.std.specs.Prelude.{◌&&◌, ◌||◌, ◌==◌}
-use Rattle.std.specs.List.{AllByRecursion}
 use Rattle.std.proofs.lemmas.Bool.{ltb-false, leb-false}
 use Rattle.std.proofs.lemmas.Bool.Decides.{nat_tests}
 use Rattle.liq_types.specs.declared.amounts.TheConstants.{ONE}
 use Rattle.liq_types.specs.declared.figures.Market.{Market}
 use Rattle.liq_types.specs.declared.figures.Wallet.{Wallet}
-use Rattle.liq_types.specs.Rules.{Rule, first_refusal}
+use Rattle.liq_types.specs.Rules.{first_refusal}
 use Rattle.liq_types.proofs.Tests.{all_false}
 use Rattle.liq_borrow.specs.declared.change.Change.{Change}
 use Rattle.liq_borrow.specs.Allowed.{IsBound, OpenPasses, ChangePasses, ClosePasses, GainPasses}

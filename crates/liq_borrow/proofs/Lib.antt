@@ -1,1 +1,2 @@
+mod Adjusting
 pub mod Allowed

@@ -1,3 +1,4 @@
+pub mod Adjusting
 pub mod Allowed
 pub mod Borrowing
 pub mod Checks

@@ -1,6 +1,8 @@
 //! Changing a trove.
 
 ghost use Rattle.std.specs.Prelude.{◌≡◌, ◌≤◌, ◌+◌};
+ghost use Rattle.liq_types.specs.Rules.{first_refusal, outcome};
+ghost use Rattle.liq_borrow.specs.Adjusting.{asked_rules, held_rules, left_with, ratio_rules};
 ghost use Rattle.liq_borrow.specs.Borrowing.{adjust_plan, or_nothing};
 ghost use Rattle.liq_borrow.specs.Given.{IsMarket};
 
@@ -33,14 +35,44 @@ pub fn plan_adjust(
         return Err(Refusal::NoTrove { account });
     };
     let (fee, rate) = borrowing(m, change.borrow);
-    let recovery = is_recovery(m);
-    let borrows = change.borrow > 0;
-    checks::bound(borrows, bound, least_bound(m))?;
+    check_asked(m, change, fee, bound)?;
+    let (coll, debt) = left_of(m, wallet, had, change, fee)?;
+    check_ratios(m, change, fee, had, (coll, debt))?;
+    Ok(Plan {
+        coll,
+        debt,
+        fee,
+        rate,
+    })
+}
+
+/// What is refused of a change with this fee by itself, whatever the trove has.
+fn check_asked(m: &Market, change: &Change, fee: u64, bound: u64) -> Result<(), Refusal>
+    requires { IsMarket m.now }
+    ensures { result ≡ outcome (first_refusal (asked_rules m.now change.now fee bound)) tt }
+{
+    checks::bound(change.borrow > 0, bound, least_bound(m))?;
     checks::one_way(change.coll_in, change.coll_out)?;
     checks::one_way(change.borrow, change.repay)?;
     checks::some_change(change)?;
     checks::no_recovery(change.coll_out > 0, m.total_coll, m.total_debt, m.price)?;
     checks::fee(fee, change.borrow, bound)?;
+    Ok(())
+}
+
+/// The collateral and the debt that a change with this fee leaves a trove that had so much, or what is refused since the wallet
+/// or the trove has too little, or all troves too much.
+fn left_of(
+    m: &Market,
+    wallet: &Wallet,
+    had: (u64, u64),
+    change: &Change,
+    fee: u64,
+) -> Result<(u64, u64), Refusal>
+    requires coll { had.0 + wallet.now.coll ≤ LIM }
+    requires debt { had.1 ≤ m.now.total_debt }
+    ensures { result ≡ outcome (first_refusal (held_rules m.now wallet.now had change.now fee)) (left_with had change.now fee) }
+{
     checks::collateral(change.coll_in, wallet.coll)?;
     checks::collateral(change.coll_out, had.0)?;
     checks::tokens(change.repay, wallet.lusd)?;
@@ -50,16 +82,34 @@ pub fn plan_adjust(
     checks::supply(sum, m.limit)?;
     let coll = had.0 + change.coll_in - change.coll_out;
     let debt = (had.1 + change.borrow + fee).saturating_sub(change.repay);
-    checks::ratio(!recovery || borrows, coll, debt, m.price, least_ratio(m))?;
-    checks::no_fall(recovery && borrows, (coll, debt), had)?;
+    Ok((coll, debt))
+}
+
+/// What is refused by the ratios of a trove that had so much and of all troves, after a change with this fee.
+fn check_ratios(
+    m: &Market,
+    change: &Change,
+    fee: u64,
+    had: (u64, u64),
+    left: (u64, u64),
+) -> Result<(), Refusal>
+    requires { IsMarket m.now }
+    ensures { result ≡ outcome (first_refusal (ratio_rules m.now change.now fee had left)) tt }
+{
+    let recovery = is_recovery(m);
+    let borrows = change.borrow > 0;
+    checks::ratio(
+        !recovery || borrows,
+        left.0,
+        left.1,
+        m.price,
+        least_ratio(m),
+    )?;
+    checks::no_fall(recovery && borrows, left, had)?;
     let total_coll = u128::from(m.total_coll) + u128::from(change.coll_in);
     let total_coll = total_coll.saturating_sub(u128::from(change.coll_out));
-    let total_debt = sum.saturating_sub(u128::from(change.repay));
+    let total_debt = u128::from(m.total_debt) + u128::from(change.borrow) + u128::from(fee);
+    let total_debt = total_debt.saturating_sub(u128::from(change.repay));
     checks::totals(!recovery, total_coll, total_debt, m.price)?;
-    Ok(Plan {
-        coll,
-        debt,
-        fee,
-        rate,
-    })
+    Ok(())
 }
