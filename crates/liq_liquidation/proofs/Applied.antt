@@ -1,6 +1,6 @@
 -- What is known of a planned liquidation when it is made.
-use Rattle.std.proofs.Common.{◌≡◌, ℕ, ◌+◌, ◌*◌, ◌≤◌, false, cond, refl, ap, sym, ◌∙◌, subst, arith, nat_lt, Some, None, Option}
-use Rattle.std.specs.Prelude.{Ok}
+use Rattle.std.proofs.Common.{◌≡◌, ℕ, ◌+◌, ◌*◌, ◌≤◌, ◌<◌, true, false, cond, refl, ap, sym, ◌∙◌, subst, arith, nat_lt, Some, None, Option}
+use Rattle.std.specs.Prelude.{◌==◌, Ok}
 use Rattle.std.proofs.lemmas.Bool.Decides.{nat_tests}
 use Rattle.liq_types.specs.declared.amounts.TheConstants.{SUM_MOST, OFFSET_MOST}
 use Rattle.liq_types.specs.declared.figures.Market.{Market}
@@ -62,3 +62,11 @@ due b left total v p is = by (at b.troves v.account) refl p.planned where
   by None there made = cc
   by (Some t) there made =
       subst (λ (x : Books). IsDue b x total v.one) (sym (is ∙ ap (lifted_row b v.account) there)) (due_of b total v p t there made)
+
+-- ---- where the pool takes over something, and where nothing
+
+pub taken : {X : Type 0} (debt : ℕ) (stays after : X) → 0 < debt → cond (debt == 0) stays after ≡ after
+taken debt stays after some = let e : (debt == 0) ≡ false = grind (arith, nat_tests, some) in ap (λ b. cond b stays after) e
+
+pub not_taken : {X : Type 0} (debt : ℕ) (stays after : X) → debt ≤ 0 → cond (debt == 0) stays after ≡ stays
+not_taken debt stays after none = let e : (debt == 0) ≡ true = grind (arith, nat_tests, none) in ap (λ b. cond b stays after) e
