@@ -95,6 +95,12 @@ overflow_add-pools g c =
     let drawn = covered.cuts.coll in
     record { fits = omega (arith, fees, covered.drawn, covered.fee, drawn, c.requires.sound.coll) }
 
+pub overflow_sub-plan : goal.overflow_sub-plan
+overflow_sub-plan g c =
+    let p = parts_of c.args.pools.now c.args.surplus.now c.args.troves.now c.args.order.now in
+    let wallet = wallet_in c.args.wallets.now.rows c.args.account in
+    (planned_covered p wallet c.args.plan.now c.requires.sound c.requires.planned).fee
+
 pub unreachable-requires : goal.unreachable-requires
 unreachable-requires g c =
     let p = parts_of c.args.pools.now c.args.surplus.now c.args.troves.now c.args.order.now in
@@ -120,6 +126,18 @@ pay-requires-clause-lusd g c =
     let same = ap (λ (t : Table Wallet). (wallet_in t c.args.account).lusd) c.in-Ok.ensures.moved in
     let market = c.requires.planned.sound in
     omega (arith, less.lusd, same, market.supply, market.debt)
+
+pub returns-clause-parts : goal.returns-clause-parts
+returns-clause-parts g c =
+    let p = parts_of c.args.pools.now c.args.surplus.now c.args.troves.now c.args.order.now in
+    let now = parts_of c.loop-cut.pools c.loop-cut.surplus c.loop-cut.troves c.loop-cut.order in
+    ap (λ (q : Parts). record q { pools = record q.pools { fee_coll = q.pools.fee_coll + c.args.plan.now.fee } })
+    (all_cut now p c.as_slice-cut-items.result.now c.args.plan.now.cuts c.loop-cut.cut-index c.loop-cut-test.false c.loop-cut.invariant.parts)
+
+pub returns-clause-order_room : goal.returns-clause-order_room
+returns-clause-order_room g c =
+    let none = ap (λ (l : List Cut). count_by (λ (x : Cut). x.full) l) (drop_all c.loop-cut.cut-index c.as_slice-cut-items.result.now c.loop-cut-test.false) in
+    omega (arith, none, c.loop-cut.invariant.order_room)
 
 -- ---- the steps
 
