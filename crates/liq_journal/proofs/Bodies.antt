@@ -11,7 +11,7 @@ use Rattle.liq_journal.specs.declared.damage.What.{What}
 use Rattle.liq_journal.specs.declared.damage.What.TheVariants.{Digest, Form}
 use Rattle.liq_journal.specs.declared.answers.LookFault.{LookFault}
 use Rattle.liq_journal.specs.declared.answers.LookFault.TheVariants as fault
-use Rattle.liq_journal.specs.Bodies.{IsJournalOf, IsAccepted, IsRecorded, body_at}
+use Rattle.liq_journal.specs.Bodies.{IsJournalOf, IsAccepted, IsBodyFault, IsRecorded, body_at}
 use Rattle.liq_journal.specs.Crash.{IsBodyOf}
 use Rattle.liq_header.specs.Header.{is_odd}
 use Rattle.liq_journal.specs.Records.{records, begins_whole}
@@ -96,6 +96,9 @@ module _ (told : Option (List ℕ)) (generation index place n : ℕ) (bytes body
   pub told_fault : (what : What) → record_on generation index (place + 1) (body ++ stored) ≡ Err what → IfSome told (λ held. place + 129 ≤ length held → IsFaultRead generation index (place + 1) held (fault.Damaged (record { index = index; what = what })))
   told_fault what is = if_some told (IsRead (place + 1) 128 n bytes) (λ held. place + 129 ≤ length held → IsFaultRead generation index (place + 1) held (fault.Damaged (record { index = index; what = what })))
       (λ held r long. (refl, ap (record_on generation index (place + 1)) (sym (whole ∙ raw_is held r long)) ∙ is)) read
+
+  pub raw_fault : (what : What) → record_on generation index (place + 1) (body ++ stored) ≡ Err what → IsBodyFault generation index (place + 1) (fault.Damaged (record { index = index; what = what }))
+  raw_fault what is = (refl, (body ++ stored, ap (λ (l : List ℕ). length l) whole ∙ size, is))
 
   pub told_command : (command : Command) → IsBodyOf body command → IfSome told (λ held. place + 129 ≤ length held → IsBodyOf (piece (place + 1) 96 held) command)
   told_command command is = if_some told (IsRead (place + 1) 128 n bytes) (λ held. place + 129 ≤ length held → IsBodyOf (piece (place + 1) 96 held) command)

@@ -1,7 +1,7 @@
 -- What a shut gate behind the records leaves.
-use Rattle.std.proofs.Common.{◌≡◌, ◌⊎◌, inl, inr, ⊎_elim, ℕ, ◌+◌, ◌<◌, ◌≤◌, List, [], ◌∷◌, ◌++◌, length, take, drop, get_or, Option, Some, IfSome, Bool, true, false, IsTrue, ◌↔◌, rules, sym, ◌∙◌, ap, subst, arith, append_assoc, take-append-drop}
-use Rattle.std.proofs.lemmas.List.{take_all, drop_more}
-use Rattle.liq_outside.specs.Disk.{Torn, Only, LeftNow, LeavesOnly}
+use Rattle.std.proofs.Common.{◌≡◌, ◌⊎◌, inl, inr, ⊎_elim, ℕ, ◌+◌, ◌<◌, ◌≤◌, List, [], ◌∷◌, ◌++◌, length, take, drop, get_or, Option, Some, None, option_map, IfSome, Bool, true, false, IsTrue, ◌↔◌, rules, sym, ◌∙◌, ap, subst, arith, append_assoc, take-append-drop, length-take, length-append}
+use Rattle.std.proofs.lemmas.List.{take_all, take_at, drop_at, drop_more, get_or-drop}
+use Rattle.liq_outside.specs.Disk.{Torn, Only, LeftNow, LeavesOnly, overwritten}
 use Rattle.liq_outside.proofs.Moments.{chained, weaker}
 use Rattle.liq_journal.specs.Crash.{HasByteAt, HasGate, SettleLeaves}
 use Rattle.liq_journal.specs.Opened.{IsUnshut, AbsentLeaves}
@@ -49,3 +49,45 @@ module _ {D : Type 0} (moment : D → ℕ) (left_at : D → ℕ → List ℕ →
 pub is_true : (b : Bool) → b ≡ true → IsTrue b
 is_true true is = search rules
 is_true false is = absurd (cc (is))
+
+-- ---- a gate that is written: it is shut, and what stands before it stays
+
+module _ (place : ℕ) (bytes held : List ℕ) (inside : place ≤ length held) where
+  abbrev rest : List ℕ
+  rest = bytes ++ drop (place + length bytes) held
+
+  split_is : overwritten held place bytes ≡ take place held ++ rest
+  split_is = append_assoc (take place held) bytes (drop (place + length bytes) held)
+
+  front_size : length (take place held) ≡ place
+  front_size = omega (arith, length-take place held, inside)
+
+  front_stays : take place (overwritten held place bytes) ≡ take place held
+  front_stays = ap (take place) split_is ∙ take_at (take place held) rest place front_size
+
+  first_read : get_or (overwritten held place bytes) place 0 ≡ get_or rest 0 0
+  first_read =
+      let same : place + 0 ≡ place = omega arith in
+      subst (λ (n : ℕ). get_or (overwritten held place bytes) n 0 ≡ get_or rest 0 0) same
+      (sym (get_or-drop place (overwritten held place bytes) 0 0) ∙ ap (λ (l : List ℕ). get_or l 0 0) (ap (drop place) split_is ∙ drop_at (take place held) rest place front_size))
+
+  reaches : 1 ≤ length bytes → place < length (overwritten held place bytes)
+  reaches some =
+      let long = length-append (take place held) rest in
+      let more = length-append bytes (drop (place + length bytes) held) in
+      omega (arith, ap (λ (l : List ℕ). length l) split_is, long, more, front_size, some)
+
+module _ (place : ℕ) (old mid new : Option (List ℕ)) (same : mid ≡ old) (inside : IfSome old (λ held. place ≤ length held)) (is : new ≡ option_map (λ (l : List ℕ). overwritten l place (0 ∷ [])) mid) where
+  abbrev shut_on : List ℕ → List ℕ
+  shut_on l = overwritten l place (0 ∷ [])
+
+  pub gate_told : IfSome new (HasGate place)
+  gate_told = subst (λ (o : Option (List ℕ)). IfSome o (HasGate place)) (sym (is ∙ ap (option_map shut_on) same)) (by old inside) where
+    by : (o : Option (List ℕ)) → IfSome o (λ held. place ≤ length held) → IfSome (option_map shut_on o) (HasGate place)
+    by None h = tt
+    by (Some held) h = record { there = reaches place (0 ∷ []) held h (omega arith); shut = first_read place (0 ∷ []) held h }
+
+  pub front_told : (held : List ℕ) → old ≡ Some held → IfSome new (λ after. take place after ≡ take place held)
+  front_told held told =
+      let room = subst (λ (o : Option (List ℕ)). IfSome o (λ l. place ≤ length l)) told inside in
+      subst (λ (o : Option (List ℕ)). IfSome o (λ after. take place after ≡ take place held)) (sym (is ∙ ap (option_map shut_on) (same ∙ told))) (front_stays place (0 ∷ []) held room)

@@ -1,4 +1,5 @@
-use Rattle.std.proofs.Common.{◌≡◌, ◌∙◌, List, ℕ, ◌∷◌, [], Some, option_map, rules}
+use Rattle.std.proofs.Common.{◌≡◌, ◌∙◌, ◌≤◌, List, ℕ, ◌∷◌, [], length, Option, Some, None, IfSome, option_map, rules, arith}
+use Rattle.std.proofs.lemmas.Result.{err_from_is_err_and}
 use Rattle.liq_outside.specs.Disk.{overwritten}
 use Rattle.liq_journal.specs.Crash.{Stands, beginning}
 use Rattle.liq_header.specs.Header.{is_odd}
@@ -45,3 +46,18 @@ returns-clause-time g c = joined g.D.Disk.moment g.D.Disk.left_at c.args.disk.no
 
 pub returns-clause-cause : goal.returns-clause-cause
 returns-clause-cause g c = cause_on (g.D.Disk.faults c.args.disk.now) (g.D.Disk.faults c.fill.new.disk) (g.D.Disk.faults c.write_synced.new.disk) _ (c.in_ok-fill.ensures.cause.ok ∙ c.in_ok-settle.ensures.cause.ok) c.write_synced.ensures.cause
+
+pub returns-in_err-fill-clause-created : goal.returns-in_err-fill-clause-created
+returns-in_err-fill-clause-created g c =
+    let p = err_from_is_err_and c.from_residual-in_err-fill.result c.from_residual-in_err-fill.ensures.1 in rw p.1 tt
+
+pub returns-in_err-fill-clause-durable : goal.returns-in_err-fill-clause-durable
+returns-in_err-fill-clause-durable g c =
+    let p = err_from_is_err_and c.from_residual-in_err-fill.result c.from_residual-in_err-fill.ensures.1 in rw p.1 tt
+
+from_start : (told : Option (List ℕ)) → IfSome told (λ held. 0 ≤ length held)
+from_start None = tt
+from_start (Some held) = omega arith
+
+pub write_synced-requires-clause-inside : goal.write_synced-requires-clause-inside
+write_synced-requires-clause-inside g c = from_start (g.D.Disk.seen c.fill.new.disk)

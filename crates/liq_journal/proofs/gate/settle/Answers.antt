@@ -1,8 +1,9 @@
-use Rattle.std.proofs.Common.{◌≤◌, ◌∙◌, List, ℕ, Option, IfSome, length, subst, sym}
-use Rattle.liq_outside.specs.Disk.{LeftNow, Only}
+use Rattle.std.proofs.Common.{◌≡◌, ◌≤◌, ◌∙◌, List, ℕ, [], ◌∷◌, Option, Some, option_map, IfSome, length, take, subst, sym}
+use Rattle.liq_outside.specs.Disk.{LeftNow, Only, overwritten}
 use Rattle.liq_outside.proofs.Moments.{joined}
-use Rattle.liq_journal.proofs.Going.{cause_on, telling_on, telling_same}
-use Rattle.liq_journal.proofs.Settling.{settle_looked, settle_written}
+use Rattle.liq_journal.specs.Crash.{HasGate}
+use Rattle.liq_journal.proofs.Going.{cause_on, on_ok_from, telling_on, telling_same}
+use Rattle.liq_journal.proofs.Settling.{settle_looked, settle_written, gate_told, front_told}
 use Rattle.liq_journal.proofs.gate.settle.Goals as goal
 
 pub returns-in_err-is_shut-clause-crash : goal.returns-in_err-is_shut-clause-crash
@@ -35,3 +36,17 @@ returns-clause-cause g c = cause_on (g.D.Disk.faults c.args.disk.now) (g.D.Disk.
 pub returns-then-branch-clause-durable : goal.returns-then-branch-clause-durable
 returns-then-branch-clause-durable g c = λ held told only.
     subst (λ (o : Option (List ℕ)). IfSome o (λ after. Only after (LeftNow g.D.Disk.moment g.D.Disk.left_at c.is_shut.new.disk))) (sym (c.is_shut.ensures.looked.same ∙ told)) (λ image left. only image (c.is_shut.ensures.looked.within image left))
+
+pub returns-clause-settled : goal.returns-clause-settled
+returns-clause-settled g c =
+    let seen = g.D.Disk.seen in
+    on_ok_from c.write_synced.result (seen c.write_synced.new.disk ≡ option_map (λ (l : List ℕ). overwritten l c.args.place (0 ∷ [])) (seen c.is_shut.new.disk))
+    (IfSome (seen c.write_synced.new.disk) (HasGate c.args.place))
+    (gate_told c.args.place (seen c.args.disk.now) (seen c.is_shut.new.disk) (seen c.write_synced.new.disk) c.is_shut.ensures.looked.same c.requires.inside) c.write_synced.ensures.written
+
+pub returns-clause-front : goal.returns-clause-front
+returns-clause-front g c =
+    let seen = g.D.Disk.seen in
+    on_ok_from c.write_synced.result (seen c.write_synced.new.disk ≡ option_map (λ (l : List ℕ). overwritten l c.args.place (0 ∷ [])) (seen c.is_shut.new.disk))
+    ((held : List ℕ) → seen c.args.disk.now ≡ Some held → IfSome (seen c.write_synced.new.disk) (λ after. take c.args.place after ≡ take c.args.place held))
+    (front_told c.args.place (seen c.args.disk.now) (seen c.is_shut.new.disk) (seen c.write_synced.new.disk) c.is_shut.ensures.looked.same c.requires.inside) c.write_synced.ensures.written

@@ -19,3 +19,9 @@ pub returns-clause-told : goal.returns-clause-told
 returns-clause-told g c =
     let more : c.loop-done.done ≤ c.args.size = c.loop-done.invariant.within in
     digest_done (g.D.Disk.seen c.args.disk.now) c.args.place c.args.size c.loop-done.done (omega arith) c.args.fields.now c.finalize-2.result (λ (m : List ℕ). Holds256 c.loop-done.hasher m) c.finalize-2.ensures c.loop-done.invariant.read
+
+pub returns-in_err-count-clause-looked : goal.returns-in_err-count-clause-looked
+returns-in_err-count-clause-looked g c = looked_on g.D.Disk.seen g.D.Disk.moment g.D.Disk.left_at c.args.disk.now c.loop-done.disk c.read_at.new.disk c.loop-done.invariant.looked c.read_at.ensures.looked
+
+pub returns-then-count-eq0-clause-looked : goal.returns-then-count-eq0-clause-looked
+returns-then-count-eq0-clause-looked g c = looked_on g.D.Disk.seen g.D.Disk.moment g.D.Disk.left_at c.args.disk.now c.loop-done.disk c.read_at.new.disk c.loop-done.invariant.looked c.read_at.ensures.looked

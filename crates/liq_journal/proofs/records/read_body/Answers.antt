@@ -1,5 +1,5 @@
 use Rattle.std.proofs.Common.{◌+◌, rules}
-use Rattle.liq_journal.proofs.Bodies.{body_spells, told_body, told_fault}
+use Rattle.liq_journal.proofs.Bodies.{body_spells, told_body, told_fault, raw_fault}
 use Rattle.liq_journal.proofs.records.read_body.Goals as goal
 
 pub returns-in-Ok-tested-clause-command : goal.returns-in-Ok-tested-clause-command
@@ -10,3 +10,6 @@ returns-in-Ok-tested-clause-told g c = told_body (g.D.Disk.seen c.args.disk.now)
 
 pub returns-in-Err-tested-clause-told : goal.returns-in-Err-tested-clause-told
 returns-in-Err-tested-clause-told g c = told_fault (g.D.Disk.seen c.args.disk.now) c.args.generation c.args.index c.args.place c.in-Ok.field-0 c.read_at.new.buf c.split-raw.result.body c.split-raw.result.stored c.in-Ok.ensures.told (search rules) c.split-raw.ensures.body c.split-raw.ensures.stored c.in-Err-tested.what c.in-Err-tested.ensures
+
+pub returns-in-Err-tested-clause-damaged : goal.returns-in-Err-tested-clause-damaged
+returns-in-Err-tested-clause-damaged g c = raw_fault (g.D.Disk.seen c.args.disk.now) c.args.generation c.args.index c.args.place c.in-Ok.field-0 c.read_at.new.buf c.split-raw.result.body c.split-raw.result.stored c.in-Ok.ensures.told (search rules) c.split-raw.ensures.body c.split-raw.ensures.stored c.in-Err-tested.what c.in-Err-tested.ensures

@@ -7,3 +7,6 @@ returns-in_err-make-clause-reads g c =
 
 pub returns-clause-reads : goal.returns-clause-reads
 returns-clause-reads g c = rw (c.swap.ensures.x_after, ← c.self.view_is) c.make.ensures.reads
+
+pub returns-clause-created : goal.returns-clause-created
+returns-clause-created g c held told = rw (c.swap.ensures.x_after, ← c.self.view_is) (c.in_ok-make.ensures.created held told)
