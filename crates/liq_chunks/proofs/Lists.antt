@@ -55,6 +55,11 @@ entered_ascending (f ∷ fs) e h = by (rank_order e f) refl (entered_ascending f
   by Equal is more = h
   by Greater is more = (all_entered (λ (g : Ranked). rank_order f g ≡ Less) fs e h.0 (turned f e Greater is), more)
 
+-- also where an entry couldn't come
+pub ascending_after : {X E : Type 0} (r : Result X E) (old new : List Ranked) (e : Ranked) → IsAscending old → OnOk r (new ≡ with_entry old e) → OnErr r (new ≡ old) → IsAscending new
+ascending_after (Ok x) old new e h ok err = subst IsAscending (sym ok) (entered_ascending old e h)
+ascending_after (Err x) old new e h ok err = subst IsAscending (sym err) h
+
 pub entered_past : (xs ys : List Ranked) (e : Ranked) → Ahead e xs → with_entry (xs ++ ys) e ≡ xs ++ with_entry ys e
 entered_past [] ys e h = refl
 entered_past (x ∷ xs) ys e h =
