@@ -5,7 +5,7 @@ use Rattle.liq_outside.proofs.Moments.{weaker}
 use Rattle.liq_journal.specs.Records.{records}
 use Rattle.liq_journal.specs.declared.scanned.Scanned.{Scanned}
 use Rattle.liq_journal.specs.Written.{Written, Open, Absent, most_records, found_on, start_of, end_of}
-use Rattle.liq_journal.specs.Crash.{HasGate, SettleLeaves, Stands}
+use Rattle.liq_journal.specs.Crash.{HasGate, SettleLeaves, Stands, beginning}
 use Rattle.liq_header.specs.Header.{is_odd}
 use Rattle.liq_journal.specs.Settled.{IsSettled}
 use Rattle.liq_journal.specs.Opened.{IsScanOf, OpenLeaves, AbsentLeaves}
@@ -83,3 +83,20 @@ told_settled (Some held) (Some after) odd s telling scan stands = record {
   start_is = scan.start_is;
   count_is = scan.count_is;
 }
+
+-- what a creation leaves is settled
+pub begun_settled : (told now : Option (List ℕ)) (generation : ℕ) (checkpoint : List ℕ) → (IsSome now ↔ IsSome told) → ((held : List ℕ) → told ≡ Some held → (after : List ℕ) × (now ≡ Some after) × Stands (is_odd generation) after (beginning generation checkpoint)) → IfSome now (IsSettled generation (65 + length checkpoint) 0)
+begun_settled told None generation checkpoint telling created = tt
+begun_settled None (Some after) generation checkpoint telling created = let t : IsSome (Some after) = search rules in absurd (none_is (telling.0 t))
+  where
+    none_is : IsSome {T = List ℕ} None → ⊥
+    none_is is = absurd (search rules)
+begun_settled (Some held) (Some after) generation checkpoint telling created =
+    let made = created held refl in
+    record {
+      written = beginning generation checkpoint;
+      stands = subst (λ (o : Option (List ℕ)). IfSome o (λ l. Stands (is_odd generation) l (beginning generation checkpoint))) (sym made.1) made.2;
+      generation_is = refl;
+      start_is = refl;
+      count_is = refl;
+    }

@@ -1,4 +1,6 @@
+use Rattle.std.proofs.Common.{◌+◌}
 use Rattle.std.proofs.lemmas.Result.{err_from_is_err_and}
+use Rattle.liq_journal.proofs.Opening.{begun_settled}
 use Rattle.liq_journal.proofs.journal.Journal.turn.Goals as goal
 
 pub returns-in_err-make-clause-reads : goal.returns-in_err-make-clause-reads
@@ -10,3 +12,8 @@ returns-clause-reads g c = rw (c.swap.ensures.x_after, ← c.self.view_is) c.mak
 
 pub returns-clause-created : goal.returns-clause-created
 returns-clause-created g c held told = rw (c.swap.ensures.x_after, ← c.self.view_is) (c.in_ok-make.ensures.created held told)
+
+pub returns-clause-settled : goal.returns-clause-settled
+returns-clause-settled g c =
+    rw c.swap.ensures.x_after
+    (begun_settled (g.D.Disk.seen c.args.beside.now) (g.D.Disk.seen c.make.new.disk) (c.self.inside.generation + 1) c.args.checkpoint.now c.make.ensures.telling c.in_ok-make.ensures.created)
