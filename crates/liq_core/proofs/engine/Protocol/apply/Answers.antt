@@ -1,3 +1,4 @@
+use Rattle.std.specs.List.{Contains}
 use Rattle.std.proofs.Common.{◌≡◌, ℕ, List, false, ap, sym, ◌∙◌, arith, subst, None}
 use Rattle.liq_types.specs.declared.events.ListChange.{ListChange}
 use Rattle.liq_types.specs.declared.hints.Hint.{Hint}
@@ -28,6 +29,34 @@ use Rattle.liq_core.proofs.SoundCores.{sound_stands}
 use Rattle.liq_core.proofs.engine.Protocol.apply.Goals as goal
 use Rattle.liq_core.proofs.engine.Protocol.apply.Goals.{in_default, in-Liquidate2, in-Rotate}
 
+-- what is planned has room, seen by its inside
+room_inside : (old : Core) (inside : Inside) (plan : Plan) → plan_of inside.command inside.forecast ≡ plan → HasRoom old plan → HasRoom old (plan_of inside.command inside.forecast)
+room_inside old inside plan view room = subst (λ (p : Plan). HasRoom old p) (sym view) room
+
+pub change-requires-clause-stays : goal.change-requires-clause-stays
+change-requires-clause-stays g c = stays_so c.planned.inside.command.call c.in_default.not-Rotate
+
+pub change-requires-clause-strikes_none : goal.change-requires-clause-strikes_none
+change-requires-clause-strikes_none g c = strikes_none c.planned.inside.command.call c.in_default.not-Liquidate c.in_default.not-LiquidateLowest
+
+pub change-requires-clause-range : goal.change-requires-clause-range
+change-requires-clause-range g c = c.planned.invariant.accounts
+
+pub change-requires-clause-wallets : goal.change-requires-clause-wallets
+change-requires-clause-wallets g c = (room_inside c.args.self.now c.planned.inside c.args.planned c.planned.view_is c.requires.room).wallets
+
+pub change-requires-clause-troves : goal.change-requires-clause-troves
+change-requires-clause-troves g c = (room_inside c.args.self.now c.planned.inside c.args.planned c.planned.view_is c.requires.room).troves
+
+pub change-requires-clause-deposits : goal.change-requires-clause-deposits
+change-requires-clause-deposits g c = (room_inside c.args.self.now c.planned.inside c.args.planned c.planned.view_is c.requires.room).deposits
+
+pub change-requires-clause-claims : goal.change-requires-clause-claims
+change-requires-clause-claims g c = (room_inside c.args.self.now c.planned.inside c.args.planned c.planned.view_is c.requires.room).surplus
+
+pub change-requires-clause-list : goal.change-requires-clause-list
+change-requires-clause-list g c = (room_inside c.args.self.now c.planned.inside c.args.planned c.planned.view_is c.requires.room).list
+
 pub change-requires-clause-allowed : goal.change-requires-clause-allowed
 change-requires-clause-allowed g c =
     let sound = subst (λ (core : Core). IsSoundImage core.image core.records) c.self.view_is c.self.invariant.image in
@@ -40,6 +69,17 @@ change-requires-clause-terms g c =
     let s = state_of c.args.self.now in
     let plan = c.requires.planned s (sound_stands c.args.self.now sound) in
     subst (λ (p : Plan). AreTerms s p.command.call p.terms) (sym c.planned.view_is) plan.terms
+
+pub note-requires-clause-stays : goal.note-requires-clause-stays
+note-requires-clause-stays g c = stays_so c.planned.inside.command.call c.in_default.not-Rotate
+
+pub note-requires-clause-row : goal.note-requires-clause-row
+note-requires-clause-row g c =
+    subst (λ keys. Contains keys c.planned.inside.command.client) (sym c.change.ensures.made.clients)
+    (room_inside c.args.self.now c.planned.inside c.args.planned c.planned.view_is c.requires.room).clients.0
+
+pub note-requires-clause-range : goal.note-requires-clause-range
+note-requires-clause-range g c = c.planned.invariant.client
 
 pub note-requires-clause-number : goal.note-requires-clause-number
 note-requires-clause-number g c =
