@@ -6,7 +6,9 @@ ghost use Rattle.liq_types.specs.declared.figures.Trove.{Trove as trove};
 ghost use Rattle.liq_types.specs.Image.{IsLimit};
 ghost use Rattle.liq_types.specs.Soundness.{HasTables, IsSoundImage, first_unsound};
 ghost use Rattle.liq_types.specs.State.{started};
-ghost use Rattle.liq_order.specs.Order.{ranks};
+ghost use Rattle.liq_order.specs.Listed.{AreDistinct};
+ghost use Rattle.liq_order.specs.Order.{order_by, ranks};
+ghost use Rattle.liq_standing.specs.Books.{pools_of};
 ghost use Rattle.liq_core.specs.Core.{StandsFor};
 ghost use Rattle.liq_core.specs.Parts.{HasKey, words_by};
 ghost use Rattle.liq_core.specs.declared.image.ImageFault.TheVariants as fault;
@@ -110,7 +112,7 @@ fn begun(alloc: Global, image: &Image) -> Result<Protocol, NoMemory>
     ensures records { IfOk result (λ protocol. protocol.records ≡ 0) }
 {
     let rows = entries::troves(alloc, &image.troves)?;
-    let order = Order::from_ranked(alloc, ranked(alloc, &rows)?)?;
+    let order = order_of(alloc, &rows)?;
     let sums = Sums {
         coll: image.sum_coll,
         debt: image.sum_debt,
@@ -120,9 +122,9 @@ fn begun(alloc: Global, image: &Image) -> Result<Protocol, NoMemory>
     };
     let troves = Troves::from_rows(alloc, rows, sums)?;
     let pool = pool_of(alloc, image)?;
-    let wallets = Wallets::from_rows(alloc, entries::wallets(alloc, &image.wallets)?)?;
-    let surplus = Surplus::from_rows(alloc, entries::surplus(alloc, &image.surplus_rows)?)?;
-    let clients = Reserved::filled(alloc, &entries::clients(alloc, &image.clients)?)?;
+    let wallets = wallets_of(alloc, image)?;
+    let surplus = surplus_of(alloc, image)?;
+    let clients = clients_of(alloc, image)?;
     Ok(Protocol {
         alloc,
         price: image.price,
@@ -135,16 +137,7 @@ fn begun(alloc: Global, image: &Image) -> Result<Protocol, NoMemory>
         limit: image.limit,
         records: 0,
         brought: image.brought,
-        pools: Pools {
-            active_coll: image.active_coll,
-            active_debt: image.active_debt,
-            default_coll: image.default_coll,
-            default_debt: image.default_debt,
-            reserve: image.reserve,
-            surplus: image.surplus,
-            fee_coll: image.fee_coll,
-            fee_lusd: image.fee_lusd,
-        },
+        pools: pools_of(image),
         wallets,
         troves,
         order,
@@ -152,6 +145,32 @@ fn begun(alloc: Global, image: &Image) -> Result<Protocol, NoMemory>
         surplus,
         clients,
     })
+}
+
+/// The pools of an image.
+fn pools_of(image: &Image) -> Pools
+    ensures { result ≡ pools_of (started image.now) }
+{
+    Pools {
+        active_coll: image.active_coll,
+        active_debt: image.active_debt,
+        default_coll: image.default_coll,
+        default_debt: image.default_debt,
+        reserve: image.reserve,
+        surplus: image.surplus,
+        fee_coll: image.fee_coll,
+        fee_lusd: image.fee_lusd,
+    }
+}
+
+/// The list of these troves.
+fn order_of(alloc: Global, troves: &[(u32, Trove)]) -> Result<Order, NoMemory>
+    requires keys { AllByRecursion (λ (row : ℕ × trove). HasKey row.1) troves.now }
+    requires once { AreDistinct (ranks troves.now) }
+    ensures { IfOk result (λ order. order.entries ≡ order_by troves.now) }
+{
+    let pairs = ranked(alloc, troves)?;
+    Order::from_ranked(alloc, pairs)
 }
 
 /// Each trove's key, beside its account.
@@ -186,6 +205,33 @@ fn pool_of(alloc: Global, image: &Image) -> Result<Stability, NoMemory>
     let finished = entries::finished(alloc, &image.finished)?;
     let deposits = entries::deposits(alloc, &image.deposits)?;
     Stability::from_parts(alloc, words, finished, deposits)
+}
+
+/// The wallets of a sound image.
+fn wallets_of(alloc: Global, image: &Image) -> Result<Wallets, NoMemory>
+    requires { IsSoundImage image.now 0 }
+    ensures { IfOk result (λ wallets. wallets.rows ≡ image.now.wallets) }
+{
+    let rows = entries::wallets(alloc, &image.wallets)?;
+    Wallets::from_rows(alloc, rows)
+}
+
+/// What owners may claim in a sound image.
+fn surplus_of(alloc: Global, image: &Image) -> Result<Surplus, NoMemory>
+    requires { IsSoundImage image.now 0 }
+    ensures { IfOk result (λ surplus. surplus.rows ≡ image.now.surplus_rows) }
+{
+    let rows = entries::surplus(alloc, &image.surplus_rows)?;
+    Surplus::from_rows(alloc, rows)
+}
+
+/// The clients of a sound image.
+fn clients_of(alloc: Global, image: &Image) -> Result<Reserved<Client>, NoMemory>
+    requires { IsSoundImage image.now 0 }
+    ensures { IfOk result (λ clients. clients.rows ≡ image.now.clients) }
+{
+    let rows = entries::clients(alloc, &image.clients)?;
+    Reserved::filled(alloc, &rows)
 }
 
 /// The clients, as rows of an image.
