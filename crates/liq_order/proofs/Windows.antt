@@ -22,6 +22,10 @@ module _ (l : List Row) (strict : IsStrict l) where
   from_last : (i : ℕ) → i < length l → account_at l i + (length l - 1 - i) ≤ account_at l (length l - 1)
   from_last i lt = rising i (length l - 1) (length l - 1 - i) (omega (arith, lt)) (omega (arith, lt))
 
+  -- an account above the last one is above all
+  pub above_last : (k last : ℕ) → last ≡ account_at l (length l - 1) → last < k → (j : ℕ) → j < length l → account_at l j < k
+  above_last k last is less j lt = omega (arith, from_last j lt, is, less)
+
   module _
       (k first last count low high : ℕ) (some : 0 < length l) (first_is : first ≡ account_at l 0) (last_is : last ≡ account_at l (length l - 1)) (behind_first : first ≤ k) (before_last : k ≤ last)
       (count_is : count ≡ length l) (low_is : low ≡ count - (last - k + 1)) (high_is : high ≡ min count (k - first + 1)) where
