@@ -5,6 +5,11 @@ use Rattle.liq_checkpoint.specs.declared.image_bytes.ImageBytes.{ImageBytes}
 use Rattle.liq_checkpoint.specs.declared.image_bytes.ImageBytes.TheVariants.{Bad, NoMemory}
 use Rattle.liq_checkpoint.specs.Reading.{◌>>=◌, Fails, number_at, numbers_at, rows_at}
 
+-- what fails is no further read
+pub fails_then : {X Y : Type 0} (e : ImageBytes) (read : Result X ℕ) (f : X → Result Y ℕ) → Fails e read → Fails e (read >>= f)
+fails_then NoMemory read f h = tt
+fails_then {X = X} (Bad place) read f h = ap (λ (r : Result X ℕ). r >>= f) h
+
 -- what was read before, and what is still read
 abbrev pub with_front : {R : Type 0} → List R → Result (List R × List ℕ) ℕ → Result (List R × List ℕ) ℕ
 with_front front read = read >>= λ x. Ok (front ++ x.0, x.1)

@@ -15,6 +15,7 @@ use Rattle.liq_types.specs.declared.image.Image.{Image}
 use Rattle.liq_types.specs.Image.{opening_image_with}
 use Rattle.liq_types.specs.Tables.{Place}
 use Rattle.liq_layout.specs.Keys.{follows, epoch_follows, place_follows}
+use Rattle.liq_checkpoint.specs.declared.decoding.Words.{Words}
 use Rattle.liq_checkpoint.specs.declared.image_bytes.ImageBytes.{ImageBytes}
 use Rattle.liq_checkpoint.specs.declared.image_bytes.ImageBytes.TheVariants.{Bad, NoMemory}
 use Rattle.liq_checkpoint.specs.Spelling.{name}
@@ -162,7 +163,37 @@ limit_at end at =
     let limit = limit_named (take 8 at) in
     if nat_lt (length at) 8 then Err end else tested (bytes_eq (take 8 at) (name limit)) end at (limit, drop 8 at)
 
--- An image without rows: it differs from the opening one in its words.
+-- An image without rows, of the numbers that are read: it differs from the opening one in its words.
+abbrev pub image_by : ℕ → Words → Image
+image_by limit words =
+    record (opening_image_with limit) {
+      price = get_or words.times 0 0;
+      minute = get_or words.times 1 0;
+      base = get_or words.times 2 0;
+      fee_minute = get_or words.times 3 0;
+      generation = get_or words.times 4 0;
+      brought = get_or words.times 5 0;
+      active_coll = get_or words.pools 0 0;
+      active_debt = get_or words.pools 1 0;
+      default_coll = get_or words.pools 2 0;
+      default_debt = get_or words.pools 3 0;
+      reserve = get_or words.pools 4 0;
+      surplus = get_or words.pools 5 0;
+      fee_coll = get_or words.pools 6 0;
+      fee_lusd = get_or words.pools 7 0;
+      sum_coll = words.sum_coll;
+      sum_debt = words.sum_debt;
+      stakes = get_or words.stakes 0 0;
+      snap_stakes = get_or words.stakes 1 0;
+      snap_coll = get_or words.stakes 2 0;
+      p = words.p;
+      scale = get_or words.place 0 0;
+      epoch = get_or words.place 1 0;
+      sum = words.sum;
+      total = get_or words.deposited 0 0;
+      pool_coll = get_or words.deposited 1 0;
+    }
+
 unfoldable pub words_at : ℕ → ℕ → List ℕ → Result (Image × List ℕ) ℕ
 words_at end limit at = do
   times ← numbers_at end 6 at
@@ -175,33 +206,17 @@ words_at end limit at = do
   sum ← number_at end 16 place.1
   deposited ← numbers_at end 2 sum.1
   Ok (
-    record (opening_image_with limit) {
-      price = get_or times.0 0 0;
-      minute = get_or times.0 1 0;
-      base = get_or times.0 2 0;
-      fee_minute = get_or times.0 3 0;
-      generation = get_or times.0 4 0;
-      brought = get_or times.0 5 0;
-      active_coll = get_or pools.0 0 0;
-      active_debt = get_or pools.0 1 0;
-      default_coll = get_or pools.0 2 0;
-      default_debt = get_or pools.0 3 0;
-      reserve = get_or pools.0 4 0;
-      surplus = get_or pools.0 5 0;
-      fee_coll = get_or pools.0 6 0;
-      fee_lusd = get_or pools.0 7 0;
+    image_by limit (record {
+      times = times.0;
+      pools = pools.0;
       sum_coll = sum_coll.0;
       sum_debt = sum_debt.0;
-      stakes = get_or stakes.0 0 0;
-      snap_stakes = get_or stakes.0 1 0;
-      snap_coll = get_or stakes.0 2 0;
+      stakes = stakes.0;
       p = p.0;
-      scale = get_or place.0 0 0;
-      epoch = get_or place.0 1 0;
+      place = place.0;
       sum = sum.0;
-      total = get_or deposited.0 0 0;
-      pool_coll = get_or deposited.0 1 0;
-    },
+      deposited = deposited.0;
+    }),
     deposited.1,
   )
 

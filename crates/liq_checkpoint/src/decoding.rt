@@ -3,7 +3,7 @@
 ghost use Rattle.std.specs.Prelude.{◌≡◌, ◌≤◌, ◌<◌, ◌^◌, ℕ, Ok, Err, IfOk, length};
 ghost use Rattle.liq_types.specs.declared.image.Image.{Image};
 ghost use Rattle.liq_checkpoint.specs.declared.image_bytes.ImageBytes.TheVariants.{Bad};
-ghost use Rattle.liq_checkpoint.specs.Reading.{Gives, words_at, tables_at, image_at};
+ghost use Rattle.liq_checkpoint.specs.Reading.{Gives, image_by, words_at, tables_at, image_at};
 ghost use Rattle.liq_checkpoint.specs.Spelling.{HasCheckpoint, spelling};
 
 use crate::image_bytes::ImageBytes;
@@ -61,6 +61,21 @@ fn read_tables(alloc: Global, end: u64, image: &mut Image, at: &[u8]) -> Result<
     Ok(())
 }
 
+// The numbers of an image, in the order of its bytes: price, minutes and journal, the pools, what is redistributed, the
+// stakes, and those of the Stability Pool.
+#[derive(Drop)]
+struct Words {
+    times: [u64; 6],
+    pools: [u64; 8],
+    sum_coll: u128,
+    sum_debt: u128,
+    stakes: [u64; 3],
+    p: u128,
+    place: [u64; 2],
+    sum: u128,
+    deposited: [u64; 2],
+}
+
 // An image without rows.
 #[tactic(auto, unfolding(crate::specs::Reading::words_at))]
 fn words_at(alloc: Global, end: u64, limit: u64, at: &[u8]) -> Result<(Image, &[u8]), ImageBytes>
@@ -75,13 +90,31 @@ fn words_at(alloc: Global, end: u64, limit: u64, at: &[u8]) -> Result<(Image, &[
     let (place, at) = numbers_at::<2>(end, at)?;
     let (sum, at) = u128_at(end, at)?;
     let (deposited, at) = numbers_at::<2>(end, at)?;
-    let [price, minute, base, fee_minute, generation, brought] = times;
-    let [active_coll, active_debt, default_coll, default_debt, ..] = pools;
-    let [.., reserve, surplus, fee_coll, fee_lusd] = pools;
-    let [stakes, snap_stakes, snap_coll] = stakes;
-    let [scale, epoch] = place;
-    let [total, pool_coll] = deposited;
-    let image = Image {
+    let words = Words {
+        times,
+        pools,
+        sum_coll,
+        sum_debt,
+        stakes,
+        p,
+        place,
+        sum,
+        deposited,
+    };
+    Ok((image_of(alloc, limit, &words), at))
+}
+
+// The image of these numbers, without rows.
+fn image_of(alloc: Global, limit: u64, words: &Words) -> Image
+    ensures { result ≡ image_by limit words.now }
+{
+    let [price, minute, base, fee_minute, generation, brought] = words.times;
+    let [active_coll, active_debt, default_coll, default_debt, ..] = words.pools;
+    let [.., reserve, surplus, fee_coll, fee_lusd] = words.pools;
+    let [stakes, snap_stakes, snap_coll] = words.stakes;
+    let [scale, epoch] = words.place;
+    let [total, pool_coll] = words.deposited;
+    Image {
         price,
         minute,
         base,
@@ -97,15 +130,15 @@ fn words_at(alloc: Global, end: u64, limit: u64, at: &[u8]) -> Result<(Image, &[
         surplus,
         fee_coll,
         fee_lusd,
-        sum_coll,
-        sum_debt,
+        sum_coll: words.sum_coll,
+        sum_debt: words.sum_debt,
         stakes,
         snap_stakes,
         snap_coll,
-        p,
+        p: words.p,
         scale,
         epoch,
-        sum,
+        sum: words.sum,
         total,
         pool_coll,
         wallets: WalletRows::new(alloc),
@@ -114,6 +147,5 @@ fn words_at(alloc: Global, end: u64, limit: u64, at: &[u8]) -> Result<(Image, &[
         finished: FinishedRows::new(alloc),
         deposits: DepositRows::new(alloc),
         clients: ClientRows::new(alloc),
-    };
-    Ok((image, at))
+    }
 }
