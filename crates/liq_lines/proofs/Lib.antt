@@ -2,6 +2,7 @@ pub mod Bytes
 pub mod Few
 pub mod LinesRead
 pub mod Parts
+pub mod ReadOn
 pub mod Readings
 pub mod Sayings
 pub mod Taken
