@@ -33,3 +33,21 @@ returns-in_err-request_on-in-Ok-Unended-clause-request g c =
     bad_request (unread c.args.reader.now (g.S.Source.left c.args.input.now)) (unread c.next_line.new.self (g.S.Source.left c.next_line.new.input)) c.next_line.new.self (c.args.before + 1) c.from_residual-in_err-request_on-in-Ok-Unended.result c.in_err-request_on-in-Ok-Unended.field-0.0
     (handed_on c.from_residual-in_err-request_on-in-Ok-Unended.result c.in_err-request_on-in-Ok-Unended.field-0.0 c.from_residual-in_err-request_on-in-Ok-Unended.ensures.1) bad.0
     (without_end c.next_line.new.line.items (subst (IsBadLine IsRequest) c.deref-in-Ok-Unended.ensures.value bad.1) line.1 line.2 line.0 line.3)
+
+pub returns-in-Err-clause-request : goal.returns-in-Err-clause-request
+returns-in-Err-clause-request g c =
+    let failed = c.in-Err.ensures.line in
+    (c.next_line.new.line.items, failed.1, failed.0, failed.2, failed.3)
+
+pub returns-in-Ok-Nothing-clause-request : goal.returns-in-Ok-Nothing-clause-request
+returns-in-Ok-Nothing-clause-request g c = rw c.in-Ok-Nothing.field-0-is at c.in-Ok-Nothing.ensures.line
+
+pub returns-in_ok-request_on-in-Ok-Ended-clause-request : goal.returns-in_ok-request_on-in-Ok-Ended-clause-request
+returns-in_ok-request_on-in-Ok-Ended-clause-request g c =
+    let line = rw c.in-Ok-Ended.field-0-is at c.in-Ok-Ended.ensures.line in
+    (c.next_line.new.line.items, subst (λ (l : List ℕ). IsRequest l c.in_ok-request_on-in-Ok-Ended.field-0) c.deref.ensures.value c.in_ok-request_on-in-Ok-Ended.ensures, line.1, line.0)
+
+pub returns-in_ok-request_on-in-Ok-Unended-clause-request : goal.returns-in_ok-request_on-in-Ok-Unended-clause-request
+returns-in_ok-request_on-in-Ok-Unended-clause-request g c =
+    let line = rw c.in-Ok-Unended.field-0-is at c.in-Ok-Unended.ensures.line in
+    (c.next_line.new.line.items, subst (λ (l : List ℕ). IsRequest l c.in_ok-request_on-in-Ok-Unended.field-0) c.deref-in-Ok-Unended.ensures.value c.in_ok-request_on-in-Ok-Unended.ensures, line.1, line.2, line.0, line.3)

@@ -7,7 +7,7 @@ use Rattle.liq_ends.specs.Causes.{WriteCause}
 use Rattle.liq_ends.proofs.Causes.{write_same}
 use Rattle.liq_run.specs.Passing.{IsPastOf, IsStoppedPastOf, Passes}
 use Rattle.liq_run.proofs.Passing.{passes_as}
-use Rattle.liq_run.proofs.Residual.{handed_on, same_halt}
+use Rattle.liq_run.proofs.Residual.{cut_at, handed_on, same_halt}
 use Rattle.liq_run.proofs.run.Run.answer.Goals as goal
 
 pub returns-in_err-reply-in-Do-clause-other : goal.returns-in_err-reply-in-Do-clause-other
@@ -48,3 +48,8 @@ pub returns-in-Ask-clause-past : goal.returns-in-Ask-clause-past
 returns-in-Ask-clause-past g c ol or l r start requests past =
     subst (λ (q : Request). Passes g.D.Disk.seen g.D.Disk.moment g.D.Disk.left_at ol or l r start requests q c.answer_query.result c.answer_query.new.self.store) (sym c.in-Ask.is)
     (c.answer_query.ensures.past ol or l r start requests past)
+
+pub returns-in_err-flush-in-Do-clause-past : goal.returns-in_err-flush-in-Do-clause-past
+returns-in_err-flush-in-Do-clause-past g c ol or l r start requests past =
+    subst (λ (end : Result (Unit {0}) Halt). Passes g.D.Disk.seen g.D.Disk.moment g.D.Disk.left_at ol or l r start requests c.args.request.now end c.args.self.now.store)
+    (sym (cut_at c.from_residual.result c.in_err-flush-in-Do.field-0.0 _ _ _ _ c.from_residual.ensures.1 c.in_err-flush-in-Do.ensures.written)) past
