@@ -1,12 +1,13 @@
 -- A store that begins tells its list: what was known of it still holds.
 use Rattle.std.proofs.Common.{◌≡◌, ◌≢◌, ◌∙◌, ℕ, List, Option, None, Result, Ok, Err, IfOk, IfErr, sym, ap, ap₂, subst}
 use Rattle.liq_types.specs.declared.events.ListChange.{ListChange}
+use Rattle.liq_core.specs.Core.{Core}
 use Rattle.liq_store.specs.declared.answers.StoreFault.{StoreFault}
 use Rattle.liq_store.specs.declared.answers.StoreWhy.TheVariants as why
 use Rattle.liq_store.specs.Beginning.{IsUnbegun, IsUnbegunBy}
 use Rattle.liq_store.specs.Causes.{counts_of}
 use Rattle.liq_store.specs.Keeping.{IsAtRest, IsGoing, IsInOrder}
-use Rattle.liq_store.specs.Opening.{OpensOn}
+use Rattle.liq_store.specs.Opening.{OpensOn, left_after, right_after}
 use Rattle.liq_store.specs.Stored.{Stored}
 use Rattle.liq_store.proofs.Going.{going_of}
 
@@ -19,6 +20,22 @@ module _ {D : Type 0} (store : Stored D) (result : Result (Stored D) (StoreFault
       by : (r : Result (Stored D) (StoreFault D)) → IfOk r (λ listed. listed ≡ record store { changes = listed.changes }) → IfOk r P
       by (Ok listed) so = subst P (sym so) (is listed.changes)
       by (Err e) so = tt
+
+  -- what is said of its changes by the store's protocol is so by its own
+  pub by_core : (P : Core → List ListChange → Type 0) → IfOk result (λ listed. P store.core listed.changes) → IfOk result (λ listed. P listed.core listed.changes)
+  by_core P is = by result same is
+    where
+      by : (r : Result (Stored D) (StoreFault D)) → IfOk r (λ listed. listed ≡ record store { changes = listed.changes }) → IfOk r (λ listed. P store.core listed.changes) → IfOk r (λ listed. P listed.core listed.changes)
+      by (Ok listed) so said = subst (λ (k : Core). P k listed.changes) (sym (ap (λ (o : Stored D). o.core) so)) said
+      by (Err e) so said = tt
+
+  pub same_disks : (left_after result ≡ store.left) × (right_after result ≡ store.right)
+  same_disks = by result same refused
+    where
+      by : (r : Result (Stored D) (StoreFault D)) → IfOk r (λ listed. listed ≡ record store { changes = listed.changes })
+          → IfErr r (λ e. (e.left ≡ store.left) × (e.right ≡ store.right) × (e.why ≡ why.NoMemory)) → (left_after r ≡ store.left) × (right_after r ≡ store.right)
+      by (Ok listed) so refuses = (ap (λ (o : Stored D). o.left) so, ap (λ (o : Stored D). o.right) so)
+      by (Err e) so refuses = (refuses.0, refuses.1)
 
   module _ (seen : D → Option (List ℕ)) (faults : D → ℕ) (left right : D) (opened : OpensOn seen faults left right store) where
     pub listed_opened : IfOk result (OpensOn seen faults left right)

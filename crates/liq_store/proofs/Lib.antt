@@ -2,6 +2,7 @@ pub mod Appending
 pub mod Basing
 pub mod Beginning
 pub mod Calling
+pub mod Counts
 pub mod Following
 pub mod Generations
 pub mod Going
@@ -12,6 +13,7 @@ pub mod OneDisk
 pub mod Opening
 pub mod Past
 pub mod Recovered
+pub mod Rulings
 pub mod Steps
 pub mod Turning
 pub mod Verbs

@@ -27,3 +27,8 @@ loop-done-preserved g c = record {
       let here = c.in-Ok.ensures.command held w (c.loop-done.invariant.looked.same ∙ told) (journal_still _ _ _ _ held w (ap (λ j. j.generation) c.loop-done.invariant.same) (ap (λ j. j.start) c.loop-done.invariant.same) journal) (omega arith) in
       c.in-Ok-push.ensures.items ∙ one_more w.commands c.loop-done.commands.items c.loop-done.done c.in-Ok.command within here (c.loop-done.invariant.read held w told journal enough);
 }
+
+pub returns-in-Err-clause-readable : goal.returns-in-Err-clause-readable
+returns-in-Err-clause-readable g c held told has =
+    let here = journal_still _ _ _ _ held has.written (ap (λ j. j.generation) c.loop-done.invariant.same) (ap (λ j. j.start) c.loop-done.invariant.same) has.journal in
+    c.in-Err.ensures.readable held has.written (c.loop-done.invariant.looked.same ∙ told) here (omega (arith, has.within, c.records-done-end.ensures))

@@ -1,8 +1,8 @@
-use Rattle.std.proofs.Common.{◌∙◌, List, ℕ, Option, IfSome, sym, ap, subst}
+use Rattle.std.proofs.Common.{◌≡◌, ◌∙◌, List, ℕ, Option, IfSome, sym, ap, subst}
 use Rattle.liq_outside.proofs.Moments.{at_last, chained, weaker}
 use Rattle.liq_outside.specs.Disk.{LeftNow}
 use Rattle.liq_journal.specs.declared.answers.OpenWhy.{OpenWhy}
-use Rattle.liq_journal.specs.Opened.{IsUnshut, IsWhyOf, OpenLeaves}
+use Rattle.liq_journal.specs.Opened.{IsKept, IsUnshut, IsWhyOf, OpenLeaves}
 use Rattle.liq_journal.specs.Written.{found_on}
 use Rattle.liq_pairs.proofs.Beginning.{still_absent}
 use Rattle.liq_pairs.proofs.Standings.{standing_damaged}
@@ -45,3 +45,13 @@ pub returns-in-Damaged-clause-found : goal.returns-in-Damaged-clause-found
 returns-in-Damaged-clause-found g c held told =
     let why = subst (λ (o : Option (List ℕ)). IfSome o (λ l. IsWhyOf c.args.odd l c.in-Err.field-0.why)) told c.in-Err.ensures.why in
     standing_damaged c.args.odd held c.in-Damaged.damage (subst (λ (y : OpenWhy). IsWhyOf c.args.odd held y) c.in-Damaged.is why)
+
+pub returns-in-Damaged-clause-same : goal.returns-in-Damaged-clause-same
+returns-in-Damaged-clause-same g c faultless held after told told_after =
+    let kept = subst (λ (y : OpenWhy). IsKept y → g.D.Disk.seen c.in-Err.field-0.disk ≡ g.D.Disk.seen c.args.disk) c.in-Damaged.is c.in-Err.ensures.kept tt in
+    ap (found_on c.args.odd) (some_same after held (g.D.Disk.seen c.in-Err.field-0.disk) told_after (kept ∙ told))
+
+pub returns-in-NoMemory-clause-same : goal.returns-in-NoMemory-clause-same
+returns-in-NoMemory-clause-same g c faultless held after told told_after =
+    let kept = subst (λ (y : OpenWhy). IsKept y → g.D.Disk.seen c.in-Err.field-0.disk ≡ g.D.Disk.seen c.args.disk) c.in-NoMemory.is c.in-Err.ensures.kept tt in
+    ap (found_on c.args.odd) (some_same after held (g.D.Disk.seen c.in-Err.field-0.disk) told_after (kept ∙ told))

@@ -1,5 +1,11 @@
-use Rattle.std.proofs.Common.{Some}
+use Rattle.std.proofs.Common.{Some, subst}
+use Rattle.liq_pairs.specs.Sides.{on}
+use Rattle.liq_records.specs.Reading.{CountsFault}
+use Rattle.liq_records.specs.declared.answers.AcceptedFault.{AcceptedFault}
+use Rattle.liq_store.specs.Causes.{OneRose, counts_of}
+use Rattle.liq_store.specs.Stored.{Stored}
 use Rattle.liq_store.proofs.Appending.{some_isnt_none}
+use Rattle.liq_store.proofs.Counts.{taken_rose}
 use Rattle.liq_store.proofs.Looking.{all_read, halted_looked, order_looked, within_looked}
 use Rattle.liq_store.proofs.store.Store.accepted.Goals as goal
 
@@ -29,3 +35,10 @@ returns-in-Err-NoMemory-clause-order g c = order_looked g.D.Disk.seen g.D.Disk.m
 
 pub returns-in-Ok-clause-all : goal.returns-in-Ok-clause-all
 returns-in-Ok-clause-all g c none held w told found = all_read g.D.Disk.seen g.D.Disk.moment g.D.Disk.left_at c.self.inside.side c.self.inside.taken c.self.inside.beside c.self.inside.protocol c.self.inside.stopped c.self.invariant c.args.self.now c.self.view_is c.in-Ok.commands.items c.in-Ok.ensures.commands none held w told found
+
+pub returns-in-Err-DiskFault-clause-cause : goal.returns-in-Err-DiskFault-clause-cause
+returns-in-Err-DiskFault-clause-cause g c =
+    let side = c.self.inside.side in
+    let counted = subst (λ (y : AcceptedFault). CountsFault y (g.D.Disk.faults c.self.inside.taken.disk) (g.D.Disk.faults c.read_commands.new.journal.disk)) c.in-Err-DiskFault.field-0-is c.in-Err-DiskFault.ensures.cause in
+    subst (λ (o : Stored g.row.D.Denot). OneRose (counts_of g.D.Disk.faults o.left o.right) (counts_of g.D.Disk.faults (on side c.read_commands.new.journal.disk c.self.inside.beside) (on side c.self.inside.beside c.read_commands.new.journal.disk))) c.self.view_is
+    (taken_rose g.D.Disk.faults side c.self.inside.taken.disk c.read_commands.new.journal.disk c.self.inside.beside counted.later counted.rose)

@@ -1,27 +1,31 @@
-use Rattle.std.proofs.Common.{◌∙◌, ◌++◌, ℕ, Option, Some, refl, sym, ap, subst, arith}
+use Rattle.std.proofs.Common.{◌∙◌, ◌++◌, inl, ℕ, Option, Some, refl, sym, ap, ap₂, subst, arith}
 use Rattle.liq_types.specs.declared.image.Image.{Image}
 use Rattle.liq_types.specs.declared.replies.Answer.TheVariants as answer
 use Rattle.liq_types.specs.declared.replies.Reply.TheVariants.{No, Said}
 use Rattle.liq_types.specs.State.{State}
 use Rattle.liq_core.specs.Core.{StandsFor, state_of}
 use Rattle.liq_core.proofs.SameContents.{stands_after}
-use Rattle.liq_rules.specs.Step.{after}
+use Rattle.liq_rules.specs.Rules.{call_changes}
+use Rattle.liq_rules.specs.Step.{Allowed, Refused, Repeated, after}
 use Rattle.liq_guided.proofs.Steps.{counts_on, generation_stays}
 use Rattle.liq_journal.specs.Settled.{JournalOn}
 use Rattle.liq_journal.specs.Written.{is_odd}
 use Rattle.liq_journal.proofs.Testing.{not_rotate}
 use Rattle.liq_pairs.specs.declared.side.Side.{Side}
-use Rattle.liq_pairs.specs.Sides.{other}
+use Rattle.liq_pairs.specs.Sides.{on, other}
 use Rattle.liq_pairs.proofs.Generations.{never_rotates}
 use Rattle.liq_store.specs.Calling.{WritesOn}
+use Rattle.liq_store.specs.Causes.{OneRose, counts_of}
 use Rattle.liq_store.specs.Keeping.{IsInOrder}
-use Rattle.liq_store.specs.Memory.{IsAccepted}
+use Rattle.liq_store.specs.Memory.{IsAccepted, TakesMemory}
 use Rattle.liq_store.specs.Rotating.{is_rotation}
 use Rattle.liq_store.specs.Stored.{Stored}
 use Rattle.liq_store.specs.Within.{IsWithin, stored}
 use Rattle.liq_store.proofs.Appending.{all_has, appends, appends_on, has_same, kept_near, some_isnt_none, still_has, went_on}
 use Rattle.liq_store.proofs.Calling.{refused_stays, repeated_stays, reply_stays, stays_on}
+use Rattle.liq_store.proofs.Counts.{beside_rose, stopped_on, taken_rose, taken_still, turned_still}
 use Rattle.liq_store.proofs.Going.{order_going, order_halted, order_same, within_same}
+use Rattle.liq_store.proofs.Rulings.{none_told, ruled, told_by_ruling}
 use Rattle.liq_store.proofs.Steps.{prepared_allowed, prepared_steps, prepared_told, replied, unhinted_rotation}
 use Rattle.liq_store.proofs.Turning.{rotation_from, turning_done, turning_failed, turning_halts, turning_within, turns_by}
 use Rattle.liq_store.proofs.store.Store.carry_out.Goals as goal
@@ -216,3 +220,133 @@ pub returns-clause-disks : goal.returns-clause-disks
 returns-clause-disks g c =
     let a = appends g.D.Disk.seen g.D.Disk.moment g.D.Disk.left_at c.self.inside.side c.self.inside.taken c.write_record.new.taken c.self.inside.beside c.self.inside.protocol c.self.inside.stopped c.in-Do.command c.in-Ready.planned (ap (λ (o : Stored g.row.D.Denot). o.stopped) c.self.view_is ∙ c.requires.going) c.self.invariant c.in-Ready.ensures.prepared c.write_record.ensures.telling c.write_record.ensures.crash in
     appends_on g.D.Disk.seen g.D.Disk.moment g.D.Disk.left_at c.self.inside.side c.self.inside.taken c.write_record.new.taken c.self.inside.beside c.self.inside.protocol c.in-Do.command a c.args.self.now c.self.inside.stopped c.self.view_is c.args.request.now c.in-Do.is (not_rotate c.in-Do.command.call c.in_default.not-Rotate) c.write_record.ensures.start c.write_record.ensures.time (answer.Reply (Said c.make-done-2.result)) (λ none. absurd (cc (none))) c.make-done-2.new.protocol c.self.inside.stopped c.note.new.changes.items
+
+pub returns-in-Again-clause-step : goal.returns-in-Again-clause-step
+returns-in-Again-clause-step g c s stands =
+    let here : StandsFor c.self.inside.protocol s = subst (λ (o : Stored g.row.D.Denot). StandsFor o.core s) (sym c.self.view_is) stands in
+    ruled c.prepare.new.protocol s c.in-Do.command c.args.request.now (Repeated c.in-Again.done) (Said c.in-Again.done) c.in-Do.is (c.in-Again.ensures.prepared s here) (stands_after c.self.inside.protocol c.prepare.new.protocol s c.prepare.ensures.same here) refl
+
+pub returns-in-No-clause-step : goal.returns-in-No-clause-step
+returns-in-No-clause-step g c s stands =
+    let here : StandsFor c.self.inside.protocol s = subst (λ (o : Stored g.row.D.Denot). StandsFor o.core s) (sym c.self.view_is) stands in
+    ruled c.prepare.new.protocol s c.in-Do.command c.args.request.now (Refused c.in-No.refusal) (No c.in-No.refusal) c.in-Do.is (c.in-No.ensures.prepared s here) (stands_after c.self.inside.protocol c.prepare.new.protocol s c.prepare.ensures.same here) refl
+
+pub returns-in-NoMemory-clause-step : goal.returns-in-NoMemory-clause-step
+returns-in-NoMemory-clause-step g c s stands =
+    let here : StandsFor c.self.inside.protocol s = subst (λ (o : Stored g.row.D.Denot). StandsFor o.core s) (sym c.self.view_is) stands in (
+      stands_after c.self.inside.protocol c.prepare.new.protocol s c.prepare.ensures.same here,
+      subst (TakesMemory s) (sym c.in-Do.is) (c.in-NoMemory.ensures.prepared s here),
+    )
+
+pub returns-in_default-checkpoint_after-clause-step : goal.returns-in_default-checkpoint_after-clause-step
+returns-in_default-checkpoint_after-clause-step g c s stands =
+    let here : StandsFor c.self.inside.protocol s = subst (λ (o : Stored g.row.D.Denot). StandsFor o.core s) (sym c.self.view_is) stands in (
+      stands_after c.self.inside.protocol c.prepare.new.protocol s c.prepare.ensures.same here,
+      subst (TakesMemory s) (sym c.in-Do.is) (inl (prepared_allowed s c.in-Do.command c.in-Ready.planned (c.in-Ready.ensures.prepared s here))),
+    )
+
+pub returns-in-Err-clause-step : goal.returns-in-Err-clause-step
+returns-in-Err-clause-step g c s stands =
+    let here : StandsFor c.self.inside.protocol s = subst (λ (o : Stored g.row.D.Denot). StandsFor o.core s) (sym c.self.view_is) stands in (
+      stands_after c.self.inside.protocol c.prepare.new.protocol s c.prepare.ensures.same here,
+      subst (IsAccepted s) (sym c.in-Do.is) (prepared_allowed s c.in-Do.command c.in-Ready.planned (c.in-Ready.ensures.prepared s here)),
+    )
+
+pub returns-in-Again-clause-told : goal.returns-in-Again-clause-told
+returns-in-Again-clause-told g c s stands =
+    let here : StandsFor c.self.inside.protocol s = subst (λ (o : Stored g.row.D.Denot). StandsFor o.core s) (sym c.self.view_is) stands in
+    none_told s c.args.request.now (answer.Reply (Said c.in-Again.done)) c.args.self.now.changes c.prepare.new.changes.items (c.prepare.ensures.changes ∙ ap (λ (o : Stored g.row.D.Denot). o.changes) c.self.view_is) (told_by_ruling s c.in-Do.command c.args.request.now (Repeated c.in-Again.done) c.in-Do.is (c.in-Again.ensures.prepared s here))
+
+pub returns-in-No-clause-told : goal.returns-in-No-clause-told
+returns-in-No-clause-told g c s stands =
+    let here : StandsFor c.self.inside.protocol s = subst (λ (o : Stored g.row.D.Denot). StandsFor o.core s) (sym c.self.view_is) stands in
+    none_told s c.args.request.now (answer.Reply (No c.in-No.refusal)) c.args.self.now.changes c.prepare.new.changes.items (c.prepare.ensures.changes ∙ ap (λ (o : Stored g.row.D.Denot). o.changes) c.self.view_is) (told_by_ruling s c.in-Do.command c.args.request.now (Refused c.in-No.refusal) c.in-Do.is (c.in-No.ensures.prepared s here))
+
+pub returns-in-NoMemory-clause-told : goal.returns-in-NoMemory-clause-told
+returns-in-NoMemory-clause-told g c s stands =
+    none_told s c.args.request.now answer.NoMemory c.args.self.now.changes c.prepare.new.changes.items (c.prepare.ensures.changes ∙ ap (λ (o : Stored g.row.D.Denot). o.changes) c.self.view_is) refl
+
+pub returns-in_default-checkpoint_after-clause-told : goal.returns-in_default-checkpoint_after-clause-told
+returns-in_default-checkpoint_after-clause-told g c s stands =
+    none_told s c.args.request.now answer.NoMemory c.args.self.now.changes c.prepare.new.changes.items (c.prepare.ensures.changes ∙ ap (λ (o : Stored g.row.D.Denot). o.changes) c.self.view_is) refl
+
+pub returns-in-Err-clause-told : goal.returns-in-Err-clause-told
+returns-in-Err-clause-told g c s stands =
+    none_told s c.args.request.now answer.DiskFault c.args.self.now.changes c.prepare.new.changes.items (c.prepare.ensures.changes ∙ ap (λ (o : Stored g.row.D.Denot). o.changes) c.self.view_is) refl
+
+pub returns-in-Err-write_record-clause-told : goal.returns-in-Err-write_record-clause-told
+returns-in-Err-write_record-clause-told g c s stands =
+    none_told s c.args.request.now answer.DiskFault c.args.self.now.changes c.prepare.new.changes.items (c.prepare.ensures.changes ∙ ap (λ (o : Stored g.row.D.Denot). o.changes) c.self.view_is) refl
+
+pub returns-in-Rotate-clause-told : goal.returns-in-Rotate-clause-told
+returns-in-Rotate-clause-told g c s stands =
+    let here : StandsFor c.self.inside.protocol s = subst (λ (o : Stored g.row.D.Denot). StandsFor o.core s) (sym c.self.view_is) stands in
+    let none = told_by_ruling s c.in-Do.command c.args.request.now Allowed c.in-Do.is (prepared_allowed s c.in-Do.command c.in-Ready.planned (c.in-Ready.ensures.prepared s here)) ∙ ap (call_changes s) c.in-Rotate.is in
+    none_told s c.args.request.now (answer.Reply (Said c.make-done.result)) c.args.self.now.changes c.prepare.new.changes.items (c.prepare.ensures.changes ∙ ap (λ (o : Stored g.row.D.Denot). o.changes) c.self.view_is) none
+
+pub returns-in-Again-clause-stops : goal.returns-in-Again-clause-stops
+returns-in-Again-clause-stops g c = ap (λ (o : Stored g.row.D.Denot). o.stopped) c.self.view_is
+
+pub returns-in-No-clause-stops : goal.returns-in-No-clause-stops
+returns-in-No-clause-stops g c = ap (λ (o : Stored g.row.D.Denot). o.stopped) c.self.view_is
+
+pub returns-in-NoMemory-clause-stops : goal.returns-in-NoMemory-clause-stops
+returns-in-NoMemory-clause-stops g c = ap (λ (o : Stored g.row.D.Denot). o.stopped) c.self.view_is
+
+pub returns-in_default-checkpoint_after-clause-stops : goal.returns-in_default-checkpoint_after-clause-stops
+returns-in_default-checkpoint_after-clause-stops g c = ap (λ (o : Stored g.row.D.Denot). o.stopped) c.self.view_is
+
+pub returns-in-Rotate-clause-stops : goal.returns-in-Rotate-clause-stops
+returns-in-Rotate-clause-stops g c = ap (λ (o : Stored g.row.D.Denot). o.stopped) c.self.view_is
+
+pub returns-clause-stops : goal.returns-clause-stops
+returns-clause-stops g c = ap (λ (o : Stored g.row.D.Denot). o.stopped) c.self.view_is
+
+pub returns-in-Err-clause-stops : goal.returns-in-Err-clause-stops
+returns-in-Err-clause-stops g c =
+    stopped_on g.D.Disk.faults c.self.inside.side c.turn.new.taken.disk c.turn.new.beside c.args.self.now.stopped c.sum_of_faults.result c.requires.going c.sum_of_faults.ensures
+
+pub returns-in-Err-write_record-clause-stops : goal.returns-in-Err-write_record-clause-stops
+returns-in-Err-write_record-clause-stops g c =
+    stopped_on g.D.Disk.faults c.self.inside.side c.write_record.new.taken.disk c.self.inside.beside c.args.self.now.stopped c.sum_of_faults-in-Err-write_record.result c.requires.going c.sum_of_faults-in-Err-write_record.ensures
+
+pub returns-in-Again-clause-cause : goal.returns-in-Again-clause-cause
+returns-in-Again-clause-cause g c =
+    ap (λ (o : Stored g.row.D.Denot). counts_of g.D.Disk.faults o.left o.right) c.self.view_is
+
+pub returns-in-No-clause-cause : goal.returns-in-No-clause-cause
+returns-in-No-clause-cause g c =
+    ap (λ (o : Stored g.row.D.Denot). counts_of g.D.Disk.faults o.left o.right) c.self.view_is
+
+pub returns-in-NoMemory-clause-cause : goal.returns-in-NoMemory-clause-cause
+returns-in-NoMemory-clause-cause g c =
+    ap (λ (o : Stored g.row.D.Denot). counts_of g.D.Disk.faults o.left o.right) c.self.view_is
+
+pub returns-in_default-checkpoint_after-clause-cause : goal.returns-in_default-checkpoint_after-clause-cause
+returns-in_default-checkpoint_after-clause-cause g c =
+    ap (λ (o : Stored g.row.D.Denot). counts_of g.D.Disk.faults o.left o.right) c.self.view_is
+
+pub returns-clause-cause : goal.returns-clause-cause
+returns-clause-cause g c =
+    taken_still g.D.Disk.faults c.self.inside.side c.self.inside.taken.disk c.write_record.new.taken.disk c.self.inside.beside c.in-Ok-write_record.ensures.cause.ok
+    ∙ ap (λ (o : Stored g.row.D.Denot). counts_of g.D.Disk.faults o.left o.right) c.self.view_is
+
+pub returns-in-Rotate-clause-cause : goal.returns-in-Rotate-clause-cause
+returns-in-Rotate-clause-cause g c =
+    ap₂ (λ (x : Side) (d : g.row.D.Denot). counts_of g.D.Disk.faults (on x c.turn.new.taken.disk d) (on x d c.turn.new.taken.disk)) c.in-Ok-turn.ensures.side c.in-Ok-turn.ensures.exchanged
+    ∙ turned_still g.D.Disk.faults c.self.inside.side c.self.inside.taken.disk c.self.inside.beside c.turn.new.taken.disk c.in-Ok-turn.ensures.cause
+    ∙ ap (λ (o : Stored g.row.D.Denot). counts_of g.D.Disk.faults o.left o.right) c.self.view_is
+
+pub returns-in-Err-clause-cause : goal.returns-in-Err-clause-cause
+returns-in-Err-clause-cause g c =
+    let side = c.self.inside.side in
+    let before = counts_of g.D.Disk.faults c.args.self.now.left c.args.self.now.right in
+    subst (λ (j : JournalOn g.row.D.Denot). OneRose before (counts_of g.D.Disk.faults (on side j.disk c.turn.new.beside) (on side c.turn.new.beside j.disk))) (sym c.in-Err.ensures.kept)
+    (subst (λ (o : Stored g.row.D.Denot). OneRose (counts_of g.D.Disk.faults o.left o.right) (counts_of g.D.Disk.faults (on side c.self.inside.taken.disk c.turn.new.beside) (on side c.turn.new.beside c.self.inside.taken.disk))) c.self.view_is
+    (beside_rose g.D.Disk.faults side c.self.inside.taken.disk c.self.inside.beside c.turn.new.beside c.in-Err.ensures.cause.later c.in-Err.ensures.cause.rose))
+
+pub returns-in-Err-write_record-clause-cause : goal.returns-in-Err-write_record-clause-cause
+returns-in-Err-write_record-clause-cause g c =
+    let side = c.self.inside.side in
+    subst (λ (o : Stored g.row.D.Denot). OneRose (counts_of g.D.Disk.faults o.left o.right) (counts_of g.D.Disk.faults (on side c.write_record.new.taken.disk c.self.inside.beside) (on side c.self.inside.beside c.write_record.new.taken.disk))) c.self.view_is
+    (taken_rose g.D.Disk.faults side c.self.inside.taken.disk c.write_record.new.taken.disk c.self.inside.beside c.in-Err-write_record.ensures.cause.later c.in-Err-write_record.ensures.cause.failed)
