@@ -99,3 +99,11 @@ all_read {D} {changes} seen moment left_at side taken b core stopped within old 
           start_is = ap start_of (sym one) ∙ is.start_is;
         } in
         read held w told_here journal (omega arith) ∙ take_all taken.count w.commands (omega arith)
+
+-- what callers see of both disks: the one that is taken was only looked at, and the other one stays
+pub looked_from : {D : Type 0} (seen : D → Option (List ℕ)) (moment : D → ℕ) (left_at : D → ℕ → List ℕ → Type 0) (side : Side) (taken b new : D) (old : Stored D) → on side taken b ≡ old.left → on side b taken ≡ old.right → side ≡ old.side
+    → Looked seen moment left_at taken new → Looked seen moment left_at (taken_disk old) (on side (on side new b) (on side b new))
+looked_from {D} seen moment left_at side taken b new old left right same looked =
+    let was : taken ≡ taken_disk old = sym (taken_is side taken b) ∙ (λ i. on (same i) (left i) (right i)) in
+    subst (λ (d : D). Looked seen moment left_at d (on side (on side new b) (on side b new))) was
+    (subst (λ (d : D). Looked seen moment left_at taken d) (sym (taken_is side new b)) looked)

@@ -1,4 +1,4 @@
-use Rattle.std.proofs.Common.{Some, subst}
+use Rattle.std.proofs.Common.{Some, ap, subst}
 use Rattle.liq_pairs.specs.Sides.{on}
 use Rattle.liq_records.specs.Reading.{CountsFault}
 use Rattle.liq_records.specs.declared.answers.AcceptedFault.{AcceptedFault}
@@ -6,7 +6,7 @@ use Rattle.liq_store.specs.Causes.{OneRose, counts_of}
 use Rattle.liq_store.specs.Stored.{Stored}
 use Rattle.liq_store.proofs.Appending.{some_isnt_none}
 use Rattle.liq_store.proofs.Counts.{taken_rose}
-use Rattle.liq_store.proofs.Looking.{all_read, halted_looked, order_looked, within_looked}
+use Rattle.liq_store.proofs.Looking.{all_read, halted_looked, looked_from, order_looked, within_looked}
 use Rattle.liq_store.proofs.store.Store.accepted.Goals as goal
 
 pub invariant_of-self : goal.invariant_of-self
@@ -42,3 +42,15 @@ returns-in-Err-DiskFault-clause-cause g c =
     let counted = subst (λ (y : AcceptedFault). CountsFault y (g.D.Disk.faults c.self.inside.taken.disk) (g.D.Disk.faults c.read_commands.new.journal.disk)) c.in-Err-DiskFault.field-0-is c.in-Err-DiskFault.ensures.cause in
     subst (λ (o : Stored g.row.D.Denot). OneRose (counts_of g.D.Disk.faults o.left o.right) (counts_of g.D.Disk.faults (on side c.read_commands.new.journal.disk c.self.inside.beside) (on side c.self.inside.beside c.read_commands.new.journal.disk))) c.self.view_is
     (taken_rose g.D.Disk.faults side c.self.inside.taken.disk c.read_commands.new.journal.disk c.self.inside.beside counted.later counted.rose)
+
+pub returns-in-Ok-clause-looked : goal.returns-in-Ok-clause-looked
+returns-in-Ok-clause-looked g c = looked_from g.D.Disk.seen g.D.Disk.moment g.D.Disk.left_at c.self.inside.side c.self.inside.taken.disk c.self.inside.beside c.read_commands.new.journal.disk c.args.self.now (ap (λ (o : Stored g.row.D.Denot). o.left) c.self.view_is) (ap (λ (o : Stored g.row.D.Denot). o.right) c.self.view_is) (ap (λ (o : Stored g.row.D.Denot). o.side) c.self.view_is) c.read_commands.ensures.looked
+
+pub returns-in-Err-DiskFault-clause-looked : goal.returns-in-Err-DiskFault-clause-looked
+returns-in-Err-DiskFault-clause-looked g c = looked_from g.D.Disk.seen g.D.Disk.moment g.D.Disk.left_at c.self.inside.side c.self.inside.taken.disk c.self.inside.beside c.read_commands.new.journal.disk c.args.self.now (ap (λ (o : Stored g.row.D.Denot). o.left) c.self.view_is) (ap (λ (o : Stored g.row.D.Denot). o.right) c.self.view_is) (ap (λ (o : Stored g.row.D.Denot). o.side) c.self.view_is) c.read_commands.ensures.looked
+
+pub returns-in-Err-Damaged-clause-looked : goal.returns-in-Err-Damaged-clause-looked
+returns-in-Err-Damaged-clause-looked g c = looked_from g.D.Disk.seen g.D.Disk.moment g.D.Disk.left_at c.self.inside.side c.self.inside.taken.disk c.self.inside.beside c.read_commands.new.journal.disk c.args.self.now (ap (λ (o : Stored g.row.D.Denot). o.left) c.self.view_is) (ap (λ (o : Stored g.row.D.Denot). o.right) c.self.view_is) (ap (λ (o : Stored g.row.D.Denot). o.side) c.self.view_is) c.read_commands.ensures.looked
+
+pub returns-in-Err-NoMemory-clause-looked : goal.returns-in-Err-NoMemory-clause-looked
+returns-in-Err-NoMemory-clause-looked g c = looked_from g.D.Disk.seen g.D.Disk.moment g.D.Disk.left_at c.self.inside.side c.self.inside.taken.disk c.self.inside.beside c.read_commands.new.journal.disk c.args.self.now (ap (λ (o : Stored g.row.D.Denot). o.left) c.self.view_is) (ap (λ (o : Stored g.row.D.Denot). o.right) c.self.view_is) (ap (λ (o : Stored g.row.D.Denot). o.side) c.self.view_is) c.read_commands.ensures.looked

@@ -4,7 +4,7 @@ use Rattle.liq_types.specs.declared.replies.Answer.TheVariants as answer
 use Rattle.liq_types.specs.declared.replies.Reply.TheVariants.{No, Said}
 use Rattle.liq_types.specs.State.{State}
 use Rattle.liq_core.specs.Core.{StandsFor, state_of}
-use Rattle.liq_core.proofs.SameContents.{stands_after}
+use Rattle.liq_core.proofs.SameContents.{stands_after, stands_before}
 use Rattle.liq_rules.specs.Rules.{call_changes}
 use Rattle.liq_rules.specs.Step.{Allowed, Refused, Repeated, after}
 use Rattle.liq_guided.proofs.Steps.{counts_on, generation_stays}
@@ -350,3 +350,18 @@ returns-in-Err-write_record-clause-cause g c =
     let side = c.self.inside.side in
     subst (λ (o : Stored g.row.D.Denot). OneRose (counts_of g.D.Disk.faults o.left o.right) (counts_of g.D.Disk.faults (on side c.write_record.new.taken.disk c.self.inside.beside) (on side c.self.inside.beside c.write_record.new.taken.disk))) c.self.view_is
     (taken_rose g.D.Disk.faults side c.self.inside.taken.disk c.write_record.new.taken.disk c.self.inside.beside c.in-Err-write_record.ensures.cause.later c.in-Err-write_record.ensures.cause.failed)
+
+pub write_record-requires-clause-settled : goal.write_record-requires-clause-settled
+write_record-requires-clause-settled g c = c.self.invariant.settled (ap (λ (o : Stored g.row.D.Denot). o.stopped) c.self.view_is ∙ c.requires.going)
+
+pub make-done-requires-clause-planned : goal.make-done-requires-clause-planned
+make-done-requires-clause-planned g c s stands = (c.in-Ready.ensures.prepared s (stands_before c.self.inside.protocol c.prepare.new.protocol s c.prepare.ensures.same stands)).1
+
+pub make-done-requires-clause-room : goal.make-done-requires-clause-room
+make-done-requires-clause-room g c = c.in-Ready.ensures.ready.1
+
+pub make-done-requires-2-clause-planned : goal.make-done-requires-2-clause-planned
+make-done-requires-2-clause-planned g c s stands = (c.in-Ready.ensures.prepared s (stands_before c.self.inside.protocol c.prepare.new.protocol s c.prepare.ensures.same stands)).1
+
+pub make-done-requires-2-clause-room : goal.make-done-requires-2-clause-room
+make-done-requires-2-clause-room g c = c.in-Ready.ensures.ready.1
