@@ -1,7 +1,7 @@
 -- What a seat that was joined out of others has seen begins with what each of them had seen.
-use Rattle.std.proofs.Common.{ℕ, zero, suc, ◌≡◌, List, [], ◌∷◌, ◌++◌, arith}
+use Rattle.std.proofs.Common.{ℕ, zero, suc, ◌≡◌, List, [], ◌∷◌, ◌++◌, Some, arith}
 use Rattle.std.specs.Prelude.{All, Contains}
-use Rattle.std.proofs.lemmas.List.Elements.{All-append}
+use Rattle.std.proofs.lemmas.List.Elements.{All-append, All-pop}
 use Rattle.liq_lock.specs.History.{Behind}
 use Rattle.liq_lock.proofs.Histories.{behind_on}
 use Rattle.liq_book.specs.declared.items.Item.{Item}
@@ -20,3 +20,7 @@ all_one P x here (suc k) d within = absurd (omega arith)
 -- all of a list, by its last one and those before it
 pub all_with : {X : Type 0} (P : X → Type 0) (all front : List X) (x : X) → all ≡ front ++ x ∷ [] → All P front → P x → All P all
 all_with P all front x is before here = rw is (All-append P front (x ∷ []) before (all_one P x here))
+
+-- the last one, and those before it
+pub all_without : {X : Type 0} (P : X → Type 0) (all front : List X) (x : X) → all ≡ front ++ x ∷ [] → All P all → All P front × P x
+all_without P all front x is every = All-pop P all front (Some x) is every

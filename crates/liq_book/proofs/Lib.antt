@@ -4,4 +4,5 @@ pub mod Chronicles
 pub mod Gathering
 pub mod Learning
 pub mod Pasts
+mod Seating
 pub mod Telling

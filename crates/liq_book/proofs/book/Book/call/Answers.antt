@@ -1,5 +1,6 @@
-use Rattle.std.proofs.Common.{◌≡◌, ℕ, Some, None, arith, refl, sym, ◌∙◌, ap, subst, inl}
+use Rattle.std.proofs.Common.{◌≡◌, ℕ, ◌+◌, ◌<◌, ◌≤◌, true, false, Result, Ok, Err, Some, None, arith, refl, sym, ◌∙◌, ap, subst, inl}
 use Rattle.std.specs.Option.{option_map}
+use Rattle.std.specs.Result.{OnOk, is_err}
 use Rattle.liq_types.specs.declared.replies.Answer.TheVariants as answer
 use Rattle.liq_types.specs.Soundness.{IsSoundImage}
 use Rattle.liq_core.specs.Core.{Core}
@@ -9,6 +10,14 @@ use Rattle.liq_book.specs.Booked.{state_of_book}
 use Rattle.liq_book.proofs.Calling.{enters, forgets, goes, halts, no_halt, others, others_answer, own_few}
 use Rattle.liq_book.proofs.Telling.{entry_more, nothing_more, nothing_told}
 use Rattle.liq_book.proofs.book.Book.call.Goals as goal
+
+-- there is room for one more, where room was made
+room_made : {T E : Type 0} (made : Result T E) (len capacity : ℕ) → is_err made ≡ false → OnOk made (len + 1 ≤ capacity) → len < capacity
+room_made (Ok x) len capacity ok room = let more : len + 1 ≤ capacity = room in omega arith
+room_made (Err e) len capacity ok room = let differ : true ≡ false = ok in absurd (cc)
+
+pub enter-requires-clause-room : goal.enter-requires-clause-room
+enter-requires-clause-room g c = room_made c.try_reserve.result _ _ (sym c.is_err.ensures.value ∙ c.if-is_err.false) c.try_reserve.ensures.ok
 
 pub enter-requires-clause-calls : goal.enter-requires-clause-calls
 enter-requires-clause-calls g c =
@@ -60,6 +69,9 @@ returns-in-Reply-clause-enters g c =
 
 pub returns-in-Reply-clause-legal : goal.returns-in-Reply-clause-legal
 returns-in-Reply-clause-legal g c = (invariant_of-self-in-Reply g c).0.legal
+
+pub returns-in-Reply-clause-few : goal.returns-in-Reply-clause-few
+returns-in-Reply-clause-few g c = (invariant_of-self-in-Reply g c).0.few
 
 pub returns-in-DiskFault-clause-enters : goal.returns-in-DiskFault-clause-enters
 returns-in-DiskFault-clause-enters g c =

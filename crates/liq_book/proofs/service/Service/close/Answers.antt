@@ -5,10 +5,16 @@ use Rattle.liq_lock.specs.Seats.{seen_of}
 use Rattle.liq_book.specs.Closing.{items_left}
 use Rattle.liq_book.specs.declared.items.Item.{Item}
 use Rattle.liq_book.specs.Items.{session_of}
-use Rattle.liq_book.specs.Seats.{items_seen, session_at}
-use Rattle.liq_book.proofs.Gathering.{all_with}
+use Rattle.liq_book.specs.Seats.{IsSeatOf, items_seen, session_at}
+use Rattle.liq_book.proofs.Gathering.{all_with, all_without}
 use Rattle.liq_book.proofs.Learning.{items_in}
 use Rattle.liq_book.proofs.service.Service.close.Goals as goal
+
+pub gathered-seat-requires-clause-own : goal.gathered-seat-requires-clause-own
+gathered-seat-requires-clause-own g c = (all_without (IsSeatOf c.args.self) _ _ _ c.in-Some.ensures.items c.requires.own).1
+
+pub gathered-seat-requires-clause-own_seats : goal.gathered-seat-requires-clause-own_seats
+gathered-seat-requires-clause-own_seats g c = (all_without (IsSeatOf c.args.self) _ _ _ c.in-Some.ensures.items c.requires.own).0
 
 pub returns-clause-seen : goal.returns-clause-seen
 returns-clause-seen g c =
