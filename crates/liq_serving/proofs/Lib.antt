@@ -3,5 +3,6 @@ mod Assembling
 mod Counting
 mod Inputs
 mod Leaving
+mod Mapped
 mod Stops
 mod Told

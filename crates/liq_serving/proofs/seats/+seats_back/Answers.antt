@@ -1,7 +1,16 @@
-use Rattle.std.proofs.Common.{◌∙◌}
+use Rattle.std.proofs.Common.{length, sym, ap, arith, ◌∙◌}
+use Rattle.std.proofs.lemmas.List.{length-map}
+use Rattle.liq_serving.proofs.Mapped.{mapped_more}
 use Rattle.liq_serving.proofs.Told.{all_tested, not_all_tested}
 use Rattle.liq_serving.proofs.seats.+seats_back.Goals as goal
 use Rattle.liq_serving.proofs.seats.+seats_back.Goals.{then-others, else-others}
+
+pub push_reserved-requires : goal.push_reserved-requires
+push_reserved-requires g t c =
+    omega (arith, ap length c.seats_back-seats.ensures.seats, length-map c.pop.new.self.items (λ d. d.seat), c.seats_back-seats.ensures.room, c.in-Some.ensures.len, c.requires.room, c.seats_back-seats.result.0.ok.0, c.pop.new.self.ok.0, c.args.done.ok.0)
+
+pub returns-clause-seats : goal.returns-clause-seats
+returns-clause-seats g t c = sym (mapped_more _ _ _ _ _ _ c.in-Some.ensures.items c.push_reserved.ensures.items (sym c.seats_back-seats.ensures.seats))
 
 pub returns-clause-whole : goal.returns-clause-whole
 returns-clause-whole g t c =
