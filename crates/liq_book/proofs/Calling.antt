@@ -24,7 +24,7 @@ use Rattle.liq_store.specs.Memory.{IsAccepted}
 use Rattle.liq_store.specs.Stored.{Stored}
 use Rattle.liq_store.proofs.Past.{goes_on, stops, stops_kept, waits}
 use Rattle.liq_types.specs.declared.entries.Entry.{Entry}
-use Rattle.liq_entries.specs.Entering.{IsCalled}
+use Rattle.liq_book.specs.Entering.{IsCalled}
 use Rattle.liq_book.specs.declared.items.Halt.{Halt}
 use Rattle.liq_book.specs.declared.items.TheConstants.{ENTRIES_MOST}
 use Rattle.liq_book.specs.Booked.{IsBook, KeepsDisks}

@@ -6,3 +6,4 @@ pub mod Learning
 pub mod Pasts
 mod Seating
 pub mod Telling
+pub mod Unentered

@@ -2,6 +2,7 @@ pub mod Answered
 pub mod Booked
 pub mod Closing
 pub mod Entered
+pub mod Entering
 pub mod Items
 pub mod Origin
 pub mod Past

@@ -8,13 +8,14 @@ ghost use Rattle.liq_store.specs.Keeping.{IsInOrder};
 ghost use Rattle.liq_views.specs.Publishers.{published, waiting};
 ghost use Rattle.liq_book.specs.Items.{chronicle};
 
+use crate::entering::enter;
 use crate::items::{ENTRIES_MOST, Halt};
 use crate::kinds::changes_list;
 use crate::looking::Looking;
 use crate::origin::Origin;
+use crate::publishing::publish;
 use crate::service::Closed;
 use liq_core::laws::protocols_are_sound;
-use liq_entries::{enter, publish};
 use liq_outside::Disk;
 use liq_store::Store;
 use liq_types::{Answer, Entry, Hint, NoMemory, Reply, Request};

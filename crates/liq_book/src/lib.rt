@@ -4,6 +4,7 @@
 
 mod book;
 mod boxed;
+mod entering;
 mod items;
 mod kinds;
 mod looking;

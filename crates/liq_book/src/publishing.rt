@@ -1,6 +1,8 @@
-//! A desk that publishes the list behind each call that changed it.
-ghost use Rattle.std.specs.Prelude.{◌≡◌};
+//! A publication, and a desk that publishes the list behind each call that changed it.
+ghost use Rattle.std.specs.Prelude.{◌≡◌, ◌≤◌, ◌⊎◌, ◌++◌, [], ◌∷◌, MatchResult};
 ghost use Rattle.liq_types.specs.Desks.{own_after, faulted_after, EndsKnown};
+ghost use Rattle.liq_views.specs.Batches.{last_from};
+ghost use Rattle.liq_views.specs.Publishers.{published, waiting};
 ghost use Rattle.liq_book.specs.Items.{ShowsEnd, calls_of, faulted_in};
 ghost use Rattle.liq_book.specs.Seats.{IsSeatOf, items_seen, session_at};
 
@@ -8,7 +10,9 @@ use crate::origin::Origin;
 use crate::seat::BookSeat;
 use crate::service::Service;
 use liq_outside::Disk;
-use liq_types::{Answer, Desk, Hint, Request};
+use liq_store::Store;
+use liq_types::{Answer, Desk, Hint, NoMemory, Request};
+use liq_views::Publisher;
 use std::sync::Wait;
 
 /// A service as a desk that publishes the list behind each accepted command that may have changed it, before the command's turn ends: no
@@ -48,5 +52,32 @@ impl<'a, D: Disk, O: Origin> Desk for Publishing<'a, D, O> {
         hint: &Hint,
     ) -> (BookSeat<O>, Answer) {
         self.service.turn(rt, seat, request, hint, true)
+    }
+}
+
+/// Publishes what the store has to tell of its list, as this version, and lets that go, with the guide of the list: what was published
+/// last and the changes since are as good a guide. Without memory the store keeps both, and tells the same at the next publication.
+pub(crate) fn publish<D: Disk, W: Wait>(
+    store: &mut Store<D>,
+    publisher: &mut Publisher,
+    rt: &W,
+    number: u64,
+) -> Result<(), NoMemory>
+    requires { last_from 0 (published publisher.old ++ waiting publisher.old) ≤ number }
+    ensures sent { MatchResult result
+        (λ _. (published publisher.new ≡ published publisher.old ++ (waiting publisher.old ++ record { changes = store.old.changes; number = number } ∷ []))
+        × (waiting publisher.new ≡ []))
+        (λ _. (published publisher.new ≡ published publisher.old)
+        × ((waiting publisher.new ≡ waiting publisher.old)
+        ⊎ (waiting publisher.new ≡ waiting publisher.old ++ record { changes = store.old.changes; number = number } ∷ []))) }
+    ensures told { MatchResult result (λ _. store.new ≡ record store.old { changes = [] }) (λ _. store.new ≡ store.old) }
+{
+    match publisher.publish(rt, store.changes(), number) {
+        Ok(()) => {
+            store.clear_changes();
+            store.drop_guide();
+            Ok(())
+        }
+        Err(NoMemory) => Err(NoMemory),
     }
 }

@@ -1,4 +1,5 @@
 pub mod AccountsFirst
+pub mod Alike
 pub mod Beginning
 pub mod Cutting
 pub mod Depositing

@@ -3,7 +3,6 @@ use Rattle.std.proofs.Common.{inl, inr, ⊎_elim, List, ℕ, ◌+◌, Bool, ap, 
 use Rattle.liq_types.specs.declared.requests.Command.{Command}
 use Rattle.liq_types.specs.State.{State}
 use Rattle.liq_types.specs.WellFormed.{IsWellFormed}
-use Rattle.liq_core.specs.Core.{Core, StandsFor}
 use Rattle.liq_rules.specs.Image.{IsSameState}
 use Rattle.liq_types.specs.declared.image.Image.{Image}
 use Rattle.liq_rules.proofs.AlikeReads.{Alike}
@@ -15,15 +14,6 @@ use Rattle.liq_pairs.specs.Kept.{HoldsRecord, IsKept, IsKeptOn, IsRotationOf, Is
 use Rattle.liq_pairs.specs.Pair.{StandFor}
 use Rattle.liq_pairs.specs.Sides.{has_odd, on}
 use Rattle.liq_pairs.specs.Unfinished.{HoldsUnfinished, IsUnfinishedRecord, IsUnfinishedRotation}
-
--- the states for which a protocol stands
-pub core_alike : (core : Core) (s t : State) → StandsFor core s → StandsFor core t → Alike s t
-core_alike core s t first second = record {
-  image = sym first.image ∙ second.image;
-  records = sym first.records ∙ second.records;
-  left = first.formed;
-  right = second.formed;
-}
 
 module _ {s t : State} (alike : Alike s t) where
   pub stand_alike : (l r : List ℕ) → StandFor l r s → StandFor l r t

@@ -20,7 +20,8 @@ use Rattle.liq_pairs.specs.declared.side.Side.{Side}
 use Rattle.liq_pairs.specs.Kept.{IsKept}
 use Rattle.liq_pairs.specs.Sides.{has_odd, on}
 use Rattle.liq_rules.proofs.AlikeReads.{Alike}
-use Rattle.liq_pairs.proofs.Alike.{core_alike, settled_alike}
+use Rattle.liq_core.proofs.Alike.{core_alike}
+use Rattle.liq_pairs.proofs.Alike.{settled_alike}
 use Rattle.liq_pairs.proofs.Around.{kept_around, settled_after}
 use Rattle.liq_pairs.proofs.Hints.{heard_after, heard_ruling}
 use Rattle.liq_records.specs.Bodies.{read_back}

@@ -15,7 +15,7 @@ use Rattle.liq_pairs.specs.Kept.{IsSettledFor}
 use Rattle.liq_pairs.specs.Pair.{commands_on, state_on}
 use Rattle.liq_pairs.specs.Replay.{outcome}
 use Rattle.liq_pairs.specs.Sides.{beside, has_odd, on, other}
-use Rattle.liq_pairs.proofs.Alike.{core_alike}
+use Rattle.liq_core.proofs.Alike.{core_alike}
 use Rattle.liq_pairs.proofs.Beginning.{created_state}
 use Rattle.liq_pairs.proofs.Commands.{commands_by}
 use Rattle.liq_pairs.proofs.FirstPlace.{IsAside, absent_isnt_open, closed_absent, closed_where, gate_open_or_not, is_behind, open_older, opened_already, unopened_absent}

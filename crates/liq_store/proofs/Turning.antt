@@ -23,7 +23,8 @@ use Rattle.liq_pairs.specs.declared.side.Side.{Side}
 use Rattle.liq_pairs.specs.declared.side.Side.TheVariants.{Left, Right}
 use Rattle.liq_pairs.specs.Kept.{IsKept, IsRotationOf, IsSettledFor}
 use Rattle.liq_pairs.specs.Sides.{has_odd, on, other}
-use Rattle.liq_pairs.proofs.Alike.{core_alike, settled_alike}
+use Rattle.liq_core.proofs.Alike.{core_alike}
+use Rattle.liq_pairs.proofs.Alike.{settled_alike}
 use Rattle.liq_pairs.proofs.Turning.{rotation_kept, rotation_settled}
 use Rattle.liq_records.specs.Bodies.{read_back}
 use Rattle.liq_store.specs.Calling.{WritesOn}

@@ -1,4 +1,4 @@
-use Rattle.liq_pairs.proofs.Alike.{core_alike}
+use Rattle.liq_core.proofs.Alike.{core_alike}
 use Rattle.liq_serving.proofs.Alike.{at_itself, serves_alike}
 use Rattle.liq_serving.proofs.serving.serve_sessions.Goals as goal
 

@@ -5,7 +5,7 @@ use Rattle.liq_types.specs.declared.replies.Answer.TheVariants as answer
 use Rattle.liq_types.specs.Soundness.{IsSoundImage}
 use Rattle.liq_core.specs.Core.{Core}
 use Rattle.liq_store.specs.Causes.{stopped_after, sum_of}
-use Rattle.liq_entries.proofs.Unentered.{entries_stay}
+use Rattle.liq_book.proofs.Unentered.{entries_stay}
 use Rattle.liq_book.specs.Booked.{state_of_book}
 use Rattle.liq_book.proofs.Calling.{enters, forgets, goes, halts, no_halt, others, others_answer, own_few}
 use Rattle.liq_book.proofs.Telling.{entry_more, nothing_more, nothing_told}

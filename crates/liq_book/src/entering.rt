@@ -1,6 +1,6 @@
 //! A call that is entered.
 ghost use Rattle.std.specs.Prelude.{◌<◌, ◌+◌, ◌^◌, vec_capacity, vec_len};
-ghost use Rattle.liq_entries.specs.Entering.{IsCalled, IsEntered};
+ghost use Rattle.liq_book.specs.Entering.{IsCalled, IsEntered};
 
 use liq_outside::Disk;
 use liq_store::{HintSource, Store};
@@ -8,7 +8,7 @@ use liq_types::{Answer, Entry, Request};
 
 /// Answers a session's request as `Store::call` does, and enters a reply behind all entries, as the session's next one: so many of
 /// its calls got one before. With any other answer the entries stay. There is room for the entry.
-pub fn enter<D: Disk, H: HintSource + Drop>(
+pub(crate) fn enter<D: Disk, H: HintSource + Drop>(
     store: &mut Store<D>,
     entries: &mut Vec<Entry>,
     session: u8,

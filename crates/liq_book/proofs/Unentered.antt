@@ -5,7 +5,7 @@ use Rattle.liq_types.specs.declared.replies.Answer.{Answer}
 use Rattle.liq_types.specs.declared.replies.Answer.TheVariants as answer
 use Rattle.liq_types.specs.declared.replies.Reply.{Reply}
 use Rattle.liq_types.specs.declared.requests.Request.{Request}
-use Rattle.liq_entries.specs.Entering.{IsEntered}
+use Rattle.liq_book.specs.Entering.{IsEntered}
 
 pub not_entered : (session calls : ℕ) (request : Request) (a : Answer) (entries : List Entry) → ((reply : Reply) → a ≡ answer.Reply reply → ⊥)
     → IsEntered session calls request a entries entries

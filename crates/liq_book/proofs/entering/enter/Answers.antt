@@ -1,5 +1,5 @@
-use Rattle.liq_entries.proofs.Unentered.{not_entered}
-use Rattle.liq_entries.proofs.entering.enter.Goals as goal
+use Rattle.liq_book.proofs.Unentered.{not_entered}
+use Rattle.liq_book.proofs.entering.enter.Goals as goal
 
 pub returns-in_default-clause-entered : goal.returns-in_default-clause-entered
 returns-in_default-clause-entered g c =
