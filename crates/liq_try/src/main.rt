@@ -1,0 +1,17 @@
+//! The word `run` alone, for a trial without proofs: it is there in half the time of the whole program.
+#![tactic(auto)]
+
+use liq_ends::status;
+use liq_files::{disks, standard_output};
+use liq_outside::{StdSink, StdSource};
+use liq_run::run_on;
+use std::io;
+use std::process::ExitCode;
+
+fn main(rt: HostRuntime) -> ExitCode {
+    let mut out = StdSink::new(standard_output(&rt, io::writer(&rt)));
+    let mut input = StdSource::new(rt.reader());
+    let (left, right) = disks(&rt);
+    let ending = run_on(rt.alloc(), &mut input, &mut out, left, right);
+    ExitCode::from(status(&ending.end))
+}
