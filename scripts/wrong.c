@@ -1,0 +1,169 @@
+/* Makes a wrong program of liq: put in front of its C library, it lets calls do something else than what they are asked for. What
+   WRONG says decides which. With it a trial is seen to fail. For the --self-test of scripts/edge, faults, power and kill.
+
+   no-datasync       fdatasync does nothing
+   half-datasync     every second fdatasync does nothing
+   late-datasync     fdatasync is made behind the next reply
+   deaf-datasync     fdatasync tells no fault
+   no-folder-sync    fsync of a folder does nothing
+   deaf-folder-sync  fsync tells no fault
+   no-lock           flock does nothing
+   deaf-lock         flock tells no fault
+   truncating        a file that is opened to be written is emptied
+   open-mode         a file is made with the mode 0666
+   through-links     a file may be made behind a link, and where there is one already
+   short-as-whole    a write that takes a part is told as whole
+   deaf-write        a write tells no fault
+   gate-first        the gate of a record is opened before the record is written
+   other-file        what is written to left.liq goes to right.liq
+   lazy              what is written to the two files goes there once eight writes have come, or at the end
+   other-status      the program ends with 5 where it should with 7 */
+#define _GNU_SOURCE
+#include <errno.h>
+#include <fcntl.h>
+#include <stdarg.h>
+#include <stdlib.h>
+#include <string.h>
+#include <sys/stat.h>
+#include <sys/syscall.h>
+#include <unistd.h>
+
+static int is(const char *way) {
+    const char *wrong = getenv("WRONG");
+    return wrong && !strcmp(wrong, way);
+}
+
+static int left = -1, right = -1;
+
+#define RECORD_BYTES 129
+
+/* ---- writes that wait */
+
+#define LAZY_MOST 8
+static struct {
+    int fd;
+    off_t at;
+    size_t count;
+    char *bytes;
+} waiting[LAZY_MOST];
+static int waiting_count;
+
+static void write_waiting(void) {
+    for (int at = 0; at < waiting_count; at++) {
+        syscall(SYS_pwrite64, waiting[at].fd, waiting[at].bytes, waiting[at].count, waiting[at].at);
+        free(waiting[at].bytes);
+    }
+    waiting_count = 0;
+}
+
+static void wait_with(int fd, const void *bytes, size_t count, off_t at) {
+    if (waiting_count == LAZY_MOST) write_waiting();
+    char *kept = malloc(count);
+    memcpy(kept, bytes, count);
+    waiting[waiting_count].fd = fd;
+    waiting[waiting_count].at = at;
+    waiting[waiting_count].count = count;
+    waiting[waiting_count++].bytes = kept;
+}
+
+/* ---- calls */
+
+static int opened(int folder, const char *path, int flags, int mode) {
+    int is_left = strstr(path, "left.liq") != 0, is_right = strstr(path, "right.liq") != 0;
+    if ((is_left || is_right) && (flags & O_ACCMODE) != O_RDONLY) {
+        if (is("truncating")) flags |= O_TRUNC;
+        if (is("through-links")) flags &= ~O_EXCL;
+        if (is("open-mode") && flags & O_CREAT) mode = 0666;
+    }
+    mode_t mask = is("open-mode") ? umask(0) : 0;
+    int fd = syscall(SYS_openat, folder, path, flags, mode);
+    if (is("open-mode")) umask(mask);
+    if (fd >= 0 && is_left) left = fd;
+    if (fd >= 0 && is_right) right = fd;
+    return fd;
+}
+
+static int mode_in(va_list rest, int flags) {
+    return flags & (O_CREAT | O_TMPFILE) ? va_arg(rest, int) : 0;
+}
+
+int open(const char *path, int flags, ...) {
+    va_list rest;
+    va_start(rest, flags);
+    int mode = mode_in(rest, flags);
+    va_end(rest);
+    return opened(AT_FDCWD, path, flags, mode);
+}
+
+int open64(const char *path, int flags, ...) __attribute__((alias("open")));
+
+int openat(int folder, const char *path, int flags, ...) {
+    va_list rest;
+    va_start(rest, flags);
+    int mode = mode_in(rest, flags);
+    va_end(rest);
+    return opened(folder, path, flags, mode);
+}
+
+int openat64(int folder, const char *path, int flags, ...) __attribute__((alias("openat")));
+
+static int late = -1;
+
+int fdatasync(int fd) {
+    static int count;
+    if (is("no-datasync") || is("lazy") || (is("half-datasync") && count++ % 2)) return 0;
+    if (is("late-datasync")) {
+        late = fd;
+        return 0;
+    }
+    int told = syscall(SYS_fdatasync, fd);
+    return is("deaf-datasync") ? 0 : told;
+}
+
+int fsync(int fd) {
+    struct stat told;
+    if (is("no-folder-sync") && !fstat(fd, &told) && S_ISDIR(told.st_mode)) return 0;
+    int answer = syscall(SYS_fsync, fd);
+    return is("deaf-folder-sync") ? 0 : answer;
+}
+
+int flock(int fd, int how) {
+    if (is("no-lock")) return 0;
+    int told = syscall(SYS_flock, fd, how);
+    return is("deaf-lock") ? 0 : told;
+}
+
+ssize_t pwrite(int fd, const void *bytes, size_t count, off_t at) {
+    if (is("lazy") && fd > 2) {
+        wait_with(fd, bytes, count, at);
+        return count;
+    }
+    if (is("gate-first") && count == RECORD_BYTES) syscall(SYS_pwrite64, fd, "\1", 1, at - 1);
+    if (is("other-file") && fd == left && right >= 0) fd = right;
+    ssize_t told = syscall(SYS_pwrite64, fd, bytes, count, at);
+    if ((is("short-as-whole") && told > 0) || is("deaf-write")) return count;
+    return told;
+}
+
+ssize_t pwrite64(int fd, const void *bytes, size_t count, off_t at) __attribute__((alias("pwrite")));
+
+ssize_t pread(int fd, void *bytes, size_t count, off_t at) {
+    write_waiting();
+    return syscall(SYS_pread64, fd, bytes, count, at);
+}
+
+ssize_t pread64(int fd, void *bytes, size_t count, off_t at) __attribute__((alias("pread")));
+
+ssize_t write(int fd, const void *bytes, size_t count) {
+    ssize_t told = syscall(SYS_write, fd, bytes, count);
+    if (late >= 0 && fd == 1) {
+        syscall(SYS_fdatasync, late);
+        late = -1;
+    }
+    return told;
+}
+
+void _exit(int status) {
+    write_waiting();
+    for (;;) syscall(SYS_exit_group, is("other-status") && status == 7 ? 5 : status);
+}
