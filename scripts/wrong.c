@@ -10,12 +10,17 @@
    no-lock           flock does nothing
    deaf-lock         flock tells no fault
    truncating        a file that is opened to be written is emptied
-   open-mode         a file is made with the mode 0666
+   open-mode         a file is made with the mode 0644
    through-links     a file may be made behind a link, and where there is one already
    short-as-whole    a write that takes a part is told as whole
    deaf-write        a write tells no fault
    gate-first        the gate of a record is opened before the record is written
    other-file        what is written to left.liq goes to right.liq
+   no-kinds          each file is told to be a regular one
+   two-files         right.liq is told to be another file than left.liq, and flock does nothing
+   takes-rights      where a right is missing, it is taken
+   deaf-again        EAGAIN is told as the end of the input, or as all written
+   kept-replies      replies are written at the end
    lazy              what is written to the two files goes there once eight writes have come, or at the end
    other-status      the program ends with 5 where it should with 7 */
 #define _GNU_SOURCE
@@ -73,10 +78,15 @@ static int opened(int folder, const char *path, int flags, int mode) {
     if ((is_left || is_right) && (flags & O_ACCMODE) != O_RDONLY) {
         if (is("truncating")) flags |= O_TRUNC;
         if (is("through-links")) flags &= ~O_EXCL;
-        if (is("open-mode") && flags & O_CREAT) mode = 0666;
+        if (is("open-mode") && flags & O_CREAT) mode = 0644;
     }
     mode_t mask = is("open-mode") ? umask(0) : 0;
     int fd = syscall(SYS_openat, folder, path, flags, mode);
+    if (fd < 0 && errno == EACCES && is("takes-rights")) {
+        chmod(".", 0755);
+        chmod(path, 0600);
+        fd = syscall(SYS_openat, folder, path, flags, mode);
+    }
     if (is("open-mode")) umask(mask);
     if (fd >= 0 && is_left) left = fd;
     if (fd >= 0 && is_right) right = fd;
@@ -128,7 +138,7 @@ int fsync(int fd) {
 }
 
 int flock(int fd, int how) {
-    if (is("no-lock")) return 0;
+    if (is("no-lock") || is("two-files")) return 0;
     int told = syscall(SYS_flock, fd, how);
     return is("deaf-lock") ? 0 : told;
 }
@@ -154,16 +164,37 @@ ssize_t pread(int fd, void *bytes, size_t count, off_t at) {
 
 ssize_t pread64(int fd, void *bytes, size_t count, off_t at) __attribute__((alias("pread")));
 
+ssize_t read(int fd, void *bytes, size_t count) {
+    ssize_t told = syscall(SYS_read, fd, bytes, count);
+    return told < 0 && errno == EAGAIN && is("deaf-again") ? 0 : told;
+}
+
+static char kept[1 << 20];
+static size_t kept_count;
+
 ssize_t write(int fd, const void *bytes, size_t count) {
+    if (is("kept-replies") && fd == 1 && kept_count + count <= sizeof kept) {
+        memcpy(kept + kept_count, bytes, count);
+        kept_count += count;
+        return count;
+    }
     ssize_t told = syscall(SYS_write, fd, bytes, count);
     if (late >= 0 && fd == 1) {
         syscall(SYS_fdatasync, late);
         late = -1;
     }
+    return told < 0 && errno == EAGAIN && is("deaf-again") ? (ssize_t)count : told;
+}
+
+int statx(int folder, const char *path, int flags, unsigned mask, struct statx *found) {
+    int told = syscall(SYS_statx, folder, path, flags, mask, found);
+    if (told == 0 && is("no-kinds")) found->stx_mode = (found->stx_mode & ~S_IFMT) | S_IFREG;
+    if (told == 0 && is("two-files") && (strstr(path, "right.liq") || (!*path && folder == right))) found->stx_ino ^= 1UL << 40;
     return told;
 }
 
 void _exit(int status) {
     write_waiting();
+    if (kept_count) syscall(SYS_write, 1, kept, kept_count);
     for (;;) syscall(SYS_exit_group, is("other-status") && status == 7 ? 5 : status);
 }
