@@ -7,7 +7,7 @@ import shutil
 import subprocess
 import sys
 import tempfile
-from typing import Iterator, List, NamedTuple, Optional, Sequence, Tuple
+from typing import Dict, Iterator, List, NamedTuple, Optional, Sequence, Tuple
 
 SCRIPTS = os.path.dirname(os.path.realpath(__file__))
 TOP = os.path.dirname(SCRIPTS)
@@ -84,12 +84,10 @@ class Ended(NamedTuple):
     out: str
 
 
-def run(program: str, folder: str, lines: Sequence[str], word: str = "run", front: str = "", **around: str) -> Ended:
-    """A run over the files of a folder, with a library in front of the C library and these changes of its surroundings."""
-    if front:
-        around["LD_PRELOAD"] = front
-    ended = subprocess.run([program, word], cwd=folder, input="".join(lines).encode(), stdout=subprocess.PIPE, stderr=subprocess.DEVNULL,
-                           env={**os.environ, **around}, timeout=SECONDS_OF_A_RUN)
+def run(program: str, folder: str, lines: Sequence[str], word: str, around: Dict[str, str]) -> Ended:
+    """A run over the files of a folder, with these changes of its surroundings."""
+    ended = subprocess.run([program, *word.split()], cwd=folder, input="".join(lines).encode(), stdout=subprocess.PIPE,
+                           stderr=subprocess.DEVNULL, env={**os.environ, **around}, timeout=SECONDS_OF_A_RUN)
     return Ended(ended.returncode, ended.stdout.decode("utf-8", "backslashreplace"))
 
 
@@ -129,9 +127,11 @@ class Runner:
     def __init__(self, program: str, folder: str, wrong: str = "") -> None:
         self.program, self.folder, self.wrong = program, folder, wrong
         self.front = compiled_front("wrong", folder) if wrong else ""
+        self.around = {"LD_PRELOAD": self.front, "WRONG": wrong} if wrong else {}
 
     def run_next(self, market: str, lines: Sequence[str], word: str = "run") -> Ended:
-        return run(self.program, market, lines, word, self.front, WRONG=self.wrong)
+        """A run over the files of a folder, as it comes behind what was tried there."""
+        return run(self.program, market, lines, word, self.around)
 
 
 def difference(came: str, wanted: str) -> str:

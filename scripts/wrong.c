@@ -21,9 +21,12 @@
    takes-rights      where a right is missing, it is taken
    deaf-again        EAGAIN is told as the end of the input, or as all written
    kept-replies      replies are written at the end
+   early-replies     a reply is written before what is written to the two files before it
+   rewriting         a file that is there is emptied and written anew when it is opened
    lazy              what is written to the two files goes there once eight writes have come, or at the end
    other-status      the program ends with 5 where it should with 7 */
 #define _GNU_SOURCE
+#include <dlfcn.h>
 #include <errno.h>
 #include <fcntl.h>
 #include <stdarg.h>
@@ -73,6 +76,17 @@ static void wait_with(int fd, const void *bytes, size_t count, off_t at) {
 
 /* ---- calls */
 
+static void rewrite(int fd) {
+    struct stat told;
+    if (fstat(fd, &told) || !S_ISREG(told.st_mode) || !told.st_size) return;
+    char *bytes = malloc(told.st_size);
+    ssize_t count = syscall(SYS_pread64, fd, bytes, told.st_size, 0);
+    ftruncate(fd, 0);
+    usleep(2000);
+    if (count > 0) syscall(SYS_pwrite64, fd, bytes, count, 0);
+    free(bytes);
+}
+
 static int opened(int folder, const char *path, int flags, int mode) {
     int is_left = strstr(path, "left.liq") != 0, is_right = strstr(path, "right.liq") != 0;
     if ((is_left || is_right) && (flags & O_ACCMODE) != O_RDONLY) {
@@ -88,6 +102,7 @@ static int opened(int folder, const char *path, int flags, int mode) {
         fd = syscall(SYS_openat, folder, path, flags, mode);
     }
     if (is("open-mode")) umask(mask);
+    if (fd >= 0 && (is_left || is_right) && is("rewriting")) rewrite(fd);
     if (fd >= 0 && is_left) left = fd;
     if (fd >= 0 && is_right) right = fd;
     return fd;
@@ -121,7 +136,7 @@ static int late = -1;
 
 int fdatasync(int fd) {
     static int count;
-    if (is("no-datasync") || is("lazy") || (is("half-datasync") && count++ % 2)) return 0;
+    if (is("no-datasync") || is("lazy") || is("early-replies") || (is("half-datasync") && count++ % 2)) return 0;
     if (is("late-datasync")) {
         late = fd;
         return 0;
@@ -144,7 +159,7 @@ int flock(int fd, int how) {
 }
 
 ssize_t pwrite(int fd, const void *bytes, size_t count, off_t at) {
-    if (is("lazy") && fd > 2) {
+    if ((is("lazy") || is("early-replies")) && fd > 2) {
         wait_with(fd, bytes, count, at);
         return count;
     }
@@ -179,6 +194,10 @@ ssize_t write(int fd, const void *bytes, size_t count) {
         return count;
     }
     ssize_t told = syscall(SYS_write, fd, bytes, count);
+    if (is("early-replies") && fd == 1) {
+        usleep(1000);
+        write_waiting();
+    }
     if (late >= 0 && fd == 1) {
         syscall(SYS_fdatasync, late);
         late = -1;
@@ -196,5 +215,6 @@ int statx(int folder, const char *path, int flags, unsigned mask, struct statx *
 void _exit(int status) {
     write_waiting();
     if (kept_count) syscall(SYS_write, 1, kept, kept_count);
-    for (;;) syscall(SYS_exit_group, is("other-status") && status == 7 ? 5 : status);
+    void (*next)(int) = dlsym(RTLD_NEXT, "_exit");
+    for (;;) next(is("other-status") && status == 7 ? 5 : status);
 }
