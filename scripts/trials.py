@@ -49,13 +49,17 @@ def built_program(path: Optional[str]) -> str:
     return program
 
 
-def compiled(name: str, folder: str, *words: str) -> str:
-    """What a C compiler makes of scripts/NAME.c, in this folder."""
+def c_compiler() -> str:
     compiler = shutil.which("cc") or shutil.which("gcc") or shutil.which("clang")
     if not compiler:
         raise Skipped("there is no C compiler")
+    return compiler
+
+
+def compiled(name: str, folder: str, *words: str) -> str:
+    """What a C compiler makes of scripts/NAME.c, in this folder."""
     made = os.path.join(folder, name)
-    ran = subprocess.run([compiler, "-O1", *words, "-o", made, os.path.join(SCRIPTS, f"{name}.c")], stderr=subprocess.PIPE, text=True)
+    ran = subprocess.run([c_compiler(), "-O1", *words, "-o", made, os.path.join(SCRIPTS, f"{name}.c")], stderr=subprocess.PIPE, text=True)
     if ran.returncode:
         lines = ran.stderr.splitlines() or [""]
         raise Skipped(f"the C compiler does not take scripts/{name}.c: {lines[0]}")
