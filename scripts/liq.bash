@@ -1,7 +1,7 @@
-# Completion of bash for liq: its words, and behind help, which bin/liq of a checkout has, the verbs.
+# Completion of bash for liq: its words, and behind help, which bin/liq of a checkout has as it has version, the verbs.
 _liq() {
     case $COMP_CWORD in
-        1) mapfile -t COMPREPLY < <(compgen -W 'run serve staking rewards state report audit follow gen help' -- "${COMP_WORDS[1]}") ;;
+        1) mapfile -t COMPREPLY < <(compgen -W 'run serve staking rewards state report audit follow gen help version' -- "${COMP_WORDS[1]}") ;;
         2)
             COMPREPLY=()
             [ "${COMP_WORDS[1]}" = help ] && mapfile -t COMPREPLY < <(compgen -W 'price advance fund take send open adjust close provide

@@ -17,6 +17,9 @@
    gate-first        the gate of a record is opened before the record is written
    other-file        what is written to left.liq goes to right.liq
    no-kinds          each file is told to be a regular one
+   no-modes          no file is told to be one that others may write
+   no-owners         each file is told to be the user's own
+   apart-streams     no standard stream is told to be one of the two files
    two-files         right.liq is told to be another file than left.liq, and flock does nothing
    takes-rights      where a right is missing, it is taken
    deaf-again        EAGAIN is told as the end of the input, or as all written
@@ -213,6 +216,9 @@ ssize_t write(int fd, const void *bytes, size_t count) {
 int statx(int folder, const char *path, int flags, unsigned mask, struct statx *found) {
     int told = syscall(SYS_statx, folder, path, flags, mask, found);
     if (told == 0 && is("no-kinds")) found->stx_mode = (found->stx_mode & ~S_IFMT) | S_IFREG;
+    if (told == 0 && is("no-modes")) found->stx_mode &= ~S_IWOTH;
+    if (told == 0 && is("no-owners")) found->stx_uid = geteuid();
+    if (told == 0 && is("apart-streams") && strstr(path, "/proc/self/fd/")) found->stx_ino ^= 1UL << 40;
     if (told == 0 && is("two-files") && (strstr(path, "right.liq") || (!*path && folder == right))) found->stx_ino ^= 1UL << 40;
     return told;
 }
