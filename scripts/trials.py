@@ -233,8 +233,11 @@ class Tracer(Runner):
             told = err.read()
         if status == 125 and "traced:" in told:
             raise Skipped(f"a program can't be traced here ({told.strip()})")
+        calls = list(read_calls(log))
+        if not calls:
+            raise Wrong(f"no call of the system was seen, of a run that ends with {status}")
         with open(sink, "rb") as out:
-            return Ended(status, out.read().decode("utf-8", "backslashreplace")), list(read_calls(log))
+            return Ended(status, out.read().decode("utf-8", "backslashreplace")), calls
 
 
 def read_calls(log: str) -> Iterator[Call]:
