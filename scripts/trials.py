@@ -72,8 +72,10 @@ def compiled_front(name: str, folder: str) -> str:
 
 
 def working_folder() -> "tempfile.TemporaryDirectory[str]":
-    """A folder in memory, where there is one: what is tried syncs often."""
-    return tempfile.TemporaryDirectory(prefix="liq-", dir="/dev/shm" if os.access("/dev/shm", os.W_OK) else None)
+    """A folder in memory, where there is one in which programs may run: what is tried syncs often."""
+    memory = "/dev/shm"
+    serves = os.access(memory, os.W_OK) and not os.statvfs(memory).f_flag & os.ST_NOEXEC
+    return tempfile.TemporaryDirectory(prefix="liq-", dir=memory if serves else None)
 
 
 def modelled(market: Market, lines: Sequence[str]) -> str:
