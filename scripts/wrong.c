@@ -22,6 +22,8 @@
    apart-streams     no standard stream is told to be one of the two files
    two-files         right.liq is told to be another file than left.liq, and flock does nothing
    takes-rights      where a right is missing, it is taken
+   deaf-input        a fault of the input is told as its end
+   deaf-output       a fault of the output is told as all written
    deaf-again        EAGAIN is told as the end of the input, or as all written
    kept-replies      replies are written at the end
    early-replies     a reply is written before what is written to the two files before it
@@ -189,7 +191,8 @@ ssize_t pread64(int fd, void *bytes, size_t count, off_t at) __attribute__((alia
 
 ssize_t read(int fd, void *bytes, size_t count) {
     ssize_t told = syscall(SYS_read, fd, bytes, count);
-    return told < 0 && errno == EAGAIN && is("deaf-again") ? 0 : told;
+    int is_deaf = is("deaf-input") || (is("deaf-again") && errno == EAGAIN);
+    return told < 0 && fd == 0 && is_deaf ? 0 : told;
 }
 
 static char kept[1 << 20];
@@ -210,7 +213,8 @@ ssize_t write(int fd, const void *bytes, size_t count) {
         syscall(SYS_fdatasync, late);
         late = -1;
     }
-    return told < 0 && errno == EAGAIN && is("deaf-again") ? (ssize_t)count : told;
+    int is_deaf = is("deaf-output") || (is("deaf-again") && errno == EAGAIN);
+    return told < 0 && fd == 1 && is_deaf ? (ssize_t)count : told;
 }
 
 int statx(int folder, const char *path, int flags, unsigned mask, struct statx *found) {
