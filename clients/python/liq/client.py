@@ -1,6 +1,7 @@
 """A client of a market: numbered commands as typed calls."""
 from typing import TYPE_CHECKING, Any, Optional, Sequence, Tuple, Type, TypeVar
 
+from .ends import Folder
 from .refusals import JournalFull, read_refusal
 from .replies import Adjusted, Advanced, Claimed, Closed, Done, Liquidated, LowestLiquidated, Moved, NextGeneration
 from .replies import Opened, Provided, Redeemed, Withdrawn
@@ -29,11 +30,16 @@ class Client:
     Where liq ends without a reply to the last command, start the service again and `resend`.
 
     With `rotate_when_full` a command that finds the journal full sends `rotate` first. After it the records before are
-    on the other file alone, and `audit` has nothing to tell: docs/OPERATING.md, "A full journal".
+    on the other file alone, and `audit` has nothing to tell: docs/OPERATING.md, "A full journal". With `archive`, a
+    folder, each `rotate` of this client first copies there what it would write over (`liq.archive`); where that raises
+    nothing was sent.
     """
 
-    def __init__(self, service: "Service", client: int, rotate_when_full: bool = False) -> None:
+    def __init__(
+        self, service: "Service", client: int, rotate_when_full: bool = False, archive: Optional[Folder] = None
+    ) -> None:
         self.service, self.client, self.rotate_when_full = service, client, rotate_when_full
+        self.archive = archive
         self.next_number = service.next_number(client)
         self._unanswered: Optional[Tuple[str, Type[Any]]] = None
 
@@ -116,6 +122,10 @@ class Client:
 
     def rotate(self) -> NextGeneration:
         """Begins the next generation of the journal, in the other file, with a checkpoint of the market."""
+        if self.archive is not None:
+            from .archive import archive  # not at the top: the model stands on this package's words, and they on this
+
+            archive(self.service.folder, self.archive)
         return self._send(NextGeneration, "rotate", (), ())
 
     def resend(self) -> Any:

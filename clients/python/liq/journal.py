@@ -120,11 +120,11 @@ def read_header(path: Path, front: bytes, size: int) -> Header:
 
 class Disk:
     """One of the two files, whole: its header, its checkpoint, if it has one, and its records. It has at most `most`
-    bytes."""
+    bytes. Where `data` are given these are read in place of the file."""
 
-    def __init__(self, path: Folder, most: int = BYTES_MOST) -> None:
+    def __init__(self, path: Folder, most: int = BYTES_MOST, data: Optional[bytes] = None) -> None:
         self.path = Path(path)
-        self.data = read_file(self.path, most) if self.path.exists() else b""
+        self.data = data if data is not None else read_file(self.path, most) if self.path.exists() else b""
         self.open = is_open(self.data)
         if self.open:
             self._read_header()

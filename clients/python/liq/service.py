@@ -258,9 +258,9 @@ class Service:
             rows.append(None if words == ["none"] else [int(word) for word in words])
         return rows
 
-    def client(self, client: int, rotate_when_full: bool = False) -> Client:
+    def client(self, client: int, rotate_when_full: bool = False, archive: Optional[Folder] = None) -> Client:
         """A client of this market. Each program, and each thread of work, wants a number of its own."""
-        return Client(self, client, rotate_when_full)
+        return Client(self, client, rotate_when_full, archive)
 
 
 def pipe_size(descriptor: int) -> int:

@@ -1,0 +1,245 @@
+"""Copies of what rotations leave behind, so that a market's commands are there from the first one on.
+
+usage: python3 -m liq.archive FOLDER DIR
+
+A rotation begins the next generation in the file of the generation before the last. What stands there is gone then.
+This copies the file that the last rotation left behind into the folder DIR, which is made where it is missing. The copy
+has the name GENERATION-SHA256.liq: the generation, and the SHA-256 of its bytes. These are the file's up to its last
+record and one byte 0, the shut gate; what stands behind that in the file has no meaning. A copy is synced, and gets its
+name only then. liq may run meanwhile; call it as often as you like, and before each `rotate`.
+
+Before a copy gets its name the model carries out its commands, and the checkpoint with which the next generation begins
+has to be what that comes to, to the byte. The same is seen of the copy before it.
+
+It writes a line for each copy that it makes, and one for what DIR has. It ends with 0; with 1 where DIR and FOLDER are
+no history without a gap, or something is damaged or can't be read, and then no `rotate` may be sent; with 2 where the
+words are not understood.
+"""
+import contextlib
+import hashlib
+import os
+import re
+import secrets
+import sys
+import time
+from pathlib import Path
+from typing import List, NamedTuple, Optional, Tuple
+
+from .backup import DAY, LARGEST, SECONDS
+from .ends import Folder, NoJournal, Unfit
+from .history import begun, digest_of, read_begin, replay, rotated, what_counts
+from .journal import FRONT_BYTES, SIDES, DamagedFile, Disk, is_open, open_file, pieces_of, read_header
+from .scratch import bounded
+from .units import counted
+
+NAMED = re.compile("([0-9]{11})-([0-9a-f]{64})[.]liq").fullmatch
+
+
+class NotArchived(Unfit):
+    """What a rotation left behind is in no archive without a gap. Send no `rotate`: it would write over it."""
+
+    def __init__(self, directory: Folder, why: str) -> None:
+        super().__init__(directory, why)
+        self.directory, self.why = Path(directory), why
+
+    def __str__(self) -> str:
+        return f"{self.directory} is no archive of it: {self.why}"
+
+
+class Kept(NamedTuple):
+    """A copy of a generation that was left behind. `digest` is the SHA-256 of its bytes."""
+
+    generation: int
+    path: Path
+    digest: str
+
+
+class Left(NamedTuple):
+    """What a folder has: the file of the current generation, and that of the one before, where it is there."""
+
+    generation: int
+    current: Path
+    before: Optional[Path]
+    fronts: Tuple[bytes, ...]
+
+
+def archive(folder: Folder, directory: Folder) -> List[Kept]:
+    """Copies what the last rotation left behind into the folder `directory`, and gives the copies that this call made.
+
+    There is none to make in the first generation, and where it is there already. Raises `NotArchived` where there is a
+    gap, where something is damaged, or is of another market: then a further `rotate` would write over what is in no
+    archive. Raises `NoJournal`, `TooMuch`, `NoRegularFile` and OSError besides. It holds no file and changes none of
+    the folder, so a run may go on meanwhile.
+    """
+    folder, directory = Path(folder), Path(directory)
+    end = time.monotonic() + SECONDS
+    while True:
+        left = left_in(folder)
+        try:
+            made = _archived(left, directory)
+        except (Unfit, OSError):
+            if left_in(folder).fronts != left.fronts and time.monotonic() < end:
+                continue  # a rotation came between, so that some of what was read is of the one and some of the other
+            raise
+        return made
+
+
+def kept_in(directory: Folder) -> List[Kept]:
+    """The copies in an archive, oldest first, by their names. Raises `NotArchived` where a generation is missing among
+    them, or is there twice."""
+    paths = sorted(Path(directory).iterdir()) if Path(directory).is_dir() else []
+    found = [(path, NAMED(path.name)) for path in paths]
+    kept = [Kept(int(name[1]), path, name[2]) for path, name in found if name]
+    for one, following in zip(kept, kept[1:]):
+        if following.generation == one.generation:
+            raise NotArchived(directory, f"generation {one.generation} is there twice, and the two are not the same")
+        if following.generation != one.generation + 1:
+            raise NotArchived(directory, f"generation {one.generation + 1} is missing")
+    return kept
+
+
+def read_kept(kept: Kept, most: int = LARGEST) -> Disk:
+    """A copy of an archive, whole. Raises `DamagedFile` where its bytes are not those of its name."""
+    disk = Disk(kept.path, most)
+    if digest_of(disk.data) != kept.digest:
+        raise DamagedFile(kept.path, 0, "its bytes are not those of its name")
+    if not disk.open or disk.generation != kept.generation or disk.data != what_counts(disk):
+        raise DamagedFile(kept.path, 0, "it is not what an archive keeps of a generation")
+    return disk
+
+
+# ---- a copy
+
+
+def left_in(folder: Path) -> Left:
+    """What a folder has, by the fronts of its files. Raises `NoJournal` or `DamagedFile`."""
+    fronts, generations = [], {}
+    for path in (folder / f"{side}.liq" for side in SIDES):
+        front = b""
+        if path.exists():
+            with open_file(path) as file:
+                front = file.read(FRONT_BYTES)
+        fronts.append(front)
+        if is_open(front):
+            generations[read_header(path, front, path.stat().st_size).generation] = path
+    if not generations:
+        raise NoJournal(folder)
+    current = max(generations)
+    return Left(current, generations[current], generations.get(current - 1), tuple(fronts))
+
+
+def _archived(left: Left, directory: Path) -> List[Kept]:
+    """Makes the copy, where there is one to make. Raises `NotArchived`."""
+    kept = kept_in(directory)
+    last, before = kept[-1].generation if kept else 0, left.generation - 1
+    if last > before:
+        raise NotArchived(directory, f"it has generation {last}, and the market is in generation {left.generation}")
+    if kept and last < before - (left.before is not None):
+        raise NotArchived(directory, f"generation {last + 1} is missing, and it is on no file")
+    if left.before is None:
+        return []
+    try:
+        if last == before:
+            check_copy(kept[-1], left.before)
+            return []
+        disk = Disk(left.before, LARGEST)
+        if kept:
+            check_link(read_kept(kept[-1]), disk)
+        check_link(disk, read_begin(left.current, LARGEST))
+    except DamagedFile as damage:
+        raise NotArchived(directory, str(damage)) from None
+    return [_keep(disk, directory)]
+
+
+def check_link(disk: Disk, following: Disk) -> None:
+    """Raises `DamagedFile` where the commands of a generation do not lead to the checkpoint of the next one."""
+    market = begun(disk)
+    replay(market, disk)
+    rotated(market, following)
+
+
+def check_copy(kept: Kept, path: Path) -> None:
+    """Raises `DamagedFile` where a copy's bytes are not those of its name, or not what counts in a file."""
+    end = kept.path.stat().st_size - 1
+    copied, found, at, gate = hashlib.sha256(), hashlib.sha256(), 0, b""
+    for piece in pieces_of(kept.path, LARGEST):
+        copied.update(piece)
+    if copied.hexdigest() != kept.digest:
+        raise DamagedFile(kept.path, 0, "its bytes are not those of its name")
+    for piece in pieces_of(path, LARGEST):
+        found.update(piece[: max(0, end - at)])
+        gate = gate or piece[max(0, end - at) :][:1]
+        at += len(piece)
+    found.update(b"\0")
+    if gate == b"\1" or found.hexdigest() != kept.digest:
+        raise DamagedFile(kept.path, 0, f"it is not what {path} has of generation {kept.generation}")
+
+
+def _keep(disk: Disk, directory: Path) -> Kept:
+    """Writes a copy under a name of its own, syncs it, and gives it its name."""
+    data = what_counts(disk)
+    digest = digest_of(data)
+    to = directory / f"{disk.generation:011}-{digest}.liq"
+    if not directory.exists():
+        directory.mkdir(0o700, parents=True)
+        sync(directory.absolute().parent)
+    part = directory / f".{to.name}.{secrets.token_hex(8)}"
+    try:
+        with open(os.open(part, os.O_WRONLY | os.O_CREAT | os.O_EXCL, 0o600), "wb") as file:
+            file.write(data)
+            file.flush()
+            os.fsync(file.fileno())
+        os.replace(part, to)
+    except BaseException:
+        with contextlib.suppress(OSError):
+            part.unlink()
+        raise
+    sync(directory)
+    return Kept(disk.generation, to, digest)
+
+
+def sync(folder: Path) -> None:
+    """Waits until the names in a folder are on the disk."""
+    descriptor = os.open(folder, os.O_RDONLY)
+    try:
+        os.fsync(descriptor)
+    finally:
+        os.close(descriptor)
+
+
+# ---- the whole
+
+
+def said_of(directory: Path, made: List[Kept]) -> List[str]:
+    """What was done, and what an archive has."""
+    kept = kept_in(directory)
+    said = [f"generation {copy.generation}: {copy.path.name}" for copy in made]
+    if not kept:
+        return ["no rotation has left anything behind"]
+    first = kept[0].generation
+    begins = "from the first generation on" if first == 1 else f"from generation {first} on; those before it are gone"
+    return said + [f"{directory} has {counted(len(kept), 'generation')}, {begins}"]
+
+
+def main(words: List[str]) -> int:
+    if len(words) != 2 or words[0].startswith("-"):
+        print("usage: python3 -m liq.archive FOLDER DIR", file=sys.stderr)
+        return 2
+    folder, directory = words
+    try:
+        with bounded(DAY):
+            made = archive(folder, directory)
+            said = said_of(Path(directory), made)
+    except (Unfit, OSError) as fault:
+        print(f"archive refuses: {fault}")
+        return 1
+    except MemoryError:
+        print("archive refuses: there is not enough memory")
+        return 1
+    for line in said:
+        print(line)
+    return 0
+
+
+if __name__ == "__main__":
+    sys.exit(main(sys.argv[1:]))
