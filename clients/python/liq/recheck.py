@@ -25,17 +25,16 @@ from typing import Any, Container, Dict, Iterator, List, NamedTuple, Optional, T
 from .backup import backup
 from .client import ACCOUNTS, LOWEST_MOST
 from .ends import End, Folder, Limit, Rotated, TooMuch, Unfit
-from .journal import Checkpoint, Command, DepositRow, Disk, Journal
+from .journal import Checkpoint, Command, Disk, Journal
 from .refusals import Refusal
 from .scratch import bounded, scratch, words_of
 from .service import Service
-from .shares import PlainLedger, Share
+from .shares import Allowances, PlainLedger, Share, share_in
 from .units import counted
 from .words import Audit, AuditRow, audit
 
 SAME = ("generation", "clients")  # the fields of a checkpoint in which a replay may differ
 SECONDS = 3600
-RISES_MOST = 16  # of the scale, behind which what is left of a share counts as nothing: less than 10^-100
 SHARES_BYTES_MOST, SHARES_PLACES_MOST = 2**30, 2**22
 
 
@@ -71,42 +70,6 @@ class Row(NamedTuple):
         return f"{self.account} {self.balance} {balance} {allowed[0]} {self.gain} {gain} {allowed[1]}"
 
 
-class Allowances:
-    """By how much each depositor may fall short: docs/RULES.md, "What is owed"."""
-
-    def __init__(self) -> None:
-        self.p, self.scale, self.epoch = 10**18, 0, 0
-        self.recorded: Dict[int, Tuple[int, int, int]] = {}
-        self.weights: Dict[int, int] = {}
-        self.operations: Dict[int, int] = {}
-
-    def change(self, account: int, amount: int) -> None:
-        """An own operation, which leaves an amount."""
-        self.recorded[account] = amount, self.scale, self.epoch
-        self.operations[account] = self.operations.get(account, 0) + 1
-
-    def offset(self, debt: int, total: int) -> None:
-        """The pool takes over a debt."""
-        for account, (amount, scale, epoch) in self.recorded.items():
-            if epoch == self.epoch and amount:
-                rise = min(self.scale - scale, 3)  # an amount is below 10^27, so behind three the cost stays 1
-                cost = -(-amount // 10 ** (9 * rise))
-                self.weights[account] = self.weights.get(account, 0) + cost
-        if debt == total:
-            self.p, self.scale, self.epoch = 10**18, 0, self.epoch + 1
-            return
-        left = self.p * (total - debt)
-        while left // total < 10**9:
-            left *= 10**9
-            self.scale += 1
-        self.p = left // total
-
-    def of(self, account: int) -> Tuple[int, int]:
-        """The allowances of balance and gain."""
-        weight, operations = self.weights.get(account, 0), self.operations[account]
-        return -(-weight // 10**9) + operations, -(-12 * weight // 10**9) + 15 * operations
-
-
 class Replay:
     """The commands of a journal, carried out again, and each depositor followed through them."""
 
@@ -125,7 +88,7 @@ class Replay:
                 for command in disk.commands:
                     self._carry_out(command)
                     self.commands += 1
-            accounts = sorted(self.ledger.balances)
+            accounts = self.ledger.accounts
             self.deposits = {a: found or (0, 0) for a, found in zip(accounts, self.service.deposits(accounts))}
 
     def rows(self) -> List[Row]:
@@ -212,21 +175,6 @@ def single_calls(command: Command) -> List[str]:
     if command.verb != "liquidate_lowest":
         return [command.call]
     return [f"liquidate_lowest {command.accounts[0]} 1"] * command.amounts[0]
-
-
-def share_in(start: Checkpoint, deposit: DepositRow) -> Share:
-    """What a deposit has and has gained by the words of a checkpoint, without rounding.
-
-    What more than 16 rises of the scale have left, each a part of 10^-9, counts as nothing: less than 10^-100."""
-    balance, gain = Fraction(0), Fraction(-deposit.sum * deposit.amount, deposit.p)
-    for rise in range(RISES_MOST + 1):
-        place, over = (deposit.epoch, deposit.scale + rise), deposit.p * 10 ** (9 * rise)
-        grown = start.finished.get(place, 0)
-        if place == (start.epoch, start.scale):
-            balance, grown = Fraction(deposit.amount * start.p, over), start.sum
-        if grown:
-            gain += Fraction(grown * deposit.amount, over)
-    return Share(balance, gain)
 
 
 def rotating_client(checkpoint: Checkpoint) -> int:

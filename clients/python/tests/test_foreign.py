@@ -206,9 +206,14 @@ class SharesOfACheckpoint(unittest.TestCase):
         for account in range(3000):
             ledger.begin(account, Share(Fraction(1, 2**59 + 2 * account + 1), Fraction(account, 2**60 + 1)))
         ledger.offset(debt=1, coll=1, total=2)
-        self.assertLess(max(value.bit_length() for value in ledger.balances.values()), 200)
+        self.assertLess(max(bits_of(ledger, account) for account in ledger.accounts), 200)
         half = Fraction(1, 2 * (2**59 + 5))
         self.assertEqual(ledger.share(2), Share(half, half + Fraction(2, 2**60 + 1)))
+
+
+def bits_of(ledger: PlainLedger, account: int) -> int:
+    """How many binary places the numbers of a share have."""
+    return max(max(part.numerator, part.denominator).bit_length() for part in ledger.share(account))
 
 
 WAITS = """

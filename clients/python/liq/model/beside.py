@@ -209,4 +209,4 @@ def exact_rewards(market: Market) -> Dict[int, Fraction]:
         else:
             ledger.offset(event.debt, 0, event.total)
             total -= event.debt
-    return {account: ledger.share(account).gain for account in sorted(ledger.balances)}
+    return {account: ledger.share(account).gain for account in ledger.accounts}
