@@ -23,12 +23,12 @@ import secrets
 import sys
 import time
 from pathlib import Path
-from typing import List, NamedTuple, Optional, Tuple
+from typing import Dict, Iterator, List, NamedTuple, Optional
 
-from .backup import DAY, LARGEST, SECONDS
+from .backup import DAY, LARGEST, SECONDS, fronts
 from .ends import Folder, NoJournal, Unfit
 from .history import begun, digest_of, read_begin, replay, rotated, what_counts
-from .journal import FRONT_BYTES, SIDES, DamagedFile, Disk, is_open, open_file, pieces_of, read_header
+from .journal import FRONT_BYTES, DamagedFile, Disk, files_of, is_open, open_file, pieces_of, read_header
 from .scratch import bounded
 from .units import counted
 
@@ -60,7 +60,6 @@ class Left(NamedTuple):
     generation: int
     current: Path
     before: Optional[Path]
-    fronts: Tuple[bytes, ...]
 
 
 def archive(folder: Folder, directory: Folder) -> List[Kept]:
@@ -74,14 +73,15 @@ def archive(folder: Folder, directory: Folder) -> List[Kept]:
     folder, directory = Path(folder), Path(directory)
     end = time.monotonic() + SECONDS
     while True:
-        left = left_in(folder)
+        seen = fronts(files_of(folder))
         try:
-            made = _archived(left, directory)
-        except (Unfit, OSError):
-            if left_in(folder).fronts != left.fronts and time.monotonic() < end:
+            return _archived(left_in(folder), directory)
+        except (Unfit, OSError) as fault:
+            if fronts(files_of(folder)) != seen and time.monotonic() < end:
                 continue  # a rotation came between, so that some of what was read is of the one and some of the other
+            if isinstance(fault, DamagedFile):
+                raise NotArchived(directory, str(fault)) from None
             raise
-        return made
 
 
 def kept_in(directory: Folder) -> List[Kept]:
@@ -108,47 +108,108 @@ def read_kept(kept: Kept, most: int = LARGEST) -> Disk:
     return disk
 
 
+# ---- all generations
+
+
+class Source(NamedTuple):
+    """Where a generation is read: the file, and its copy in the archive, where it has one. One of them may be
+    missing."""
+
+    generation: int
+    file: Optional[Path]
+    kept: Optional[Kept]
+
+    @property
+    def path(self) -> Path:
+        """What is read of it: the copy, where there is one."""
+        path = self.kept.path if self.kept else self.file
+        assert path
+        return path
+
+    def read(self, most: int = LARGEST) -> Disk:
+        """The generation, whole. Raises `DamagedFile`, also where the file is not what the archive has of it."""
+        if self.kept is None:
+            return Disk(self.path, most)
+        disk = read_kept(self.kept, most)
+        if self.file is not None:
+            check_copy(self.kept, self.file)
+        return disk
+
+
+class Generations:
+    """Generations one behind the other, each of which is read when it comes, and each time anew: all at once would take
+    much memory. Each file may have `most` bytes."""
+
+    def __init__(self, found: List[Source], most: int = LARGEST) -> None:
+        self.found, self.most = found, most
+
+    def __iter__(self) -> Iterator[Disk]:
+        return (source.read(self.most) for source in self.found)
+
+
+def sources(folder: Folder, directory: Optional[Folder] = None) -> List[Source]:
+    """Where the generations of a market are, oldest first and without a gap: in an archive, and in its own folder.
+
+    Without an archive these are one or two. Raises `NotArchived` where the archive has a gap, or ends before the files
+    begin; `DamagedFile` where a file is of a generation that no rotation leaves there; `NoJournal`."""
+    left = left_in(Path(folder))
+    before, kept = left.generation - 1, []
+    if directory is not None:
+        if before and not Path(directory).is_dir():
+            raise NotArchived(directory, "it is no folder")
+        kept = kept_in(directory)
+        check_reaches(directory, kept, left)
+    found = [Source(copy.generation, left.before if copy.generation == before else None, copy) for copy in kept]
+    if left.before is not None and before not in [copy.generation for copy in kept]:
+        found.append(Source(before, left.before, None))
+    return [*found, Source(left.generation, left.current, None)]
+
+
 # ---- a copy
 
 
 def left_in(folder: Path) -> Left:
-    """What a folder has, by the fronts of its files. Raises `NoJournal` or `DamagedFile`."""
-    fronts, generations = [], {}
-    for path in (folder / f"{side}.liq" for side in SIDES):
-        front = b""
-        if path.exists():
-            with open_file(path) as file:
-                front = file.read(FRONT_BYTES)
-        fronts.append(front)
+    """What a folder has, by the fronts of its files. Raises `NoJournal`, or `DamagedFile` where a file is of a generation
+    that no rotation leaves there."""
+    generations: Dict[int, Path] = {}
+    for path in files_of(folder):
+        with open_file(path) as file:
+            front = file.read(FRONT_BYTES)
         if is_open(front):
             generations[read_header(path, front, path.stat().st_size).generation] = path
     if not generations:
         raise NoJournal(folder)
-    current = max(generations)
-    return Left(current, generations[current], generations.get(current - 1), tuple(fronts))
+    current, oldest = max(generations), min(generations)
+    if oldest < current - 1:
+        why = f"it has generation {oldest}, and beside generation {current} a rotation leaves {current - 1}"
+        raise DamagedFile(generations[oldest], 0, why)
+    return Left(current, generations[current], generations.get(current - 1))
 
 
 def _archived(left: Left, directory: Path) -> List[Kept]:
-    """Makes the copy, where there is one to make. Raises `NotArchived`."""
+    """Makes the copy, where there is one to make. Raises `NotArchived` and `DamagedFile`."""
     kept = kept_in(directory)
-    last, before = kept[-1].generation if kept else 0, left.generation - 1
-    if last > before:
-        raise NotArchived(directory, f"it has generation {last}, and the market is in generation {left.generation}")
-    if kept and last < before - (left.before is not None):
-        raise NotArchived(directory, f"generation {last + 1} is missing, and it is on no file")
+    check_reaches(directory, kept, left)
     if left.before is None:
         return []
-    try:
-        if last == before:
-            check_copy(kept[-1], left.before)
-            return []
-        disk = Disk(left.before, LARGEST)
-        if kept:
-            check_link(read_kept(kept[-1]), disk)
-        check_link(disk, read_begin(left.current, LARGEST))
-    except DamagedFile as damage:
-        raise NotArchived(directory, str(damage)) from None
+    if kept and kept[-1].generation == left.generation - 1:
+        check_copy(kept[-1], left.before)
+        return []
+    disk = Disk(left.before, LARGEST)
+    if kept:
+        check_link(read_kept(kept[-1]), disk)
+    check_link(disk, read_begin(left.current, LARGEST))
     return [_keep(disk, directory)]
+
+
+def check_reaches(directory: Folder, kept: List[Kept], left: Left) -> None:
+    """Raises `NotArchived` where an archive ends before the files of a folder begin, or goes on behind them."""
+    last, before = kept[-1].generation if kept else left.generation - 1, left.generation - 1
+    if last > before:
+        why = f"it has generation {last}, and the files are of generation {left.generation}, so they are older"
+        raise NotArchived(directory, why)
+    if last < before - (left.before is not None):
+        raise NotArchived(directory, f"generation {last + 1} is missing, and it is on no file")
 
 
 def check_link(disk: Disk, following: Disk) -> None:

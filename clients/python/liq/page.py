@@ -286,10 +286,9 @@ def main(words: List[str]) -> int:
     if asked is None:
         print("usage: python3 -m liq.page [--seconds N] FOLDER > page.html", file=sys.stderr)
         return 2
-    folder, seconds = asked
     try:
-        with bounded(seconds):
-            made = page(read_market(folder))
+        with bounded(asked.seconds):
+            made = page(read_market(asked.folder))
         sys.stdout.write(made)
     except Usage:
         print("page: this program does not have the word report", file=sys.stderr)

@@ -1,11 +1,13 @@
 """An audit with arithmetic of its own, beside that of `liq audit`.
 
-usage: python3 -m liq.recheck [--seconds N] FOLDER
+usage: python3 -m liq.recheck [--seconds N] [--archive DIR] FOLDER
 
 It copies both files, reads the commands, and has the program carry them out again in a folder of its own. From the
 replies it takes what each depositor put in and was paid, and what each liquidation took from the Stability Pool and
 brought to it. It follows each depositor through that in exact fractions (`shares`), and holds what the program has
 for it beside them. A `liquidate_lowest` is carried out as single ones, since its reply tells the sums alone.
+
+With an archive (`liq.archive`) it begins with the oldest generation there.
 
 It refuses where the market that it comes to is not the one on the files, word for word. It ends with 0 where all
 holds, with 1 where something does not or cannot be read, and with 2 where the words are not understood.
@@ -19,13 +21,15 @@ behind three places, and then what that comes to.
 """
 import sys
 from fractions import Fraction
+from itertools import chain
 from pathlib import Path
-from typing import Any, Container, Dict, Iterator, List, NamedTuple, Optional, Tuple
+from typing import Any, Container, Dict, Iterable, Iterator, List, NamedTuple, Optional, Tuple
 
+from .archive import Generations, sources
 from .backup import backup
 from .client import ACCOUNTS, LOWEST_MOST
 from .ends import End, Folder, Limit, Rotated, TooMuch, Unfit
-from .journal import Checkpoint, Command, Disk, Journal
+from .journal import BYTES_MOST, Checkpoint, Command, Disk, Journal
 from .refusals import Refusal
 from .scratch import bounded, scratch, words_of
 from .service import Service
@@ -73,17 +77,19 @@ class Row(NamedTuple):
 class Replay:
     """The commands of a journal, carried out again, and each depositor followed through them."""
 
-    def __init__(self, chain: List[Disk], folder: Path, program: Optional[Folder] = None) -> None:
+    def __init__(self, disks: Iterable[Disk], folder: Path, program: Optional[Folder] = None) -> None:
+        reading = iter(disks)
+        first = next(reading)
         self.ledger, self.allowances = PlainLedger(), Allowances()
         self.paid: Dict[int, int] = {}
         self.pool = self.brought = self.offsets = self.commands = 0
-        self.start = chain[0].checkpoint
+        self.start = first.checkpoint
         self.numbers = {client: row.last + 1 for client, row in self.start.clients.items()} if self.start else {}
         if self.start:
-            self._begin(chain[0], folder)
+            self._begin(first, folder)
         with Service(folder, program, create=self.start is None) as self.service:
-            for at, disk in enumerate(chain):
-                if at > 0 and disk.checkpoint:
+            for disk in chain([first], reading):
+                if disk is not first and disk.checkpoint:
                     self._ask(rotating_client(disk.checkpoint), "rotate")
                 for command in disk.commands:
                     self._carry_out(command)
@@ -198,21 +204,22 @@ class Result(NamedTuple):
     faults: List[str]
 
 
-def recheck(folder: Folder, program: Optional[Folder] = None) -> Result:
+def recheck(folder: Folder, program: Optional[Folder] = None, archive: Optional[Folder] = None) -> Result:
     """Rechecks the market of a folder, on copies. Raises `Differs` where its replay does not lead there.
 
-    The program opens the copies before they are followed, and refuses what the rules do not allow. There is no bound on
-    time here: `main` calls it within `scratch.bounded`.
+    With an archive all its generations are carried out too. The program opens the copies before they are followed, and
+    refuses what the rules do not allow. There is no bound on time here: `main` calls it within `scratch.bounded`.
     """
     with scratch(folder, "liq-recheck") as room:
         copied, again = room / "copy", room / "again"
         copied.mkdir()
         again.mkdir()
         backup(folder, copied)
-        chain = Journal(copied).chain
+        disks = Generations(sources(copied, archive), BYTES_MOST) if archive else Journal(copied).chain
+        numbers = last_numbers(disks)
         found, why = audited(copied, program)
-        replay = Replay(chain, again, program)
-        compare_markets(market(copied, program), market(again, program), last_numbers(chain))
+        replay = Replay(disks, again, program)
+        compare_markets(market(copied, program), market(again, program), numbers)
     rows = replay.rows()
     faults = [f"does not hold: {row}" for row in rows if not row.holds]
     faults += compare_sums(replay, rows) + (compare_audit(rows, found) if found else [])
@@ -241,10 +248,12 @@ def market(folder: Path, program: Optional[Folder]) -> Checkpoint:
     return found
 
 
-def last_numbers(chain: List[Disk]) -> Dict[int, int]:
-    """Each client's last number, by the records."""
-    numbers = {client: row.last for disk in chain if disk.checkpoint for client, row in disk.checkpoint.clients.items()}
-    for disk in chain:
+def last_numbers(disks: Iterable[Disk]) -> Dict[int, int]:
+    """Each client's last number, by the checkpoints and the records of generations, oldest first."""
+    numbers: Dict[int, int] = {}
+    for disk in disks:
+        for client, row in disk.checkpoint.clients.items() if disk.checkpoint else ():
+            numbers[client] = max(row.last, numbers.get(client, 0))
         for command in disk.commands:
             numbers[command.client] = max(command.number, numbers.get(command.client, 0))
     return numbers
@@ -332,14 +341,13 @@ def said_of(result: Result) -> Iterator[str]:
 
 
 def main(words: List[str]) -> int:
-    asked = words_of(words, SECONDS)
+    asked = words_of(words, SECONDS, takes_archive=True)
     if asked is None:
-        print("usage: python3 -m liq.recheck [--seconds N] FOLDER", file=sys.stderr)
+        print("usage: python3 -m liq.recheck [--seconds N] [--archive DIR] FOLDER", file=sys.stderr)
         return 2
-    folder, seconds = asked
     try:
-        with bounded(seconds):
-            result = recheck(folder)
+        with bounded(asked.seconds):
+            result = recheck(asked.folder, archive=asked.archive)
             said = list(said_of(result))
     except (Unfit, OSError, End) as fault:
         print(f"recheck refuses: {fault}")

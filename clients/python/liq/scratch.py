@@ -6,7 +6,7 @@ import signal
 import tempfile
 from pathlib import Path
 from types import FrameType
-from typing import Iterator, List, Optional, Tuple
+from typing import Iterator, List, NamedTuple, Optional
 
 from .ends import Folder, TooMuch
 from .journal import files_of
@@ -57,8 +57,22 @@ def bounded(seconds: int) -> Iterator[None]:
             signal.signal(number, handler)
 
 
-def words_of(words: List[str], seconds: int) -> Optional[Tuple[str, int]]:
-    """The folder and the bound of `[--seconds N] FOLDER`, where N is from 1 on; None where the words are others."""
-    if len(words) == 3 and words[0] == "--seconds" and words[1].isdecimal() and 1 <= int(words[1]) <= 10**9:
-        return words[2], int(words[1])
-    return (words[0], seconds) if len(words) == 1 else None
+class Asked(NamedTuple):
+    """What words ask for: a folder, a bound on time in seconds, and an archive, where one is named."""
+
+    folder: str
+    seconds: int
+    archive: Optional[str] = None
+
+
+def words_of(words: List[str], seconds: int, takes_archive: bool = False) -> Optional[Asked]:
+    """What `[--seconds N] FOLDER` asks for, where N is from 1 on, with `--archive DIR` in front of the folder too, where
+    that is taken; None where the words are others."""
+    if len(words) == 1:
+        return Asked(words[0], seconds)
+    asked = words_of(words[2:], seconds, takes_archive) if len(words) > 2 else None
+    if asked and words[0] == "--seconds" and words[1].isdecimal() and 1 <= int(words[1]) <= 10**9:
+        return asked._replace(seconds=int(words[1]))
+    if asked and words[0] == "--archive" and takes_archive:
+        return asked._replace(archive=words[1])
+    return None

@@ -71,6 +71,12 @@ class PlainLedger:
         balance, gain = self._behind.get(account, (0, 0))
         return Share(Fraction(balance, over), Fraction(gain, over))
 
+    @property
+    def sums(self) -> Share:
+        """The exact shares of all, where none of them began with one."""
+        rows = self._behind = self._behind or self._brought_up()
+        return Share(*(Fraction(sum(row[part] for row in rows.values()), self.denominator) for part in (0, 1)))
+
     def _move(self, account: int, balance: int, gain: int) -> None:
         had = self.moves[-1].get(account, (0, 0))
         self.moves[-1][account] = had[0] + balance, had[1] + gain

@@ -1,0 +1,119 @@
+"""What `audit`, `staking` and `rewards` would tell of a rotated market, whose generations an archive has kept.
+
+usage: python3 -m liq.across [--seconds N] --archive DIR audit|staking|rewards FOLDER < LINES
+
+The word of the program ends with 9 behind a rotation, since the commands before it are gone from the files. This goes
+through all generations by `liq.model`, from the first one on, as one history, and writes what the word would write. The
+lines are those of the word; `audit` takes none. AT of a staker's line counts the records of all generations, one behind
+the other; a rotation is none of them.
+
+It ends with 0; with 1 where it refuses, as of an archive that does not begin with the first generation; and with 2 where
+the words are not understood.
+"""
+import sys
+from typing import List, NamedTuple, Optional
+
+from .archive import Generations, NotArchived, sources
+from .backup import backup
+from .ends import Folder, TooMuch, Unfit
+from .history import begun, replay, rotated
+from .journal import BYTES_MOST
+from .model import Market, NoRequest
+from .model.beside import rewards_text, staking_text
+from .model.owed import audit_text
+from .recheck import SECONDS
+from .scratch import bounded, scratch, words_of
+from .service import LINES_OF_A_RUN
+
+WORDS = ("audit", "staking", "rewards")
+
+
+class BadLine(Unfit):
+    """A line is none of the word's."""
+
+    def __init__(self, word: str, line: str) -> None:
+        super().__init__(word, line)
+        self.word, self.line = word, line
+
+    def __str__(self) -> str:
+        return f"it is no line of {self.word}: {self.line!r}"
+
+
+class Past(NamedTuple):
+    """A market whose events were kept since its beginning, and how many records of all generations led to it. An event's
+    record is counted in these."""
+
+    market: Market
+    records: int
+
+
+def past_of(folder: Folder, archive: Optional[Folder] = None) -> Past:
+    """The whole past of a folder's market. Raises `NotArchived` where its first generation is not there, `DamagedFile`
+    where a generation is not as the rules have it, or does not lead to the next."""
+    market: Optional[Market] = None
+    records = 0
+    for disk in Generations(sources(folder, archive), BYTES_MOST):
+        if market is None and disk.checkpoint:
+            why = f"the generations before {disk.generation} are missing"
+            raise NotArchived(archive if archive is not None else folder, why)
+        market = begun(disk) if market is None else rotated(market, disk)
+        events = market.events = market.events or []
+        before = len(events)
+        replay(market, disk)
+        events[before:] = [event._replace(record=event.record + records) for event in events[before:]]
+        records += len(disk.commands)
+    assert market
+    return Past(market, records)
+
+
+def told(word: str, past: Past, lines: List[str]) -> List[str]:
+    """What a word tells. Raises `BadLine`."""
+    try:
+        if word == "audit":
+            return audit_text(past.market)
+        if word == "staking":
+            return staking_text(past.market.events or [], past.records, lines)
+        return rewards_text(past.market, lines)
+    except NoRequest as bad:
+        raise BadLine(word, str(bad)) from None
+
+
+def across(word: str, folder: Folder, archive: Optional[Folder] = None, lines: Optional[List[str]] = None) -> List[str]:
+    """What a word tells of a folder's market and of its archive, on copies."""
+    with scratch(folder, "liq-across") as room:
+        backup(folder, room)
+        return told(word, past_of(room, archive), lines or [])
+
+
+def read_lines() -> List[str]:
+    """The lines of standard input, of which there may be 1,000,000."""
+    lines = []
+    for line in sys.stdin:
+        lines.append(line[:-1] if line.endswith("\n") else line)
+        if len(lines) > LINES_OF_A_RUN:
+            raise TooMuch("the input has", LINES_OF_A_RUN, "lines")
+    return lines
+
+
+def main(words: List[str]) -> int:
+    *front, word, folder = words if len(words) > 1 else ("", "", "")
+    asked = words_of([*front, folder], SECONDS, takes_archive=True)
+    if asked is None or asked.archive is None or word not in WORDS:
+        print("usage: python3 -m liq.across [--seconds N] --archive DIR audit|staking|rewards FOLDER", file=sys.stderr)
+        return 2
+    try:
+        with bounded(asked.seconds):
+            said = across(word, folder, asked.archive, read_lines() if word != "audit" else [])
+    except (Unfit, OSError) as fault:
+        print(f"across refuses: {fault}")
+        return 1
+    except MemoryError:
+        print("across refuses: there is not enough memory")
+        return 1
+    for line in said:
+        print(line)
+    return 0
+
+
+if __name__ == "__main__":
+    sys.exit(main(sys.argv[1:]))

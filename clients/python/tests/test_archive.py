@@ -1,0 +1,296 @@
+"""Archives: what a rotation leaves behind is copied whole, once, and nothing else."""
+import contextlib
+import io
+import os
+import shutil
+import subprocess
+import sys
+from pathlib import Path
+from typing import List, Tuple
+from unittest import mock
+
+from liq import Journal, NoJournal, archive
+from liq.archive import NotArchived, kept_in
+from liq.history import digest_of
+from liq.journal import Command, Disk
+from liq.model import market_on
+
+from . import modelled
+from .market import TOP, InFolder, OverProgram
+
+GONE = "generation 2 is missing, and it is on no file"
+
+
+class Copies(InFolder):
+    def setUp(self) -> None:
+        super().setUp()
+        self.directory = self.folder / "archive"
+        self.made = modelled.two_depositors(self.folder / "market")
+
+    def archive(self) -> List[int]:
+        """The generations of which a call makes copies."""
+        return [kept.generation for kept in archive.archive(self.made.folder, self.directory)]
+
+    def generations(self) -> List[int]:
+        return [kept.generation for kept in kept_in(self.directory)]
+
+    def refused(self) -> str:
+        with self.assertRaises(NotArchived) as refused:
+            self.archive()
+        return refused.exception.why
+
+    def run_archive(self, *words: str) -> Tuple[int, str]:
+        with contextlib.redirect_stdout(io.StringIO()) as said, contextlib.redirect_stderr(said):
+            status = archive.main([str(word) for word in words])
+        return status, said.getvalue()
+
+    def test_each_generation_once(self) -> None:
+        self.assertEqual((self.archive(), self.directory.exists()), ([], False))
+        lines = []
+        for generation in range(1, 5):
+            lines.append([command.line for command in Journal(self.made.folder).current.commands])
+            self.made.rotate()
+            self.assertEqual((self.archive(), self.archive()), ([generation], []))
+            self.made.call(1, f"price {400 * 10**6 + generation}")
+            self.made.write()
+            self.assertEqual(self.archive(), [])
+        self.assertEqual(self.generations(), [1, 2, 3, 4])
+        for kept, of in zip(kept_in(self.directory), lines):
+            data = kept.path.read_bytes()
+            self.assertEqual(kept.path.name, f"{kept.generation:011}-{digest_of(data)}.liq")
+            self.assertEqual((kept.path.stat().st_mode & 0o777, kept.path.stat().st_nlink), (0o600, 1))
+            self.assertEqual([command.line for command in Disk(kept.path).commands], of)
+            self.assertEqual(data, archive.what_counts(Disk(kept.path)))
+
+    def test_what_stands_behind_the_last_record_is_left_out(self) -> None:
+        """A generation in the file of a longer one, and a byte that an opening sets."""
+        self.made.rotate()
+        self.archive()
+        self.made.rotate()
+        self.archive()
+        self.made.rotate()
+        left = self.made.folder / "left.liq"
+        self.assertGreater(left.stat().st_size, Disk(left).end + 1)
+        self.assertEqual(self.archive(), [3])
+        self.assertEqual(kept_in(self.directory)[-1].path.stat().st_size, Disk(left).end + 1)
+        data = bytearray(left.read_bytes())
+        data[Disk(left).end] = 7
+        left.write_bytes(data)
+        self.assertEqual(self.archive(), [])
+
+    def test_a_copy_is_a_market_of_its_own(self) -> None:
+        self.made.rotate()
+        self.archive()
+        shutil.copy(kept_in(self.directory)[0].path, self.folder / "left.liq")
+        market = market_on(Journal(self.folder).current)
+        self.assertEqual(market.pool_lusd, self.made.market.pool_lusd)
+
+    def test_an_archive_may_begin_late(self) -> None:
+        for _ in range(3):
+            self.made.rotate()
+        status, said = self.run_archive(self.made.folder, self.directory)
+        self.assertEqual((status, self.generations()), (0, [3]))
+        self.assertIn("has 1 generation, from generation 3 on; those before it are gone", said)
+
+    def test_a_gap(self) -> None:
+        self.made.rotate()
+        self.archive()
+        self.made.rotate()
+        self.made.rotate()
+        self.assertEqual(self.refused(), GONE)
+        os.truncate(self.made.folder / "right.liq", 0)
+        self.assertEqual(self.refused(), GONE)
+        self.assertEqual(self.generations(), [1])
+
+    def test_a_gap_within(self) -> None:
+        for _ in range(3):
+            self.made.rotate()
+            self.archive()
+        kept_in(self.directory)[1].path.unlink()
+        self.assertEqual(self.refused(), "generation 2 is missing")
+
+    def test_a_generation_that_is_there_twice(self) -> None:
+        self.made.rotate()
+        self.archive()
+        first = kept_in(self.directory)[0].path
+        shutil.copy(first, first.with_name(f"{1:011}-{'0' * 64}.liq"))
+        self.assertEqual(self.refused(), "generation 1 is there twice, and the two are not the same")
+
+    def test_damage(self) -> None:
+        self.made.rotate()
+        left, (kept,) = self.made.folder / "left.liq", archive.archive(self.made.folder, self.directory)
+        for path, why in ((kept.path, "its bytes are not those of its name"), (left, "it is not what")):
+            data = path.read_bytes()
+            path.write_bytes(data[:100] + bytes([data[100] ^ 1]) + data[101:])
+            self.assertIn(why, self.refused())
+            path.write_bytes(data)
+        self.assertEqual(self.archive(), [])
+        kept.path.unlink()
+        left.write_bytes(left.read_bytes()[:200] + b"x" + left.read_bytes()[201:])
+        self.assertEqual(self.refused(), "left.liq is damaged at 2: its digest is another")
+        self.assertEqual(self.generations(), [])
+
+    def test_records_that_came_later(self) -> None:
+        """A file that a copy is a front of, as that of a market which was brought back and went on."""
+        self.made.rotate()
+        self.archive()
+        other = modelled.two_depositors(self.folder / "other")
+        other.call(1, "price 450000000")
+        other.rotate()
+        shutil.copy(other.folder / "left.liq", self.made.folder / "left.liq")
+        self.assertIn("it is not what", self.refused())
+
+    def test_a_checkpoint_that_is_not_the_state_before(self) -> None:
+        self.made.rotate()
+        modelled.rewrite_checkpoint(
+            self.made.folder / "right.liq", lambda made: made._replace(minute=made.minute + 1))
+        self.assertEqual(
+            self.refused(), "right.liq is damaged at 0: generation 1 does not lead to it: minute: it has 1, and the commands"
+            " lead to 0")
+        self.assertEqual(self.generations(), [])
+
+    def test_another_market(self) -> None:
+        self.made.rotate()
+        self.archive()
+        self.made.rotate()
+        self.archive()
+        self.made.rotate()
+        other = modelled.two_depositors(self.folder / "other")
+        other.call(1, "advance 1")
+        for _ in range(3):
+            other.rotate()
+        for name in ("left.liq", "right.liq"):
+            shutil.copy(other.folder / name, self.made.folder / name)
+        self.assertIn("generation 2 does not lead to it", self.refused())
+        older = modelled.two_depositors(self.folder / "older")
+        self.made.folder = older.folder
+        self.assertEqual(self.refused(), "it has generation 2, and the files are of generation 1, so they are older")
+
+    def test_a_file_that_no_rotation_leaves(self) -> None:
+        for _ in range(3):
+            if self.made.market.generation == 2:
+                older = (self.made.folder / "right.liq").read_bytes()
+            self.made.rotate()
+        self.made.rotate()
+        (self.made.folder / "right.liq").write_bytes(older)
+        self.assertEqual(
+            self.refused(),
+            "right.liq is damaged at 0: it has generation 2, and beside generation 5 a rotation leaves 4")
+
+    def test_the_second_of_two_calls_at_once(self) -> None:
+        """One begins while the other one writes, and both give the copy its name."""
+        self.made.rotate()
+        real, inner = archive.what_counts, []
+
+        def written(disk: Disk) -> bytes:
+            if not inner:
+                inner.append(True)
+                self.assertEqual(self.archive(), [1])
+            return real(disk)
+
+        with mock.patch.object(archive, "what_counts", written):
+            self.assertEqual(self.archive(), [1])
+        self.assertEqual(len(list(self.directory.iterdir())), 1)
+
+    def test_a_rotation_comes_between(self) -> None:
+        """It writes over what was being read: that is a gap where nobody has archived it, and none where somebody has."""
+        self.made.rotate()
+        self.archive()
+        self.made.rotate()
+        self.made.call(1, "price 470000000")
+        self.made.write()
+        real, turned = archive.check_link, []
+
+        def rotated(disk: Disk, following: Disk) -> None:
+            if not turned:
+                turned.append(True)
+                if archives:
+                    self.archive()
+                self.made.rotate()
+                raise NotArchived(self.directory, "a mixture")
+            real(disk, following)
+
+        for archives in (False, True):
+            if archives:
+                self.made.rotate()
+                shutil.rmtree(self.directory)
+                turned.clear()
+            with mock.patch.object(archive, "check_link", rotated):
+                if archives:
+                    self.assertEqual(self.archive(), [5])
+                    self.assertEqual(self.generations(), [4, 5])
+                else:
+                    self.assertEqual(self.refused(), GONE)
+
+    def test_nothing_is_left_of_a_copy_that_failed(self) -> None:
+        self.made.rotate()
+        with mock.patch.object(os, "replace", side_effect=OSError(28, "No space left on device")):
+            self.assertRaises(OSError, self.archive)
+        self.assertEqual(list(self.directory.iterdir()), [])
+        (self.directory / ".00000000001-part").write_bytes(b"of a call that was killed")
+        self.assertEqual((self.archive(), self.generations()), ([1], [1]))
+
+    def test_a_journal_of_version_1(self) -> None:
+        """Rotated by the build of today, and by an earlier one."""
+        for version in (2, 1):
+            self.made, self.directory = modelled.Made(self.folder / f"of {version}", 1), self.folder / f"archive {version}"
+            self.made.call(1, "fund 1 5")
+            limit = self.made.market.limit
+            line = Command(modelled.ROTATING, 1, "rotate", (), (), ())
+            self.made.call(modelled.ROTATING, "rotate")
+            if version == 1:
+                self.made.market.limit = limit
+                self.made.disks.write(self.made.market, line, version=1)
+            self.made.write()
+            self.made.call(1, "fund 1 6")
+            self.made.write()
+            self.assertEqual(self.archive(), [1])
+            self.made.rotate()
+            self.assertEqual(self.archive(), [2])
+            self.assertEqual([Disk(kept.path).version for kept in kept_in(self.directory)], [1, version])
+
+    def test_words_and_statuses(self) -> None:
+        self.assertEqual(self.run_archive(self.made.folder)[0], 2)
+        self.assertEqual(self.run_archive(self.folder / "nothing", self.directory)[0], 1)
+        self.assertRaises(NoJournal, archive.archive, self.folder / "nothing", self.directory)
+        status, said = self.run_archive(self.made.folder, self.directory)
+        self.assertEqual((status, said), (0, "no rotation has left anything behind\n"))
+        self.made.rotate()
+        ran = subprocess.run(
+            [sys.executable, "-m", "liq.archive", self.made.folder, self.directory], stdout=subprocess.PIPE, text=True,
+            env={**os.environ, "PYTHONPATH": str(TOP / "clients/python")})
+        self.assertEqual(ran.returncode, 0)
+        self.assertRegex(ran.stdout, r"^generation 1: 00000000001-[0-9a-f]{64}\.liq\n.* from the first generation on\n$")
+        (self.made.folder / "left.liq").write_bytes(b"")
+        self.made.rotate()
+        self.made.rotate()
+        status, said = self.run_archive(self.made.folder, self.directory)
+        self.assertEqual((status, said), (1, f"archive refuses: {self.directory} is no archive of it: {GONE}\n"))
+
+
+class OfAClient(OverProgram):
+    """A client that is told of an archive sends no rotation before it has what that writes over."""
+
+    def test_each_rotation_is_behind_its_copy(self) -> None:
+        directory = self.folder / "archive"
+        client = self.service().client(1, archive=directory)
+        for account in range(1, 5):
+            client.fund(account, account)
+            self.assertEqual(client.rotate().generation, account + 1)
+        self.assertEqual([kept.generation for kept in kept_in(directory)], [1, 2, 3])
+        self.assertEqual([kept.generation for kept in archive.archive(self.folder / "market", directory)], [4])
+
+    def test_nothing_is_sent_over_a_gap(self) -> None:
+        directory, service = self.folder / "archive", self.service()
+        client, other = service.client(1, archive=directory), service.client(2)
+        for _ in range(2):
+            client.fund(1, 1)
+            client.rotate()
+        other.rotate()
+        other.rotate()
+        with self.assertRaises(NotArchived):
+            client.rotate()
+        self.assertEqual((service.system().records, client.next_number), (0, 5))
+        self.assertEqual(client.fund(1, 1), ())
+        other.rotate()
+        self.assertEqual(Journal(self.folder / "market").current.generation, 6)
