@@ -21,22 +21,23 @@ from .journal import BYTES_MOST
 from .model import Market, NoRequest
 from .model.beside import rewards_text, staking_text
 from .model.owed import audit_text
+from .model.requests import read_words
 from .recheck import SECONDS
 from .scratch import bounded, scratch, words_of
 from .service import LINES_OF_A_RUN
 
-WORDS = ("audit", "staking", "rewards")
+SHAPES = {"audit": (), "staking": ("vawv", "stake", "unstake"), "rewards": ("waav", "tag")}
 
 
-class BadLine(Unfit):
-    """A line is none of the word's."""
+class NoLine(Unfit):
+    """A line, counted from 1, is none of the word's."""
 
-    def __init__(self, word: str, line: str) -> None:
+    def __init__(self, word: str, line: int) -> None:
         super().__init__(word, line)
         self.word, self.line = word, line
 
     def __str__(self) -> str:
-        return f"it is no line of {self.word}: {self.line!r}"
+        return f"line {self.line} is none of {self.word}"
 
 
 class Past(NamedTuple):
@@ -67,15 +68,17 @@ def past_of(folder: Folder, archive: Optional[Folder] = None) -> Past:
 
 
 def told(word: str, past: Past, lines: List[str]) -> List[str]:
-    """What a word tells. Raises `BadLine`."""
-    try:
-        if word == "audit":
-            return audit_text(past.market)
-        if word == "staking":
-            return staking_text(past.market.events or [], past.records, lines)
-        return rewards_text(past.market, lines)
-    except NoRequest as bad:
-        raise BadLine(word, str(bad)) from None
+    """What a word tells. Raises `NoLine`."""
+    for at, line in enumerate(lines, 1):
+        try:
+            read_words(line, *SHAPES[word])
+        except NoRequest:
+            raise NoLine(word, at) from None
+    if word == "audit":
+        return audit_text(past.market)
+    if word == "staking":
+        return staking_text(past.market.events or [], past.records, lines)
+    return rewards_text(past.market, lines)
 
 
 def across(word: str, folder: Folder, archive: Optional[Folder] = None, lines: Optional[List[str]] = None) -> List[str]:
@@ -98,7 +101,7 @@ def read_lines() -> List[str]:
 def main(words: List[str]) -> int:
     *front, word, folder = words if len(words) > 1 else ("", "", "")
     asked = words_of([*front, folder], SECONDS, takes_archive=True)
-    if asked is None or asked.archive is None or word not in WORDS:
+    if asked is None or asked.archive is None or word not in SHAPES:
         print("usage: python3 -m liq.across [--seconds N] --archive DIR audit|staking|rewards FOLDER", file=sys.stderr)
         return 2
     try:

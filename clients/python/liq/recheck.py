@@ -29,7 +29,7 @@ from .archive import Generations, sources
 from .backup import backup
 from .client import ACCOUNTS, LOWEST_MOST
 from .ends import End, Folder, Limit, Rotated, TooMuch, Unfit
-from .journal import BYTES_MOST, Checkpoint, Command, Disk, Journal
+from .journal import BYTES_MOST, SIDES, Checkpoint, Command, Disk, Journal
 from .refusals import Refusal
 from .scratch import bounded, scratch, words_of
 from .service import Service
@@ -108,7 +108,8 @@ class Replay:
     def _begin(self, disk: Disk, folder: Path) -> None:
         """Begins with a checkpoint, and with the share that each deposit has there."""
         assert self.start
-        (folder / disk.path.name).write_bytes(disk.data[: disk.begin] + b"\0")
+        side = SIDES[(disk.generation + 1) % 2]
+        (folder / f"{side}.liq").write_bytes(disk.data[: disk.begin] + b"\0")
         self.pool = self.start.pool_lusd
         for account, deposit in self.start.deposits.items():
             self.ledger.begin(account, share_in(self.start, deposit))

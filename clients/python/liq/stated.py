@@ -4,6 +4,7 @@ Debt and LUSD are in millionths, collateral and gains are in gwei, as everywhere
 """
 import hashlib
 import json
+import re
 from fractions import Fraction
 from html import escape
 from typing import Any, Callable, Dict, Iterator, List, NamedTuple, Optional, Sequence, Tuple, Union
@@ -18,6 +19,7 @@ from .units import counted
 STATEMENT = 1  # the form of a statement
 DECIMAL_BITS = 128  # a fraction over more is spelt in hexadecimal, and cut off where it is shown
 PLACES = 9
+NUMBER = re.compile("-|-?[0-9./]+").fullmatch
 Cell = Union[int, str, Fraction, None]
 
 
@@ -195,12 +197,13 @@ def words_of(statement: Statement) -> List[Tuple[str, Cell]]:
     """What a statement is of: names and values."""
     market, last = statement.market, statement.generations[-1]
     return [
-        ("statement", STATEMENT), ("date", statement.day), ("generation", last.generation), ("records", last.records),
+        ("liq_statement", STATEMENT), ("date", statement.day), ("generation", last.generation), ("records", last.records),
         ("last_digest", last.last), ("minute", market.minute), ("price", market.price),
         ("mode", "recovery" if market.is_recovery() else "normal"), ("base_rate", market.base_rate),
-        ("shares_since_generation", statement.generations[0].generation), ("commands", statement.commands),
-        ("offsets", statement.offsets), ("shares_digest", digest_of_shares(statement.depositors)),
-        ("modules_digest", statement.made_by),
+        ("fee_minute", market.fee_minute), ("shares_since_generation", statement.generations[0].generation),
+        ("commands", statement.commands), ("offsets", statement.offsets),
+        ("shares_digest", digest_of_shares(statement.depositors)), ("modules_digest", statement.made_by),
+        ("units", "LUSD, debt and prices in millionths, ether in gwei"),
     ]
 
 
@@ -215,7 +218,7 @@ def _of_files(statement: Statement) -> Iterator[Table]:
         ("in", "name", "generation", "bytes", "SHA-256"), [tuple(row) for row in statement.files])
     yield Table(
         "generations", "Generations", ("generation", "version", "checkpoint_bytes", "records", "bytes", "sha256"),
-        ("generation", "version", "checkpoint", "records", "bytes", "SHA-256 of what counts"),
+        ("generation", "version", "checkpoint bytes", "records", "bytes", "SHA-256 of what counts"),
         [(row.generation, row.version, row.checkpoint, row.records, row.size, row.counts)
          for row in statement.generations])
     yield Table(
@@ -226,13 +229,13 @@ def _of_files(statement: Statement) -> Iterator[Table]:
 def _of_depositors(statement: Statement) -> Iterator[Table]:
     rows = [(row, row.short) for row in statement.depositors]
     yield Table(
-        "balances", "Depositors: LUSD in the Stability Pool, in millionths",
+        "balances", "Depositors: LUSD in the Stability Pool",
         ("account", "balance", "exact", "short", "allowance"),
         ("account", "balance", "exactly", "short by", "may be short by"),
         [(row.account, row.balance, row.share.balance, shown(short.balance), row.balance_allowance)
          for row, short in rows])
     yield Table(
-        "gains", "Depositors: ether gained, in gwei",
+        "gains", "Depositors: ether gained",
         ("account", "gain", "gained", "exact", "short", "allowance"),
         ("account", "to take", "gained in all", "exactly", "short by", "may be short by"),
         [(row.account, row.gain, row.gained, row.share.gain, shown(short.gain), row.gain_allowance)
@@ -243,12 +246,12 @@ def _of_accounts(statement: Statement) -> Iterator[Table]:
     market = statement.market
     yield Table(
         "troves", "Troves, with what is pending", ("account", "coll", "debt", "stake"),
-        ("account", "gwei", "debt in millionths", "stake"),
+        ("account", "ether", "debt", "stake"),
         [(account, *entire(market, trove), trove.stake) for account, trove in sorted(market.troves.items())])
     accounts = sorted({account for account, row in market.wallets.items() if any(row)} | market.surpluses.keys())
     yield Table(
         "wallets", "Wallets, and what owners may claim", ("account", "coll", "lusd", "surplus"),
-        ("account", "gwei", "millionths of LUSD", "gwei to claim"),
+        ("account", "ether", "LUSD", "ether to claim"),
         [(account, *market.wallet(account), market.surpluses.get(account, 0)) for account in accounts])
 
 
@@ -256,7 +259,7 @@ def _of_totals(statement: Statement) -> Iterator[Table]:
     market = statement.market
     coll, lusd = (sum(row[asset] for row in market.wallets.values()) for asset in (0, 1))
     yield Table(
-        "homes", "Homes", ("home", "coll", "lusd"), ("home", "gwei", "millionths of LUSD"),
+        "homes", "Homes", ("home", "coll", "lusd"), ("home", "ether", "LUSD"),
         [
             ("wallets", coll, lusd), ("active pool", market.active_coll, None), ("default pool", market.default_coll, None),
             ("Stability Pool", market.pool_coll, market.pool_lusd), ("surplus", market.surplus, None),
@@ -304,7 +307,8 @@ def not_checked(statement: Statement) -> List[str]:
         said.append("whether these are the files that their users saw: an earlier statement or copy shows that, or replies")
     return said + [
         "who sent a command, and whether prices and times were right",
-        "what came behind the last record", "whatever the rules of liq.model, by which all is worked out, have wrong",
+        "what came behind the last record",
+        "the rules of liq.model themselves: where they are wrong, so is this",
     ] + statement.left
 
 
@@ -315,7 +319,7 @@ def text(statement: Statement) -> str:
     """A statement as text."""
     lines = [f"{name.replace('_', ' ')}: {cell(value)}" for name, value in words_of(statement)]
     for table in tables(statement):
-        lines += ["", f"{table.title}: {counted(len(table.rows), 'row')}", *_aligned(table)]
+        lines += ["", f"{table.title}:", *_aligned(table)]
     for title, said in lists(statement):
         lines += ["", f"{title}:", *(f"- {line}" for line in said)]
     return "\n".join(lines) + "\n"
@@ -330,13 +334,14 @@ def lists(statement: Statement) -> List[Tuple[str, List[str]]]:
 def _aligned(table: Table) -> Iterator[str]:
     """A table's lines: numbers stand to the right, all else to the left."""
     if not table.rows:
+        yield "none"
         return
     rows = [table.heads, *(tuple(cell(value) for value in row) for row in table.rows)]
     widths = [max(map(len, column)) for column in zip(*rows)]
-    is_word = [all(isinstance(value, str) for value in column) for column in zip(*table.rows)]
+    is_number = [all(map(NUMBER, column)) for column in zip(*rows[1:])]
     for row in rows:
         line = "  ".join(
-            value.ljust(width) if word else value.rjust(width) for value, width, word in zip(row, widths, is_word))
+            value.rjust(width) if number else value.ljust(width) for value, width, number in zip(row, widths, is_number))
         yield line.rstrip()
 
 

@@ -201,8 +201,8 @@ class Earlier(NamedTuple):
         """Raises `NotStated` where a generation does not go on from what it was then."""
         records, digest = self.generations.get(disk.generation, (0, ""))
         if digest and generation_row(disk, records).counts != digest:
-            at = f"{counted(records, 'record')} of generation {disk.generation}"
-            raise NotStated(f"{disk.path.name} has not the first {at} of {self}")
+            first = f"the first {counted(records, 'record')} of generation {disk.generation}"
+            raise NotStated(f"{disk.path.name}: {first} are not those of {self}")
 
 
 def read_earlier(path: Folder) -> Earlier:
@@ -210,7 +210,7 @@ def read_earlier(path: Folder) -> Earlier:
     try:
         made = json.loads(read_file(path))
         rows = {int(row["generation"]): (int(row["records"]), str(row["sha256"])) for row in made["generations"]}
-        if made["statement"] != STATEMENT or not rows:
+        if made["liq_statement"] != STATEMENT or not rows:
             raise ValueError
         return Earlier(str(made["date"]), rows)
     except (ValueError, KeyError, TypeError, RecursionError):

@@ -45,14 +45,14 @@ class Made:
 
 
 def two_depositors(folder: Path) -> Made:
-    """Two depositors of 1,000 and 2,000 LUSD behind an offset of a third that the pool takes over."""
+    """Two depositors of 8,000 and 4,000 LUSD, behind an offset of a trove of 10 ether and 4,220 LUSD of debt."""
     made = Made(folder)
-    for account, coll in ((1, 10**10), (2, 10**11)):
+    for account, coll, lusd in ((1, 10**10, 4 * 10**9), (2, 10**11, 2 * 10**10)):
         made.call(1, f"fund {account} {coll}")
-        made.call(1, f"open {account} {coll} {4 * 10**9} {ANY_FEE} - -")
-    made.call(1, f"send 2 3 {10**9}")
-    made.call(2, f"provide 2 {2 * 10**9}")
-    made.call(2, f"provide 3 {10**9}")
+        made.call(1, f"open {account} {coll} {lusd} {ANY_FEE} - -")
+    made.call(1, f"send 2 3 {4 * 10**9}")
+    made.call(2, f"provide 2 {8 * 10**9}")
+    made.call(2, f"provide 3 {4 * 10**9}")
     made.call(1, "price 460000000")
     made.call(1, "liquidate 9 1")
     made.write()
