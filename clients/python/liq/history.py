@@ -95,8 +95,6 @@ def rotated(market: Market, following: Disk) -> Market:
     after = copy.copy(market)
     after.clients = dict(market.clients)
     try:
-        if after.clients.get(client, row) == row and client in after.clients:
-            raise DamagedFile(following.path, 0, f"{part}: the rotate of client {client} comes again")
         carry_out(after, Command(client, row.last, "rotate", (), (), ()))
     except Refusal as refusal:
         why = f"{part}: {refusal_text(refusal)} to {client} {row.last} rotate"

@@ -10,7 +10,7 @@ from pathlib import Path
 from typing import Dict, Optional, Sequence, Tuple
 from unittest import mock
 
-from liq import Journal, journal, recheck, scratch
+from liq import Journal, journal, recheck, scratch, statement
 from liq.ends import NoJournal, TooMuch
 from liq.journal import Checkpoint, DamagedFile, DepositRow, KeptReply
 from liq.shares import PlainLedger, Share
@@ -68,12 +68,14 @@ class Small(OverProgram):
         status, said = run("recheck", folder)
         self.assertEqual((status, said.splitlines()[0]), (0, "1 0 0.000 - 0 0.000 -"))
         self.assertEqual(run("page", folder)[0], 0)
+        self.assertEqual(run("statement", folder)[0], 0)
 
     def test_a_count_that_no_program_took(self) -> None:
         lines = ["1 1 fund 1 5", f"1 2 liquidate_lowest 1 {2**34}"]
         folder = self.made("count", b"", lines, generation=1)
         self.assertEqual(run("recheck", folder), (1, "recheck refuses: liq ended with 6, damaged left 2\n"))
         self.assertEqual(run("page", folder), (1, "page: liq ended with 6, damaged left 2\n"))
+        self.assertIn("left.liq is damaged at 2: the rules refuse it, no 12 17179869184 64: ", run("statement", folder)[1])
         (self.folder / "again").mkdir()
         with self.assertRaises(recheck.Differs) as differs:
             recheck.Replay(Journal(folder).chain, self.folder / "again")
@@ -88,7 +90,7 @@ class Small(OverProgram):
         ):
             folder = Path(self.made(name, foreign.bytes_of(self.small)))
             make(folder / "left.liq")
-            for tool in TOOLS:
+            for tool in (*TOOLS, "statement"):
                 status, told = run(tool, str(folder))
                 self.assertEqual((status, said in told), (1, True), told)
         self.assertEqual((self.folder / "small/right.liq").stat().st_size, size)
@@ -102,7 +104,7 @@ class Small(OverProgram):
             with self.assertRaises(DamagedFile) as damaged:
                 Journal(folder)
             self.assertIn(f"a {name} is 0", str(damaged.exception))
-            self.assertEqual([run(tool, folder)[0] for tool in TOOLS], [1, 1])
+            self.assertEqual([run(tool, folder)[0] for tool in (*TOOLS, "statement")], [1, 1, 1])
 
     def test_no_client_is_left_for_a_rotation(self) -> None:
         with self.assertRaises(recheck.Differs) as differs:
@@ -138,9 +140,11 @@ class Small(OverProgram):
             ("SHARES_BYTES_MOST", "the exact shares take more than 1 bytes"),
             ("SHARES_PLACES_MOST", "the exact shares have more than 1 binary places"),
         ):
-            with mock.patch.object(recheck, name, 1), self.assertRaises(TooMuch) as refused:
-                recheck.recheck(self.folder / "offset")
-            self.assertEqual(str(refused.exception), said)
+            for tool in (recheck.recheck, statement.statement):
+                here = sys.modules[tool.__module__]
+                with mock.patch.object(here, name, 1), self.assertRaises(TooMuch) as refused:
+                    tool(self.folder / "offset")
+                self.assertEqual(str(refused.exception), said)
 
 
 class Tables(InFolder):

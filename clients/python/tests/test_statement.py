@@ -17,7 +17,7 @@ from liq import Journal, across, archive, recheck, stated, statement
 from liq.archive import kept_in
 from liq.history import begun
 from liq.journal import Checkpoint, Command, DepositRow, Disk
-from liq.model import market_on
+from liq.model import Market, market_on
 from liq.model.amounts import ONE
 from liq.model.owed import audit_text
 from liq.model.sound import first_unsound
@@ -221,6 +221,34 @@ class WhatItSays(InFolder):
         self.assertEqual(status, 0)
         self.assertIn("- left.liq: behind the shut gate at 1097 stands record 9, 1 7 liquidate 9 1.", said)
         self.assertEqual(made.disks.index, 9)
+
+    def test_what_does_not_hold(self) -> None:
+        """As where the model had an error: a balance above the exact share, one too short, and sums that are others."""
+        modelled.two_depositors(self.market)
+        real = statement.position
+        for by, short, wrong in ((1, "-1/3", True), (-8, "26/3", False), (-9, "29/3", True)):
+            def other(market: Market, deposit: DepositRow, by: int = by) -> Tuple[int, int]:
+                balance, gain = real(market, deposit)
+                return balance + by * (deposit.amount == 8 * 10**9), gain
+
+            with mock.patch.object(statement, "position", other):
+                status, said = run_statement(self.market)
+                page = run_statement("--form", "page", self.market)[1]
+                made = json.loads(run_statement("--form", "json", self.market)[1])
+            line = f"account 2: balance short by {short}, gain short by 1/3"
+            self.assertEqual((status, f"Does not hold:\n- {line}\n" in said, f"<li>{line}</li>" in page), (wrong,) * 3)
+            self.assertEqual((made["holds"], made.get("does_not_hold")), (not wrong, [line] if wrong else None))
+        made = of(self.market)
+        for changed, line in (
+            (made._replace(brought=1), "the exact gains are what all offsets brought: 9950000000, 1"),
+            (made._replace(sums=Share(Fraction(1, 3), Fraction(9950000000))), "the exact balances are what the pool has: 1/3, 7780000000"),
+        ):
+            self.assertEqual(changed.faults, [line])
+        for name in ("active_debt", "brought", "reserve", "active_coll", "surplus"):
+            with mock.patch.object(made.market, name, getattr(made.market, name) + 1):
+                self.assertGreater(len(made.faults), 0, name)
+        made.market.default_coll = -1
+        self.assertIn("what is pending for troves, of the default collateral: 0 of -1", made.faults)
 
     def test_words_and_statuses(self) -> None:
         self.turned()
@@ -512,6 +540,32 @@ class Refused(InFolder):
         data[65 + 129 * 3] = 0
         first.path.write_bytes(data)
         self.assertIn("is damaged at 0: its bytes are not those of its name", self.refusal("--archive", self.directory)[0])
+
+    def test_an_archive_of_pipes_and_devices(self) -> None:
+        for _ in range(2):
+            self.rotate()
+        kept = kept_in(self.directory)[0].path
+        kept.unlink()
+        os.mkfifo(kept)
+        self.assertIn("is no regular file", self.refusal("--archive", self.directory)[0])
+        kept.unlink()
+        kept.symlink_to("/dev/zero")
+        self.assertIn("is no regular file", self.refusal("--archive", self.directory)[0])
+
+    def test_a_checkpoint_that_is_not_sound(self) -> None:
+        """Nothing stands before it that it could be compared with."""
+        self.rotate()
+        modelled.rewrite_checkpoint(self.right, lambda found: found._replace(brought=found.brought + 1))
+        self.left.write_bytes(b"")
+        self.assertEqual(self.refusal(), [
+            "right.liq is damaged at 0: its checkpoint breaks rule 3 of a sound state", "nothing stands before that"])
+        self.made.write()
+        modelled.rewrite_checkpoint(self.right, lambda found: found._replace(wallets={**found.wallets, 2**20 - 1: (0, 0)}))
+        self.assertIn("its checkpoint has an empty row in wallets", self.refusal()[0])
+        self.made.write()
+        modelled.rewrite_checkpoint(self.right, lambda found: found._replace(clients={
+            **found.clients, modelled.ROTATING: found.clients[modelled.ROTATING]._replace(values=(3, 0, 0, 0, 0, 0))}))
+        self.assertIn("no client of its checkpoint has begun generation 2", self.refusal()[0])
 
     def test_files_that_are_older_than_an_archive_or_a_statement(self) -> None:
         shutil.copytree(self.market, self.folder / "old")
