@@ -87,15 +87,20 @@ def archive(folder: Folder, directory: Folder) -> List[Kept]:
 def kept_in(directory: Folder) -> List[Kept]:
     """The copies in an archive, oldest first, by their names. Raises `NotArchived` where a generation is missing among
     them, or is there twice."""
-    paths = sorted(Path(directory).iterdir()) if Path(directory).is_dir() else []
-    found = [(path, NAMED(path.name)) for path in paths]
-    kept = [Kept(int(name[1]), path, name[2]) for path, name in found if name]
+    kept = named_in(directory)
     for one, following in zip(kept, kept[1:]):
         if following.generation == one.generation:
             raise NotArchived(directory, f"generation {one.generation} is there twice, and the two are not the same")
         if following.generation != one.generation + 1:
             raise NotArchived(directory, f"generation {one.generation + 1} is missing")
     return kept
+
+
+def named_in(directory: Folder) -> List[Kept]:
+    """What has the name of a copy, oldest first; nothing where there is no such folder."""
+    paths = sorted(Path(directory).iterdir()) if Path(directory).is_dir() else []
+    found = [(path, NAMED(path.name)) for path in paths]
+    return [Kept(int(name[1]), path, name[2]) for path, name in found if name]
 
 
 def read_kept(kept: Kept, most: int = LARGEST) -> Disk:

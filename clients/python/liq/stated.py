@@ -193,7 +193,7 @@ def cell(value: Cell) -> str:
     return "-" if value is None else str(value)
 
 
-def words_of(statement: Statement) -> List[Tuple[str, Cell]]:
+def facts_of(statement: Statement) -> List[Tuple[str, Cell]]:
     """What a statement is of: names and values."""
     market, last = statement.market, statement.generations[-1]
     return [
@@ -317,7 +317,7 @@ def not_checked(statement: Statement) -> List[str]:
 
 def text(statement: Statement) -> str:
     """A statement as text."""
-    lines = [f"{name.replace('_', ' ')}: {cell(value)}" for name, value in words_of(statement)]
+    lines = [f"{name.replace('_', ' ')}: {cell(value)}" for name, value in facts_of(statement)]
     for table in tables(statement):
         lines += ["", f"{table.title}:", *_aligned(table)]
     for title, said in lists(statement):
@@ -348,7 +348,7 @@ def _aligned(table: Table) -> Iterator[str]:
 def as_json(statement: Statement) -> str:
     """A statement as JSON. A fraction is a text, in lowest terms; one that text and page cut off stands there too, as
     they show it, under its key and `_shown`."""
-    made: Dict[str, Any] = dict(words_of(statement))
+    made: Dict[str, Any] = dict(facts_of(statement))
     for table in tables(statement):
         made[table.name] = [_object(table.keys, row) for row in table.rows]
     for title, said in lists(statement):
@@ -376,7 +376,7 @@ def page(statement: Statement) -> str:
     ]
     if statement.faults:
         parts.append('<p class="mark">It does not hold: see below.</p>')
-    parts += _html([], [[name.replace("_", " "), cell(value)] for name, value in words_of(statement)])
+    parts += _html([], [[name.replace("_", " "), cell(value)] for name, value in facts_of(statement)])
     for title, said in lists(statement):
         parts += [f"<h2>{escape(title)}</h2><ul>", *(f"<li>{escape(line)}</li>" for line in said), "</ul>"]
     for table in tables(statement):

@@ -19,6 +19,7 @@ before it stand for. It ends with 0 where all holds, with 1 where something does
 where the words are not understood. The folder and the archive may be anybody's: `liq.recheck` has the bounds.
 """
 import argparse
+import contextlib
 import hashlib
 import json
 import sys
@@ -26,12 +27,13 @@ from datetime import date, datetime, timezone
 from pathlib import Path
 from typing import Dict, Iterator, List, NamedTuple, Optional, Tuple
 
-from .archive import NotArchived, Source, sources
+from .archive import NotArchived, Source, named_in, sources
 from .backup import backup
 from .ends import Folder, TooMuch, Unfit
 from .guard import generation_of, look_at, said_of_records, said_of_shut
 from .history import begun, digest_of, replay, rotated
-from .journal import BYTES_MOST, FRONT_BYTES, RECORD_BYTES, DamagedFile, Disk, files_of, read_file, read_header
+from .journal import BYTES_MOST, FRONT_BYTES, RECORD_BYTES, DamagedFile, Disk
+from .journal import files_of, is_open, read_file, read_header
 from .model import Market, Offset, Own
 from .model.pool import position
 from .model.told import state_text
@@ -41,6 +43,8 @@ from .scratch import bounded, scratch
 from .shares import Allowances, PlainLedger, share_in
 from .stated import FORMS, STATEMENT, Depositor, FileRow, GenerationRow, Statement
 from .units import counted
+
+NOTHING = ("nothing stands before that",)
 
 
 class NotStated(Unfit):
@@ -130,9 +134,9 @@ class Followed:
         self.brought += event.coll
 
     def stands(self) -> Tuple[str, ...]:
-        """What all records that it went through stand for, as `state` tells it."""
+        """What all records that it went through stand for, as `state` tells it; nothing where there are none."""
         if self.market is None:
-            return ("nothing stands before that",)
+            return ()
         row = self.generations[-1]
         records = f"the first {counted(row.records, 'record')} of generation {row.generation}"
         return (f"{records}, up to the digest {row.last}, stand for", *state_text(self.market))
@@ -195,7 +199,8 @@ class Earlier(NamedTuple):
         return max(self.generations)
 
     def __str__(self) -> str:
-        return f"a statement of {self.day} over generation {self.last} with {counted(self.generations[self.last][0], 'record')}"
+        records = counted(self.generations[self.last][0], "record")
+        return f"a statement of {self.day} over generation {self.last} with {records}"
 
     def check(self, disk: Disk) -> None:
         """Raises `NotStated` where a generation does not go on from what it was then."""
@@ -221,22 +226,22 @@ def read_earlier(path: Folder) -> Earlier:
 
 
 def statement(
-    folder: Folder, directory: Optional[Folder] = None, day: str = "", earlier: Optional[Earlier] = None,
+    folder: Folder, archive: Optional[Folder] = None, day: str = "", earlier: Optional[Earlier] = None,
     bar: Optional[Bar] = None,
 ) -> Statement:
-    """A statement of a folder's market, and of its archive's generations. Raises `NotStated`, and other `Unfit`.
+    """A statement of a folder's market, and of an archive's generations. Raises `NotStated`, and other `Unfit`.
 
     There is no bound on time here: `main` calls it within `scratch.bounded`.
     """
     with scratch(folder, "liq-statement") as room:
         backup(folder, room)
-        return _stated(room, directory, day or today(), earlier, bar or Bar())
+        return _stated(room, archive, day or today(), earlier, bar or Bar())
 
 
-def _stated(room: Path, directory: Optional[Folder], day: str, earlier: Optional[Earlier], bar: Bar) -> Statement:
+def _stated(room: Path, archive: Optional[Folder], day: str, earlier: Optional[Earlier], bar: Bar) -> Statement:
     followed = Followed(bar)
     try:
-        chain = sources(room, directory)
+        chain = sources(room, archive)
         files = file_rows(room, chain)
         bar.begin("records", sum(row.size // RECORD_BYTES for row in files if row.generation))
         if earlier and earlier.last not in [source.generation for source in chain]:
@@ -246,8 +251,10 @@ def _stated(room: Path, directory: Optional[Folder], day: str, earlier: Optional
             if earlier:
                 earlier.check(disk)
         left = left_beside(room)
-    except (DamagedFile, NotArchived) as fault:
-        raise NotStated(str(fault), followed.stands()) from None
+    except NotArchived as gap:
+        raise NotStated(str(gap), stands_to(gap.directory) or NOTHING) from None
+    except DamagedFile as fault:
+        raise NotStated(str(fault), followed.stands() or stands_beside(room, fault.path) or NOTHING) from None
     market = followed.market
     assert market
     depositors = list(followed.depositors())
@@ -255,6 +262,29 @@ def _stated(room: Path, directory: Optional[Folder], day: str, earlier: Optional
     return Statement(
         day, files, followed.generations, followed.whole, market, depositors, followed.offsets, followed.brought, sums,
         left, str(earlier) if earlier else "", digest_of_modules())
+
+
+def stands_to(archive: Path) -> Tuple[str, ...]:
+    """What the copies of an archive stand for, from its oldest one up to a gap or damage."""
+    followed = Followed(Bar())
+    copies = named_in(archive)
+    with contextlib.suppress(DamagedFile):
+        for at, kept in enumerate(copies):
+            if kept.generation != copies[0].generation + at:
+                break
+            followed.through(Source(kept.generation, None, kept))
+    return followed.stands()
+
+
+def stands_beside(room: Path, damaged: Path) -> Tuple[str, ...]:
+    """What the other file of a folder stands for by itself."""
+    followed = Followed(Bar())
+    for path in files_of(room):
+        if damaged.parent == room and path != damaged and is_open(read_file(path)):
+            with contextlib.suppress(DamagedFile):
+                followed.through(Source(0, path, None))
+    stands = followed.stands()
+    return ("nothing stands before that, but beside it:", *stands) if stands else ()
 
 
 def left_beside(room: Path) -> List[str]:

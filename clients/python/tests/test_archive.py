@@ -5,11 +5,12 @@ import os
 import shutil
 import subprocess
 import sys
+import threading
 from pathlib import Path
 from typing import List, Tuple
 from unittest import mock
 
-from liq import Journal, NoJournal, archive
+from liq import Journal, NoJournal, Unfit, archive, statement
 from liq.archive import NotArchived, kept_in
 from liq.history import digest_of
 from liq.journal import Command, Disk
@@ -294,3 +295,32 @@ class OfAClient(OverProgram):
         self.assertEqual(client.fund(1, 1), ())
         other.rotate()
         self.assertEqual(Journal(self.folder / "market").current.generation, 6)
+
+    def test_beside_a_run_that_rotates(self) -> None:
+        """Another one archives all the while: neither is ever refused, and all generations are there."""
+        directory, market = self.folder / "archive", self.folder / "market"
+        client = self.service().client(1, archive=directory)
+        client.fund(1, 1)
+        done, faults = threading.Event(), []
+
+        def beside() -> None:
+            while not done.is_set():
+                try:
+                    archive.archive(market, directory)
+                except (Unfit, OSError) as fault:
+                    faults.append(fault)
+
+        other = threading.Thread(target=beside)
+        other.start()
+        try:
+            for account in range(40):
+                client.fund(account, 1)
+                client.rotate()
+        finally:
+            done.set()
+            other.join()
+        archive.archive(market, directory)
+        self.assertEqual((faults, [kept.generation for kept in kept_in(directory)]), ([], list(range(1, 41))))
+        self.assertEqual([path for path in directory.iterdir() if path.name.startswith(".")], [])
+        made = statement.statement(market, directory)
+        self.assertEqual((made.commands, made.faults, made.whole), (41, [], True))

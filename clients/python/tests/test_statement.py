@@ -355,6 +355,20 @@ class Refused(InFolder):
         self.left.write_bytes(b"")
         self.assertEqual(self.refusal(), ["right.liq is damaged at 0: its digest is another", "nothing stands before that"])
 
+    def test_the_other_file_beside_a_header_that_is_damaged(self) -> None:
+        self.rotate()
+        data = self.right.read_bytes()
+        self.right.write_bytes(data[:20] + b"x" + data[21:])
+        lines = self.refusal()
+        self.assertEqual(lines[1], "nothing stands before that, but beside it:")
+        self.check_stands(lines[1:], 1, 9, self.left)
+        self.made.write()
+        data = self.left.read_bytes()
+        self.left.write_bytes(data[:20] + b"x" + data[21:])
+        lines = self.refusal()
+        self.assertEqual(lines[0], "left.liq is damaged at 0: a checkpoint of 515396075520 bytes in generation 1")
+        self.check_stands(lines[1:], 2, 2, self.right)
+
     def test_a_gate_that_rotted(self) -> None:
         data = bytearray(self.left.read_bytes())
         data[65 + 129 * 4] = 0
@@ -518,9 +532,11 @@ class Refused(InFolder):
         for _ in range(4):
             self.rotate()
         self.assertEqual([kept.generation for kept in kept_in(self.directory)], [1, 2, 3])
-        kept_in(self.directory)[1].path.unlink()
-        self.assertEqual(self.refusal("--archive", self.directory), [
-            f"{self.directory} is no archive of it: generation 2 is missing", "nothing stands before that"])
+        first, second, _ = kept_in(self.directory)
+        second.path.unlink()
+        lines = self.refusal("--archive", self.directory)
+        self.assertEqual(lines[0], f"{self.directory} is no archive of it: generation 2 is missing")
+        self.check_stands(lines, 1, 9, first.path)
         kept_in_all = [path for path in self.directory.iterdir() if path.name.startswith("00000000003")]
         kept_in_all[0].unlink()
         self.assertIn("generation 2 is missing, and it is on no file", self.refusal("--archive", self.directory)[0])
