@@ -7,8 +7,8 @@ through all generations by `liq.model`, from the first one on, as one history, a
 lines are those of the word; `audit` takes none. AT of a staker's line counts the records of all generations, one behind
 the other; a rotation is none of them.
 
-It ends with 0; with 1 where it refuses, as of an archive that does not begin with the first generation; and with 2 where
-the words are not understood.
+It ends with 0; with 1 where it refuses, as of an archive that does not begin with the first generation, or where
+`audit` has a limit; and with 2 where the words are not understood.
 """
 import sys
 from typing import List, NamedTuple, Optional
@@ -41,8 +41,8 @@ class NoLine(Unfit):
 
 
 class Past(NamedTuple):
-    """A market whose events were kept since its beginning, and how many records of all generations led to it. An event's
-    record is counted in these."""
+    """A market whose events were kept since its beginning, and how many records of all generations led to it. An
+    event's record is counted in these."""
 
     market: Market
     records: int
@@ -115,7 +115,7 @@ def main(words: List[str]) -> int:
         return 1
     for line in said:
         print(line)
-    return 0
+    return 1 if said[0].startswith("limit ") else 0
 
 
 if __name__ == "__main__":

@@ -174,8 +174,8 @@ def sources(folder: Folder, directory: Optional[Folder] = None) -> List[Source]:
 
 
 def left_in(folder: Path) -> Left:
-    """What a folder has, by the fronts of its files. Raises `NoJournal`, or `DamagedFile` where a file is of a generation
-    that no rotation leaves there."""
+    """What a folder has, by the fronts of its files. Raises `NoJournal`, or `DamagedFile` where a file is of a
+    generation that no rotation leaves there."""
     generations: Dict[int, Path] = {}
     for path in files_of(folder):
         with open_file(path) as file:

@@ -61,8 +61,8 @@ def check_form(disk: Disk, made: Checkpoint) -> None:
     """Raises `DamagedFile` where a checkpoint has an empty row, or belongs to another header."""
     if (made.generation, made.version) != (disk.generation, disk.version):
         raise DamagedFile(
-            disk.path, 0, f"its header is of generation {disk.generation}, version {disk.version}, and its checkpoint of"
-            f" generation {made.generation}, version {made.version}",
+            disk.path, 0, f"its header is of generation {disk.generation}, version {disk.version}, and its checkpoint"
+            f" of generation {made.generation}, version {made.version}",
         )
     table = empty_row(made)
     if table:

@@ -66,8 +66,8 @@ class Asked(NamedTuple):
 
 
 def words_of(words: List[str], seconds: int, takes_archive: bool = False) -> Optional[Asked]:
-    """What `[--seconds N] FOLDER` asks for, where N is from 1 on, with `--archive DIR` in front of the folder too, where
-    that is taken; None where the words are others."""
+    """What `[--seconds N] FOLDER` asks for, where N is from 1 on, with `--archive DIR` in front of the folder too,
+    where that is taken; None where the words are others."""
     if len(words) == 1:
         return Asked(words[0], seconds)
     asked = words_of(words[2:], seconds, takes_archive) if len(words) > 2 else None

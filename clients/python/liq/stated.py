@@ -80,8 +80,8 @@ class Equal(NamedTuple):
 
 class Statement(NamedTuple):
     """A statement. `whole` says that it begins with the first generation; `sums` are the exact shares of all, where it
-    does. `left` is what a stop has left beside what counts, `earlier` the statement that it goes on from, and `made_by` the
-    SHA-256 of the modules that made it."""
+    does. `left` is what a stop has left beside what counts, `earlier` the statement that it goes on from, and `made_by`
+    the SHA-256 of the modules that made it."""
 
     day: str
     files: List[FileRow]
@@ -125,7 +125,8 @@ class Statement(NamedTuple):
     @property
     def faults(self) -> List[str]:
         """What does not hold."""
-        wrong = [f"{each.what}: {cell(each.here)}, {cell(each.there)}" for each in self.equals if each.here != each.there]
+        unequal = [each for each in self.equals if each.here != each.there]
+        wrong = [f"{each.what}: {cell(each.here)}, {cell(each.there)}" for each in unequal]
         wrong += [f"{what}: {has} of {of_all}" for what, has, of_all in self.within if has > of_all]
         return wrong + [
             f"account {row.account}: balance short by {shown(row.short.balance)}, gain short by {shown(row.short.gain)}"
@@ -136,12 +137,13 @@ class Statement(NamedTuple):
     def within(self) -> List[Tuple[str, int, int]]:
         """What may not be more than it is part of: the rest is dust of rounding."""
         market = self.market
-        spread = [pending(market, trove) for trove in market.troves.values()]
+        coll, debt = (sum(part) for part in zip((0, 0), *(pending(market, row) for row in market.troves.values())))
+        balances, gains = (sum(getattr(row, name) for row in self.depositors) for name in ("balance", "gain"))
         return [
-            ("what is pending for troves, of the default collateral", sum(row[0] for row in spread), market.default_coll),
-            ("what is pending for troves, of the default debt", sum(row[1] for row in spread), market.default_debt),
-            ("all balances, of the Stability Pool's LUSD", sum(row.balance for row in self.depositors), market.pool_lusd),
-            ("all gains, of the Stability Pool's ether", sum(row.gain for row in self.depositors), market.pool_coll),
+            ("what is pending for troves, of the default collateral", coll, market.default_coll),
+            ("what is pending for troves, of the default debt", debt, market.default_debt),
+            ("all balances, of the Stability Pool's LUSD", balances, market.pool_lusd),
+            ("all gains, of the Stability Pool's ether", gains, market.pool_coll),
         ]
 
 
@@ -197,8 +199,8 @@ def facts_of(statement: Statement) -> List[Tuple[str, Cell]]:
     """What a statement is of: names and values."""
     market, last = statement.market, statement.generations[-1]
     return [
-        ("liq_statement", STATEMENT), ("date", statement.day), ("generation", last.generation), ("records", last.records),
-        ("last_digest", last.last), ("minute", market.minute), ("price", market.price),
+        ("liq_statement", STATEMENT), ("date", statement.day), ("generation", last.generation),
+        ("records", last.records), ("last_digest", last.last), ("minute", market.minute), ("price", market.price),
         ("mode", "recovery" if market.is_recovery() else "normal"), ("base_rate", market.base_rate),
         ("fee_minute", market.fee_minute), ("shares_since_generation", statement.generations[0].generation),
         ("commands", statement.commands), ("offsets", statement.offsets),
@@ -261,9 +263,10 @@ def _of_totals(statement: Statement) -> Iterator[Table]:
     yield Table(
         "homes", "Homes", ("home", "coll", "lusd"), ("home", "ether", "LUSD"),
         [
-            ("wallets", coll, lusd), ("active pool", market.active_coll, None), ("default pool", market.default_coll, None),
-            ("Stability Pool", market.pool_coll, market.pool_lusd), ("surplus", market.surplus, None),
-            ("fees", market.fee_coll, market.fee_lusd), ("reserve", None, market.reserve),
+            ("wallets", coll, lusd), ("active pool", market.active_coll, None),
+            ("default pool", market.default_coll, None), ("Stability Pool", market.pool_coll, market.pool_lusd),
+            ("surplus", market.surplus, None), ("fees", market.fee_coll, market.fee_lusd),
+            ("reserve", None, market.reserve),
         ])
     yield Table(
         "equal", "What has to be the same", ("what", "here", "there"), ("what", "here", "there"),
@@ -276,13 +279,11 @@ def _of_totals(statement: Statement) -> Iterator[Table]:
 def checked(statement: Statement) -> List[str]:
     """What was checked."""
     first, last = statement.generations[0].generation, statement.generations[-1].generation
-    said = [
-        f"{counted(statement.commands, 'record')}: each one's digest, and that the rules accept it behind those before it",
-    ]
+    records = counted(statement.commands, "record")
+    said = [f"{records}: each one's digest, and that the rules accept it behind those before it"]
     if last > first:
-        said.append(
-            f"{counted(last - first, 'rotation')}: the checkpoint that follows is what the commands before lead to, to the"
-            " byte")
+        turns = counted(last - first, "rotation")
+        said.append(f"{turns}: the checkpoint that follows is what the commands before lead to, to the byte")
     if statement.whole:
         said.append("that the history begins with the first generation, so with an empty market")
         said.append("that no depositor is above its exact share, or short of it by more than it may be")
@@ -301,10 +302,10 @@ def not_checked(statement: Statement) -> List[str]:
     said = []
     if not statement.whole:
         said.append(
-            f"the commands before generation {first}, which are not here: its checkpoint is taken as true, exact shares count"
-            " from it on, and by how much they may fall short is not known")
+            f"the commands before generation {first}, which are not here: its checkpoint is taken as true, exact shares"
+            " count from it on, and by how much they may fall short is not known")
     if not statement.earlier:
-        said.append("whether these are the files that their users saw: an earlier statement or copy shows that, or replies")
+        said.append("whether these are the files that users saw: an earlier statement or copy shows that, or replies")
     return said + [
         "who sent a command, and whether prices and times were right",
         "what came behind the last record",
@@ -340,8 +341,8 @@ def _aligned(table: Table) -> Iterator[str]:
     widths = [max(map(len, column)) for column in zip(*rows)]
     is_number = [all(map(NUMBER, column)) for column in zip(*rows[1:])]
     for row in rows:
-        line = "  ".join(
-            value.rjust(width) if number else value.ljust(width) for value, width, number in zip(row, widths, is_number))
+        cells = zip(row, widths, is_number)
+        line = "  ".join(value.rjust(width) if number else value.ljust(width) for value, width, number in cells)
         yield line.rstrip()
 
 

@@ -175,8 +175,8 @@ def file_rows(folder: Path, chain: List[Source]) -> List[FileRow]:
     rows = []
     for source in chain:
         if source.kept:
-            size = source.kept.path.stat().st_size
-            rows.append(FileRow("archive", f"generation {source.generation}", source.generation, size, source.kept.digest))
+            name, size = f"generation {source.generation}", source.kept.path.stat().st_size
+            rows.append(FileRow("archive", name, source.generation, size, source.kept.digest))
     of_files = {source.file: source.generation for source in chain if source.file}
     for path in files_of(folder):
         data = read_file(path)
@@ -296,13 +296,14 @@ def left_beside(room: Path) -> List[str]:
         lines = said_of_records(each, current) if each.is_open else said_of_shut(each, current)
         for line in lines:
             if line.is_finding:
-                raise DamagedFile(each.path, each.records + 1 if each.is_open else 0, line.text)
+                why = line.text.partition(": ")[2]
+                raise DamagedFile(each.path, each.records + 1 if each.is_open else 0, why)
             said.append(line.text)
     return said
 
 
 def digest_of_modules() -> str:
-    """The SHA-256 of the package's modules, one behind the other by their names: each name, its length, and its bytes."""
+    """The SHA-256 of the package's modules, one behind the other by their names: each name, length, and its bytes."""
     package, found = Path(__file__).parent, hashlib.sha256()
     for path in sorted([*package.glob("*.py"), *package.glob("model/*.py")]):
         data = path.read_bytes()

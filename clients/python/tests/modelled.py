@@ -60,8 +60,8 @@ def two_depositors(folder: Path) -> Made:
 
 
 def crash(folder: Path, rotations: Iterable[int] = (), before: Optional[Callable[[], object]] = None) -> Made:
-    """A market in which the price falls, troves are liquidated, and depositors come and go, with rotations behind some of
-    its 120 steps. `before` is called in front of each."""
+    """A market in which the price falls, troves are liquidated, and depositors come and go, with rotations behind some
+    of its 120 steps. `before` is called in front of each."""
     chance, made, turns = random.Random(5), Made(folder), set(rotations)
     for account in range(1, 31):
         made.call(1, f"fund {account} {2 * 10**10}")
@@ -78,7 +78,8 @@ def crash(folder: Path, rotations: Iterable[int] = (), before: Optional[Callable
         one, two, three, four = (chance.randrange(1, 31) for _ in range(4))
         for call in (
             "liquidate_lowest 99 2", f"gain_to_trove {one} - -", f"withdraw {two} {chance.randrange(10**9)}",
-            f"provide {three} {chance.randrange(1, 10**9)}", f"redeem {four} {chance.randrange(1, 10**9)} {ANY_FEE} - -",
+            f"provide {three} {chance.randrange(1, 10**9)}",
+            f"redeem {four} {chance.randrange(1, 10**9)} {ANY_FEE} - -",
             f"claim {one}",
         ):
             made.call(1, call, may_fail=True)

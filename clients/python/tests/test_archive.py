@@ -146,8 +146,8 @@ class Copies(InFolder):
         modelled.rewrite_checkpoint(
             self.made.folder / "right.liq", lambda made: made._replace(minute=made.minute + 1))
         self.assertEqual(
-            self.refused(), "right.liq is damaged at 0: generation 1 does not lead to it: minute: it has 1, and the commands"
-            " lead to 0")
+            self.refused(), "right.liq is damaged at 0: generation 1 does not lead to it: minute: it has 1, and the"
+            " commands lead to 0")
         self.assertEqual(self.generations(), [])
 
     def test_another_market(self) -> None:
@@ -194,7 +194,7 @@ class Copies(InFolder):
         self.assertEqual(len(list(self.directory.iterdir())), 1)
 
     def test_a_rotation_comes_between(self) -> None:
-        """It writes over what was being read: that is a gap where nobody has archived it, and none where somebody has."""
+        """It writes over what was being read: a gap where nobody has archived it, and none where somebody has."""
         self.made.rotate()
         self.archive()
         self.made.rotate()
@@ -234,7 +234,8 @@ class Copies(InFolder):
     def test_a_journal_of_version_1(self) -> None:
         """Rotated by the build of today, and by an earlier one."""
         for version in (2, 1):
-            self.made, self.directory = modelled.Made(self.folder / f"of {version}", 1), self.folder / f"archive {version}"
+            self.made = modelled.Made(self.folder / f"of {version}", 1)
+            self.directory = self.folder / f"archive {version}"
             self.made.call(1, "fund 1 5")
             limit = self.made.market.limit
             line = Command(modelled.ROTATING, 1, "rotate", (), (), ())
@@ -261,7 +262,8 @@ class Copies(InFolder):
             [sys.executable, "-m", "liq.archive", self.made.folder, self.directory], stdout=subprocess.PIPE, text=True,
             env={**os.environ, "PYTHONPATH": str(TOP / "clients/python")})
         self.assertEqual(ran.returncode, 0)
-        self.assertRegex(ran.stdout, r"^generation 1: 00000000001-[0-9a-f]{64}\.liq\n.* from the first generation on\n$")
+        self.assertRegex(
+            ran.stdout, r"^generation 1: 00000000001-[0-9a-f]{64}\.liq\n.* from the first generation on\n$")
         (self.made.folder / "left.liq").write_bytes(b"")
         self.made.rotate()
         self.made.rotate()

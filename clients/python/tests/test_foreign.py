@@ -75,7 +75,8 @@ class Small(OverProgram):
         folder = self.made("count", b"", lines, generation=1)
         self.assertEqual(run("recheck", folder), (1, "recheck refuses: liq ended with 6, damaged left 2\n"))
         self.assertEqual(run("page", folder), (1, "page: liq ended with 6, damaged left 2\n"))
-        self.assertIn("left.liq is damaged at 2: the rules refuse it, no 12 17179869184 64: ", run("statement", folder)[1])
+        said = run("statement", folder)[1]
+        self.assertIn("left.liq is damaged at 2: the rules refuse it, no 12 17179869184 64: ", said)
         (self.folder / "again").mkdir()
         with self.assertRaises(recheck.Differs) as differs:
             recheck.Replay(Journal(folder).chain, self.folder / "again")

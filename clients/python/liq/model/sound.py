@@ -79,7 +79,8 @@ def has_sound_words(made: Checkpoint) -> bool:
     """The product, the sums and the place of the Stability Pool lie within their bounds."""
     most = PLACES_A_RECORD * RECORDS_MOST * (made.generation - 1)
     return (
-        PRODUCT_LEAST <= made.p <= ONE and made.sum <= GAIN_MOST * (ONE - made.p) and max(made.scale, made.epoch) <= most
+        PRODUCT_LEAST <= made.p <= ONE and made.sum <= GAIN_MOST * (ONE - made.p)
+        and max(made.scale, made.epoch) <= most
         and all(reached <= GAIN_MOST * ONE for reached in made.finished.values())
         and all(place < (made.epoch, made.scale) for place in made.finished)
     )
