@@ -243,7 +243,7 @@ def _stated(room: Path, archive: Optional[Folder], day: str, earlier: Optional[E
     try:
         chain = sources(room, archive)
         files = file_rows(room, chain)
-        bar.begin("records", sum(row.size // RECORD_BYTES for row in files if row.generation))
+        bar.begin("records", sum(source.path.stat().st_size // RECORD_BYTES for source in chain))
         if earlier and earlier.last not in [source.generation for source in chain]:
             raise NotStated(f"generation {earlier.last}, of {earlier}, is on none of the files: they can't be compared")
         for source in chain:
