@@ -217,7 +217,7 @@ def read_earlier(path: Folder) -> Earlier:
         rows = {int(row["generation"]): (int(row["records"]), str(row["sha256"])) for row in made["generations"]}
         if made["liq_statement"] != STATEMENT or not rows:
             raise ValueError
-        return Earlier(str(made["date"]), rows)
+        return Earlier(read_day(made["date"]), rows)
     except (ValueError, KeyError, TypeError, RecursionError):
         raise NotStated(f"{path} is no statement of this form, as JSON") from None
 

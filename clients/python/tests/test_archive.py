@@ -10,7 +10,7 @@ from pathlib import Path
 from typing import List, Tuple
 from unittest import mock
 
-from liq import Journal, NoJournal, Unfit, archive, statement
+from liq import Journal, NoJournal, Service, Unfit, archive, statement
 from liq.archive import NotArchived, kept_in
 from liq.history import digest_of
 from liq.journal import Command, Disk
@@ -20,6 +20,16 @@ from . import modelled
 from .market import TOP, InFolder, OverProgram
 
 GONE = "generation 2 is missing, and it is on no file"
+
+FULL = """
+import sys
+full = True
+for line in sys.stdin:
+    words = line.split()
+    full = full and words[2:] != ["rotate"]
+    reply = "1" if words[0] == "?" else "no 81 1000000" if full else "ok " + words[1]
+    print("ok 2" if words[2:] == ["rotate"] else reply, flush=True)
+"""
 
 
 class Copies(InFolder):
@@ -297,6 +307,19 @@ class OfAClient(OverProgram):
         self.assertEqual(client.fund(1, 1), ())
         other.rotate()
         self.assertEqual(Journal(self.folder / "market").current.generation, 6)
+
+    def test_a_full_journal(self) -> None:
+        """The command that finds it full sends `rotate` behind the archive; where that raises neither was sent."""
+        full = self.stand_in(FULL)
+        with Service(self.folder / "full", full, create=True) as market:
+            client = market.client(1, rotate_when_full=True, archive="archive")
+            with mock.patch.object(archive, "archive", side_effect=NotArchived("archive", "it has a gap")) as made:
+                self.assertRaises(NotArchived, client.advance, 1)
+            self.assertEqual((client.next_number, market.pending), (1, None))
+            made.assert_called_once_with(self.folder / "full", "archive")
+            with mock.patch.object(archive, "archive", return_value=[]) as made:
+                self.assertEqual((client.advance(1).minute, client.next_number), (2, 3))
+            made.assert_called_once_with(self.folder / "full", "archive")
 
     def test_beside_a_run_that_rotates(self) -> None:
         """Another one archives all the while: neither is ever refused, and all generations are there."""

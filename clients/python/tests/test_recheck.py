@@ -46,6 +46,34 @@ class Shares(unittest.TestCase):
         self.assertEqual(ledger.share(1), Share(Fraction(8, 3), Fraction(1, 7) + Fraction(20, 3)))
         self.assertEqual(ledger.share(2), Share(Fraction(4, 3), Fraction(10, 3)))
 
+    def test_from_halves_as_one_by_one(self) -> None:
+        """Drawn operations and offsets, some of the whole pool, beside fractions that are followed one by one."""
+        for seed in range(60):
+            chance, ledger = random.Random(seed), PlainLedger()
+            balances, gains = {}, {}
+            for account in range(chance.randrange(4)):
+                share = Share(*(Fraction(chance.randrange(99), chance.randrange(1, 9)) for _ in (0, 1)))
+                ledger.begin(account, share)
+                balances[account], gains[account] = share
+            for _ in range(chance.randrange(40)):
+                account, total = chance.randrange(6), chance.randrange(1, 99)
+                if chance.random() < 0.5:
+                    put, paid = chance.randrange(50), chance.randrange(5)
+                    ledger.change(account, put, paid)
+                    balances[account] = balances.get(account, Fraction(0)) + put - paid
+                    gains.setdefault(account, Fraction(0))
+                else:
+                    debt, coll = chance.choice((total, chance.randrange(total))), chance.randrange(30)
+                    ledger.offset(debt, coll, total)
+                    gains = {each: gains[each] + balances[each] * coll / total for each in gains}
+                    balances = {each: balances[each] * (total - debt) / total for each in balances}
+                if chance.random() < 0.1:
+                    ledger.share(account)
+            found = {each: ledger.share(each) for each in ledger.accounts}
+            self.assertEqual(found, {each: Share(balances[each], gains[each]) for each in sorted(balances)})
+            if not any(over > 1 for over in ledger.begun.values()):
+                self.assertEqual(ledger.sums, Share(sum(balances.values()), sum(gains.values())))
+
     def test_allowances(self) -> None:
         allowed = Allowances()
         allowed.change(1, 100)

@@ -260,7 +260,10 @@ class WhatItSays(InFolder):
                       ["--date", "20260101", "x"], ["--seconds", "0", self.market], ["--arch", "x", self.market]):
             status, said = run_statement(*words)
             self.assertEqual((status, said[:7]), (2, "usage: "), words)
+        (self.folder / "other.json").write_text(
+            run_statement("--form", "json", self.market)[1].replace(f'"{DAY}"', '"\\u001b[2J"'))
         for words in ([self.folder / "nothing"], ["--earlier", self.market / "left.liq", self.market],
+                      ["--earlier", self.folder / "other.json", self.market],
                       ["--seconds", "1", "--earlier", "/dev/zero", self.market]):
             status, said = run_statement(*words)
             self.assertEqual((status, said[:19]), (1, "statement refuses: "), words)
@@ -306,7 +309,10 @@ class WhatItSays(InFolder):
                 self.assertEqual(bar.shown, 0)  # too soon
                 bar.next = 0.0
                 bar.add()
-            shown = os.read(terminal, 1000).decode()
+        shown = ""
+        with contextlib.suppress(OSError):  # of a terminal that nobody has open any more
+            while True:
+                shown += os.read(terminal, 1000).decode()
         os.close(terminal)
         self.assertIn("\r[########################                ]  60% records", shown)
         self.assertRegex(shown, "records\r {55}\r$")
