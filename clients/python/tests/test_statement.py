@@ -13,7 +13,7 @@ from pathlib import Path
 from typing import Any, Callable, Dict, Iterator, List, Optional, Tuple
 from unittest import mock
 
-from liq import Journal, across, archive, recheck, stated, statement
+from liq import Journal, across, archive, guard, recheck, stated, statement
 from liq.archive import kept_in
 from liq.history import begun
 from liq.journal import Checkpoint, Command, DepositRow, Disk
@@ -206,6 +206,22 @@ class WhatItSays(InFolder):
         digests = [kept.digest for kept in kept_in(self.directory)]
         self.assertEqual([row.counts for row in made.generations[:2]], digests)
         self.assertEqual([row.version for row in made.generations], [2, 2, 2])
+
+    def test_a_journal_of_version_1_and_a_note_of_the_guard(self) -> None:
+        """The last digest is the guard's: that of the last record, or of the header where there is none."""
+        made = Made(self.market, 1)
+        for step, versions in enumerate(([1], [1, 2], [1, 2])):
+            if step == 0:
+                made.call(1, "fund 1 5")
+            elif step == 1:
+                made.rotate()
+            else:
+                made.call(1, "fund 1 6")
+            made.write()
+            found = of(self.market)
+            self.assertEqual(([row.version for row in found.generations], found.faults), (versions, []))
+            note, last = guard.note_of(guard.look(self.market).current), found.generations[-1]
+            self.assertEqual((note.generation, note.records, note.digest), (last.generation, last.records, last.last))
 
     def test_a_program_is_not_wanted(self) -> None:
         self.turned(20, 70)
