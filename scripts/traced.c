@@ -150,6 +150,7 @@ static struct task *task_of(pid_t id) {
 static size_t copy_from(pid_t id, unsigned long from, void *to, size_t count) {
     struct iovec here = {to, count}, there = {(void *)from, count};
     ssize_t got = process_vm_readv(id, &here, 1, &there, 1, 0);
+    if (got < 0 && (errno == EPERM || errno == ENOSYS)) die("the program's memory can't be read");
     return got < 0 ? 0 : (size_t)got;
 }
 
@@ -234,7 +235,7 @@ static struct fault *fault_of(struct task *task) {
 }
 
 static void set(pid_t id, struct user_regs_struct *to) {
-    if (ptrace(PTRACE_SETREGS, id, 0, to) < 0) die("the registers can't be set");
+    if (ptrace(PTRACE_SETREGS, id, 0, to) < 0 && errno != ESRCH) die("the registers can't be set");
 }
 
 static int is_break(const struct task *task) {
@@ -359,7 +360,10 @@ static int follow(void) {
         long number = 0;
         if (WSTOPSIG(status) == (SIGTRAP | 0x80)) {
             struct __ptrace_syscall_info told;
-            if (ptrace(PTRACE_GET_SYSCALL_INFO, id, sizeof told, &told) < 0) die("the system does not tell a call's begin");
+            if (ptrace(PTRACE_GET_SYSCALL_INFO, id, sizeof told, &told) < 0) {
+                if (errno == ESRCH) continue; /* a thread whose process ends meanwhile */
+                die("the system does not tell a call's begin");
+            }
             if (told.op == PTRACE_SYSCALL_INFO_ENTRY)
                 enter(task);
             else
