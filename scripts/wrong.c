@@ -5,10 +5,13 @@
    half-datasync     every second fdatasync does nothing
    late-datasync     fdatasync is made behind the next reply
    deaf-datasync     fdatasync tells no fault
+   no-serve-sync     fdatasync does nothing where the word is serve
    no-folder-sync    fsync of a folder does nothing
    deaf-folder-sync  fsync tells no fault
+   other-folder-sync fsync of a folder syncs the one around it
    no-lock           flock does nothing
    deaf-lock         flock tells no fault
+   late-lock         flock is made behind the first read of its file
    truncating        a file that is opened to be written is emptied
    open-mode         a file is made with the mode 0644
    through-links     a file may be made behind a link, and where there is one already
@@ -45,6 +48,13 @@
 static int is(const char *way) {
     const char *wrong = getenv("WRONG");
     return wrong && !strcmp(wrong, way);
+}
+
+static int is_serve;
+
+/* The C library of GNU hands a program's words to what begins before it. */
+__attribute__((constructor)) static void begin(int count, char **words) {
+    is_serve = count > 1 && !strcmp(words[1], "serve");
 }
 
 static int left = -1, right = -1;
@@ -144,7 +154,7 @@ static int late = -1;
 
 int fdatasync(int fd) {
     static int count;
-    if (is("no-datasync") || is("lazy") || is("early-replies") || (is("half-datasync") && count++ % 2)) return 0;
+    if (is("no-datasync") || (is("no-serve-sync") && is_serve) || is("lazy") || is("early-replies") || (is("half-datasync") && count++ % 2)) return 0;
     if (is("late-datasync")) {
         late = fd;
         return 0;
@@ -155,13 +165,23 @@ int fdatasync(int fd) {
 
 int fsync(int fd) {
     struct stat told;
-    if (is("no-folder-sync") && !fstat(fd, &told) && S_ISDIR(told.st_mode)) return 0;
-    int answer = syscall(SYS_fsync, fd);
+    int is_folder = !fstat(fd, &told) && S_ISDIR(told.st_mode);
+    if (is("no-folder-sync") && is_folder) return 0;
+    int other = is("other-folder-sync") && is_folder ? syscall(SYS_openat, fd, "..", O_RDONLY) : -1;
+    int answer = syscall(SYS_fsync, other < 0 ? fd : other);
+    if (other >= 0) close(other);
     return is("deaf-folder-sync") ? 0 : answer;
 }
 
+static int unheld[2] = {-1, -1}, lock;
+
 int flock(int fd, int how) {
     if (is("no-lock") || is("two-files")) return 0;
+    if (is("late-lock")) {
+        unheld[fd == right] = fd;
+        lock = how;
+        return 0;
+    }
     int told = syscall(SYS_flock, fd, how);
     return is("deaf-lock") ? 0 : told;
 }
@@ -184,7 +204,13 @@ ssize_t pwrite64(int fd, const void *bytes, size_t count, off_t at) __attribute_
 
 ssize_t pread(int fd, void *bytes, size_t count, off_t at) {
     write_waiting();
-    return syscall(SYS_pread64, fd, bytes, count, at);
+    ssize_t told = syscall(SYS_pread64, fd, bytes, count, at);
+    for (int which = 0; which < 2; which++)
+        if (unheld[which] == fd) {
+            unheld[which] = -1;
+            if (syscall(SYS_flock, fd, lock)) return -1;
+        }
+    return told;
 }
 
 ssize_t pread64(int fd, void *bytes, size_t count, off_t at) __attribute__((alias("pread")));
