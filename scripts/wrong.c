@@ -19,6 +19,7 @@
    deaf-write        a write tells no fault
    gate-first        the gate of a record is opened before the record is written
    other-file        what is written to left.liq goes to right.liq
+   deaf-look         where the system tells nothing of a file it is told to be the user's own
    no-kinds          each file is told to be a regular one
    no-modes          no file is told to be one that others may write
    no-owners         each file is told to be the user's own
@@ -245,6 +246,12 @@ ssize_t write(int fd, const void *bytes, size_t count) {
 
 int statx(int folder, const char *path, int flags, unsigned mask, struct statx *found) {
     int told = syscall(SYS_statx, folder, path, flags, mask, found);
+    if (told < 0 && errno != ENOENT && is("deaf-look")) {
+        memset(found, 0, sizeof *found);
+        found->stx_mode = S_IFREG | 0600;
+        found->stx_uid = geteuid();
+        told = 0;
+    }
     if (told == 0 && is("no-kinds")) found->stx_mode = (found->stx_mode & ~S_IFMT) | S_IFREG;
     if (told == 0 && is("no-modes")) found->stx_mode &= ~S_IWOTH;
     if (told == 0 && is("no-owners")) found->stx_uid = geteuid();
