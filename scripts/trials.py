@@ -4,6 +4,7 @@ them, and what the next run must find behind some of them."""
 import os
 import random
 import shutil
+import signal
 import subprocess
 import sys
 import tempfile
@@ -56,23 +57,31 @@ def c_compiler() -> str:
     return compiler
 
 
-def compiled(name: str, folder: str, *words: str) -> str:
-    """What a C compiler makes of scripts/NAME.c, in this folder."""
-    made = os.path.join(folder, name)
-    ran = subprocess.run([c_compiler(), "-O1", *words, "-o", made, os.path.join(SCRIPTS, f"{name}.c")], stderr=subprocess.PIPE, text=True)
+def compiled(name: str, folder: str, *words: str, text: Optional[str] = None) -> str:
+    """What a C compiler makes of scripts/NAME.c or of this text, in this folder."""
+    made, source = os.path.join(folder, name), os.path.join(SCRIPTS, f"{name}.c")
+    if text is not None:
+        source = os.path.join(folder, f"{name}.c")
+        with open(source, "w") as file:
+            file.write(text)
+    # Where it is ended early it leaves files in TMPDIR.
+    ran = subprocess.run([c_compiler(), "-O1", *words, "-o", made, source], stderr=subprocess.PIPE, text=True, env={**os.environ, "TMPDIR": folder})
     if ran.returncode:
         lines = ran.stderr.splitlines() or [""]
-        raise Skipped(f"the C compiler does not take scripts/{name}.c: {lines[0]}")
+        raise Skipped(f"the C compiler does not take {os.path.basename(source)}: {lines[0]}")
     return made
 
 
-def compiled_front(name: str, folder: str) -> str:
+def compiled_front(name: str, folder: str, text: Optional[str] = None) -> str:
     """The same, as a library that is put in front of the C library."""
-    return compiled(name, folder, "-fno-builtin", "-shared", "-fPIC")
+    return compiled(name, folder, "-fno-builtin", "-shared", "-fPIC", text=text)
 
 
 def working_folder() -> "tempfile.TemporaryDirectory[str]":
-    """A folder in memory, where there is one in which programs may run: what is tried syncs often."""
+    """A folder in memory, where there is one in which programs may run: what is tried syncs often. A signal that ends this leaves none."""
+    for number in (signal.SIGHUP, signal.SIGTERM):
+        if signal.getsignal(number) == signal.SIG_DFL:
+            signal.signal(number, lambda number, _: sys.exit(128 + number))
     memory = "/dev/shm"
     serves = os.access(memory, os.W_OK) and not os.statvfs(memory).f_flag & os.ST_NOEXEC
     return tempfile.TemporaryDirectory(prefix="liq-", dir=memory if serves else None)
