@@ -376,10 +376,10 @@ static int follow(void) {
 }
 
 static void read_fault(const char *words) {
-    struct fault *fault = &faults[fault_count++];
     char way[16];
-    if (fault_count > FAULTS_MOST ||
-        sscanf(words, "%ld:%15[a-z]:%ld:%ld:%ld", &fault->number, way, &fault->value, &fault->left, &fault->bytes) != 5)
+    if (fault_count == FAULTS_MOST) die("too many faults");
+    struct fault *fault = &faults[fault_count++];
+    if (sscanf(words, "%ld:%15[a-z]:%ld:%ld:%ld", &fault->number, way, &fault->value, &fault->left, &fault->bytes) != 5)
         die("no fault");
     if (!fault->left) fault->left = -1;
     int is_known = 0;

@@ -129,7 +129,7 @@ class Script:
         how many it found."""
         ended = runner.run_next(folder, [*QUERIES, *self.lines[answered:], *QUERIES])
         wanted = "".join(self.replies[answered:]) + self.states[-1]
-        for count in (answered, answered + 1)[:1 + (answered < len(self.lines))]:
+        for count in range(answered, min(answered + 1, len(self.lines)) + 1):
             if ended == (0, self.states[count] + wanted):
                 return count
         told = difference(ended.out, self.states[answered] + wanted)

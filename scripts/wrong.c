@@ -1,5 +1,6 @@
 /* Makes a wrong program of liq: put in front of its C library, it lets calls do something else than what they are asked for. What
-   WRONG says decides which. With it a trial is seen to fail. For the --self-test of scripts/edge, faults, power and kill.
+   WRONG says decides which. With it a trial is seen to fail. For the --self-test of scripts/edge, faults, power, kill
+   and refused-memory.
 
    no-datasync       fdatasync does nothing
    half-datasync     every second fdatasync does nothing
