@@ -124,12 +124,12 @@ class Script:
             raise Wrong(f"{out!r} is no beginning of the replies")
         return out.count("\n")
 
-    def go_on(self, runner: "Runner", folder: str, answered: int) -> int:
-        """The next run: it finds what these lines led to, or one more, and answers the others, of which the first may come again. Gives
+    def go_on(self, runner: "Runner", folder: str, answered: int, more: int = 1) -> int:
+        """The next run: it finds what these lines led to, or so many more, and answers the others, of which the first may come again. Gives
         how many it found."""
         ended = runner.run_next(folder, [*QUERIES, *self.lines[answered:], *QUERIES])
         wanted = "".join(self.replies[answered:]) + self.states[-1]
-        for count in range(answered, min(answered + 1, len(self.lines)) + 1):
+        for count in range(answered, min(answered + more, len(self.lines)) + 1):
             if ended == (0, self.states[count] + wanted):
                 return count
         told = difference(ended.out, self.states[answered] + wanted)

@@ -35,6 +35,7 @@
    rewriting         a file that is there is emptied and written anew when it is opened
    lazy              what is written to the two files goes there once eight writes have come, or at the end
    lost-record       where the program ends with 7 its last write of the two files is taken back
+   late-refusal      the last reply before `no memory` is not written
    other-status      the program ends with 5 where it should with 7 */
 #define _GNU_SOURCE
 #include <dlfcn.h>
@@ -223,10 +224,27 @@ ssize_t read(int fd, void *bytes, size_t count) {
     return told < 0 && fd == 0 && is_deaf ? 0 : told;
 }
 
+#define REPLY_MOST 4096
+static char held[REPLY_MOST];
+static size_t held_count;
+
+/* Each reply is written once the next one comes. */
+static ssize_t write_before(const void *bytes, size_t count) {
+    static const char no_memory[] = "no memory\n";
+    int is_refusal = count == sizeof no_memory - 1 && !memcmp(bytes, no_memory, count);
+    if (held_count && !is_refusal) syscall(SYS_write, 1, held, held_count);
+    held_count = 0;
+    if (is_refusal || count > sizeof held) return syscall(SYS_write, 1, bytes, count);
+    memcpy(held, bytes, count);
+    held_count = count;
+    return count;
+}
+
 static char kept[1 << 20];
 static size_t kept_count;
 
 ssize_t write(int fd, const void *bytes, size_t count) {
+    if (is("late-refusal") && fd == 1) return write_before(bytes, count);
     if (is("kept-replies") && fd == 1 && kept_count + count <= sizeof kept) {
         memcpy(kept + kept_count, bytes, count);
         kept_count += count;
@@ -264,6 +282,7 @@ int statx(int folder, const char *path, int flags, unsigned mask, struct statx *
 void _exit(int status) {
     write_waiting();
     if (kept_count) syscall(SYS_write, 1, kept, kept_count);
+    if (held_count) syscall(SYS_write, 1, held, held_count);
     if (is("lost-record") && status == 7 && last_file >= 0) {
         int fd = syscall(SYS_open, last_file == right ? "right.liq" : "left.liq", O_WRONLY);
         syscall(SYS_pwrite64, fd, "", 1, last_place);
