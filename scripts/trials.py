@@ -65,7 +65,8 @@ def compiled(name: str, folder: str, *words: str, text: Optional[str] = None) ->
         with open(source, "w") as file:
             file.write(text)
     # Where it is ended early it leaves files in TMPDIR.
-    ran = subprocess.run([c_compiler(), "-O1", *words, "-o", made, source], stderr=subprocess.PIPE, text=True, env={**os.environ, "TMPDIR": folder})
+    ran = subprocess.run([c_compiler(), "-O1", *words, "-o", made, source], env={**os.environ, "TMPDIR": folder},
+                         stderr=subprocess.PIPE, text=True)
     if ran.returncode:
         lines = ran.stderr.splitlines() or [""]
         raise Skipped(f"the C compiler does not take {os.path.basename(source)}: {lines[0]}")

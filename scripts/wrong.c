@@ -10,6 +10,7 @@
    no-folder-sync    fsync of a folder does nothing
    deaf-folder-sync  fsync tells no fault
    other-folder-sync fsync of a folder syncs the one around it
+   near-folder-sync  fsync of a folder syncs the current one
    no-lock           flock does nothing
    deaf-lock         flock tells no fault
    late-lock         flock is made behind the first read of its file
@@ -24,6 +25,7 @@
    no-kinds          each file is told to be a regular one
    no-modes          no file is told to be one that others may write
    no-owners         each file is told to be the user's own
+   no-right-owners   right.liq is told to be the user's own
    apart-streams     no standard stream is told to be one of the two files
    two-files         right.liq is told to be another file than left.liq, and flock does nothing
    takes-rights      where a right is missing, it is taken
@@ -170,7 +172,9 @@ int fsync(int fd) {
     struct stat told;
     int is_folder = !fstat(fd, &told) && S_ISDIR(told.st_mode);
     if (is("no-folder-sync") && is_folder) return 0;
-    int other = is("other-folder-sync") && is_folder ? syscall(SYS_openat, fd, "..", O_RDONLY) : -1;
+    int other = -1;
+    if (is("other-folder-sync") && is_folder) other = syscall(SYS_openat, fd, "..", O_RDONLY);
+    if (is("near-folder-sync") && is_folder) other = syscall(SYS_openat, AT_FDCWD, ".", O_RDONLY);
     int answer = syscall(SYS_fsync, other < 0 ? fd : other);
     if (other >= 0) close(other);
     return is("deaf-folder-sync") ? 0 : answer;
@@ -273,9 +277,10 @@ int statx(int folder, const char *path, int flags, unsigned mask, struct statx *
     }
     if (told == 0 && is("no-kinds")) found->stx_mode = (found->stx_mode & ~S_IFMT) | S_IFREG;
     if (told == 0 && is("no-modes")) found->stx_mode &= ~S_IWOTH;
-    if (told == 0 && is("no-owners")) found->stx_uid = geteuid();
+    int is_right = strstr(path, "right.liq") || (!*path && folder == right);
+    if (told == 0 && (is("no-owners") || (is("no-right-owners") && is_right))) found->stx_uid = geteuid();
     if (told == 0 && is("apart-streams") && strstr(path, "/proc/self/fd/")) found->stx_ino ^= 1UL << 40;
-    if (told == 0 && is("two-files") && (strstr(path, "right.liq") || (!*path && folder == right))) found->stx_ino ^= 1UL << 40;
+    if (told == 0 && is("two-files") && is_right) found->stx_ino ^= 1UL << 40;
     return told;
 }
 
