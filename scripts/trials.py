@@ -78,14 +78,17 @@ def compiled_front(name: str, folder: str, text: Optional[str] = None) -> str:
     return compiled(name, folder, "-fno-builtin", "-shared", "-fPIC", text=text)
 
 
-def working_folder() -> "tempfile.TemporaryDirectory[str]":
-    """A folder in memory, where there is one in which programs may run: what is tried syncs often. A signal that ends this leaves none."""
+def working_folder(runs_programs: bool = True) -> "tempfile.TemporaryDirectory[str]":
+    """A folder in memory, where it may be had, since what is tried syncs often; in which programs may run where that is said. A signal that
+    ends this leaves none."""
     for number in (signal.SIGHUP, signal.SIGTERM):
         if signal.getsignal(number) == signal.SIG_DFL:
             signal.signal(number, lambda number, _: sys.exit(128 + number))
-    memory = "/dev/shm"
-    serves = os.access(memory, os.W_OK) and not os.statvfs(memory).f_flag & os.ST_NOEXEC
-    return tempfile.TemporaryDirectory(prefix="liq-", dir=memory if serves else None)
+    places = ("/dev/shm", tempfile.gettempdir())
+    for place in places:
+        if os.access(place, os.W_OK) and not (runs_programs and os.statvfs(place).f_flag & os.ST_NOEXEC):
+            return tempfile.TemporaryDirectory(prefix="liq-", dir=place)
+    raise Skipped(f"no program may run in {' or in '.join(places)}; TMPDIR may name another folder")
 
 
 def modelled(market: Market, lines: Sequence[str]) -> str:
