@@ -70,8 +70,7 @@ class Service:
             return
         if not self._may_create and not holds_journal(self.folder):
             raise NoJournal(self.folder)
-        pipe = subprocess.PIPE
-        process = subprocess.Popen([self.program, "run"], cwd=self.folder, stdin=pipe, stdout=pipe, bufsize=0)
+        process = self._spawn()
         assert process.stdin and process.stdout
         self._process = process
         self._in, self._out = process.stdin.fileno(), process.stdout.fileno()
@@ -79,6 +78,10 @@ class Service:
         self._unread = b""
         self._lines_left = LINES_OF_A_RUN
         self.pending = None
+
+    def _spawn(self) -> "subprocess.Popen[bytes]":
+        pipe = subprocess.PIPE
+        return subprocess.Popen([self.program, "run"], cwd=self.folder, stdin=pipe, stdout=pipe, bufsize=0)
 
     @property
     def pid(self) -> Optional[int]:

@@ -1,0 +1,172 @@
+"""A market for several callers: a Unix socket in front of one run of liq.
+
+usage: python3 -m liq.gateway FOLDER --socket PATH --table FILE [--counts PATH] [--archive DIR] [--book FILE] [--log
+FILE]
+                              [--idle SECONDS] [--mode MODE] [--adopt]
+
+See docs/OPERATING.md. It ends with 0 where it is stopped by TERM or INT; with 1 where it can't begin or can't go on;
+with 2 where its words are not understood; with 5 or 6 where the run of liq has: then look first, and begin nothing by
+itself. HUP has it read the table again and open its log anew, USR1 has it archive and rotate.
+"""
+import argparse
+import asyncio
+import contextlib
+import os
+import signal
+import socket
+import sqlite3
+import sys
+from pathlib import Path
+from typing import List, Optional
+
+from ..ends import End, Unfit
+from .book import Book
+from .desk import HOPELESS, Desk, Parts, Stopped
+from .door import SECONDS_BETWEEN_SWEEPS, SECONDS_IDLE, Door
+from .keeper import Keeper
+from .log import Counts, Log
+from .run import Run
+from .sockets import given, made, tell_systemd
+from .table import Table, read_table
+
+BOOK = "gateway.book"
+CALLERS, COUNTS = "callers", "counts"  # the names of systemd's sockets
+SWITCH_SECONDS = 0.0005  # between the desk's thread and the door's
+
+
+class Gateway:
+    """The parts together, in a loop."""
+
+    def __init__(self, asked: argparse.Namespace, table: Table, log: Log, parts: Parts) -> None:
+        self.asked, self.log = asked, log
+        self.door = Door(table, log, parts.counts, asked.idle)
+        self.desk = Desk(parts, table, self.door.deliver, asked.adopt)
+        self.door.desk = self.desk
+
+    async def serve(self, callers: socket.socket, counts: Optional[socket.socket]) -> Stopped:
+        """Serves until the desk ends: by a signal, or since it can't go on."""
+        loop = asyncio.get_running_loop()
+        for number in (signal.SIGTERM, signal.SIGINT):
+            loop.add_signal_handler(number, self.desk.stop)
+        loop.add_signal_handler(signal.SIGHUP, self.read_again)
+        loop.add_signal_handler(signal.SIGUSR1, self.desk.rotate)
+        tasks = [
+            loop.create_task(self.door.listen(callers, self.door.let_in)),
+            loop.create_task(self.sweep(float(os.environ.get("WATCHDOG_USEC", "0")) / 10**6)),
+        ]
+        if counts:
+            tasks.append(loop.create_task(self.door.listen(counts, self.door.tell_counts)))
+        tell_systemd("READY=1")
+        self.log.write("begun", folder=str(self.asked.folder), pid=os.getpid())
+        why = await loop.run_in_executor(None, self.desk.work)
+        tell_systemd("STOPPING=1")
+        for task in tasks:
+            task.cancel()
+        await self.door.close()
+        return why
+
+    async def sweep(self, watchdog: float) -> None:
+        """Ends what is idle, and tells systemd that the loop goes on."""
+        while True:
+            await asyncio.sleep(SECONDS_BETWEEN_SWEEPS)
+            self.door.sweep()
+            if watchdog:
+                tell_systemd("WATCHDOG=1")
+
+    def read_again(self) -> None:
+        """Takes the table as it is now, from the next line on, where it is one; and opens the log anew."""
+        loop = asyncio.get_running_loop()
+        try:
+            self.log.reopen()
+            table = read_table(self.asked.table)
+        except (Unfit, OSError) as fault:
+            self.log.write("table not taken", why=str(fault))
+            return
+
+        def told(why: Optional[str]) -> None:
+            if why is None:
+                loop.call_soon_threadsafe(self.door.change_table, table)
+                self.log.write("table taken", callers=len(table.callers))
+            else:
+                self.log.write("table not taken", why=why)
+
+        self.desk.change_table(table, told)
+
+
+async def serve(asked: argparse.Namespace, log: Log) -> Stopped:
+    """Begins all parts, and serves."""
+    with contextlib.ExitStack() as opened:
+        table = read_table(asked.table)
+        book = Book(asked.book or Path(asked.folder) / BOOK)
+        opened.callback(book.close)
+        of_systemd = given()
+        callers = of_systemd.get(CALLERS)
+        if callers is None:
+            if asked.socket is None:
+                raise Stopped(2, "--socket is missing, and systemd gave none")
+            callers = opened.enter_context(made(asked.socket, asked.mode))
+        counts = of_systemd.get(COUNTS)
+        if counts is None and asked.counts:
+            counts = opened.enter_context(made(asked.counts, asked.mode))
+        run = Run(asked.folder)
+        opened.callback(run.kill)
+        keeper = Keeper(asked.folder, asked.archive) if asked.archive else None
+        gateway = Gateway(asked, table, log, Parts(run, book, log, Counts(), keeper))
+        return await gateway.serve(callers, counts)
+
+
+def parsed(words: List[str]) -> argparse.Namespace:
+    said = (__doc__ or "").partition("\n")[0]
+    parser = argparse.ArgumentParser(prog="python3 -m liq.gateway", description=said, allow_abbrev=False)
+    parser.add_argument("folder", metavar="FOLDER", type=Path)
+    parser.add_argument("--socket", metavar="PATH", type=Path, help="for callers; systemd's `callers` if left out")
+    parser.add_argument("--table", metavar="FILE", type=Path, required=True, help="who may do what")
+    parser.add_argument("--counts", metavar="PATH", type=Path, help="a second socket, which tells counts")
+    parser.add_argument("--archive", metavar="DIR", type=Path, help="rotates a full journal, behind `liq.archive`")
+    parser.add_argument("--book", metavar="FILE", type=Path, help=f"keys and replies; FOLDER/{BOOK} if left out")
+    parser.add_argument("--log", metavar="FILE", type=Path, help="JSON lines; standard error if left out")
+    parser.add_argument("--idle", metavar="SECONDS", type=positive, default=SECONDS_IDLE, help="without a whole line")
+    parser.add_argument("--mode", metavar="MODE", type=rights, default=0o660, help="of the sockets; 660 if left out")
+    parser.add_argument("--adopt", action="store_true", help="takes the market's numbers where the book has others")
+    return parser.parse_args(words)
+
+
+def positive(word: str) -> float:
+    seconds = float(word)
+    if not 0 < seconds <= 10**6:
+        raise ValueError
+    return seconds
+
+
+def rights(word: str) -> int:
+    mode = int(word, 8)
+    if not 0 <= mode <= 0o777:
+        raise ValueError
+    return mode
+
+
+def main(words: List[str]) -> int:
+    asked = parsed(words)
+    sys.setswitchinterval(SWITCH_SECONDS)
+    for number in (signal.SIGHUP, signal.SIGUSR1):  # they end nothing that has not begun yet
+        signal.signal(number, lambda *_: None)
+    try:
+        log = Log(asked.log)
+    except OSError as fault:
+        print(f"gateway: {fault}", file=sys.stderr)
+        return 1
+    try:
+        why = asyncio.run(serve(asked, log))
+    except Stopped as stopped:
+        why = stopped
+    except End as end:
+        why = Stopped(end.status if isinstance(end, HOPELESS) else 1, str(end))
+    except (Unfit, OSError, sqlite3.Error) as fault:
+        why = Stopped(1, str(fault))
+    log.write("ended", status=why.status, why=why.why)
+    log.close()
+    return why.status
+
+
+if __name__ == "__main__":
+    sys.exit(main(sys.argv[1:]))

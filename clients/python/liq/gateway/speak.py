@@ -1,0 +1,55 @@
+"""Lines of standard input to a gateway, replies to standard output: by hand, and as ssh's forced command.
+
+usage: python3 -m liq.gateway.speak SOCKET [NAME]
+
+With NAME it says first for whom it speaks, which the gateway takes from the relay's user alone. In `authorized_keys` of
+that user, a line for each caller's key:
+
+    restrict,command="cd / && PYTHONPATH=.. python3 -m liq.gateway.speak /run/liq/callers alice" ssh-ed25519 AAAA..
+
+It ends with 0 once the gateway has closed the connection, behind all replies; with 1 where there is none.
+"""
+import contextlib
+import os
+import socket
+import sys
+import threading
+from typing import List
+
+PIECE_BYTES = 65536
+
+
+def send_all(to: socket.socket) -> None:
+    """Sends what comes in, and that it has ended."""
+    with contextlib.suppress(OSError):
+        while True:
+            piece = os.read(0, PIECE_BYTES)
+            if not piece:
+                break
+            to.sendall(piece)
+        to.shutdown(socket.SHUT_WR)
+
+
+def main(words: List[str]) -> int:
+    if not 1 <= len(words) <= 2:
+        print("usage: python3 -m liq.gateway.speak SOCKET [NAME]", file=sys.stderr)
+        return 2
+    to = socket.socket(socket.AF_UNIX, socket.SOCK_STREAM)
+    try:
+        to.connect(words[0])
+        if len(words) == 2:
+            to.sendall(f"as {words[1]}\n".encode("ascii"))
+        threading.Thread(target=send_all, args=(to,), daemon=True).start()
+        while True:
+            piece = to.recv(PIECE_BYTES)
+            if not piece:
+                return 0
+            while piece:
+                piece = piece[os.write(1, piece):]
+    except (OSError, UnicodeEncodeError) as fault:
+        print(f"speak: {fault}", file=sys.stderr)
+        return 1
+
+
+if __name__ == "__main__":
+    sys.exit(main(sys.argv[1:]))
