@@ -1,4 +1,4 @@
-# Completion of bash for liq: its words, and behind help, which bin/liq of a checkout has as it has version, the verbs.
+# Completion of bash for liq: its words, and behind help the verbs.
 _liq() {
     case $COMP_CWORD in
         1) mapfile -t COMPREPLY < <(compgen -W 'run serve staking rewards state report audit follow gen help version' -- "${COMP_WORDS[1]}") ;;
