@@ -28,7 +28,7 @@ from typing import Dict, Iterator, List, NamedTuple, Optional
 from .backup import DAY, LARGEST, SECONDS, fronts
 from .ends import Folder, NoJournal, Unfit
 from .history import begun, digest_of, read_begin, replay, rotated, what_counts
-from .journal import FRONT_BYTES, DamagedFile, Disk, files_of, is_open, open_file, pieces_of, read_header
+from .journal import FRONT_BYTES, DamagedFile, Disk, files_of, is_open, open_file, pieces_of, read_file, read_header
 from .scratch import bounded
 from .units import counted
 
@@ -75,7 +75,7 @@ def archive(folder: Folder, directory: Folder) -> List[Kept]:
     while True:
         seen = fronts(files_of(folder))
         try:
-            return _archived(left_in(folder), directory)
+            return _archived(folder, directory)
         except (Unfit, OSError) as fault:
             if fronts(files_of(folder)) != seen and time.monotonic() < end:
                 continue  # a rotation came between, so that some of what was read is of the one and some of the other
@@ -191,20 +191,43 @@ def left_in(folder: Path) -> Left:
     return Left(current, generations[current], generations.get(current - 1))
 
 
-def _archived(left: Left, directory: Path) -> List[Kept]:
+def _archived(folder: Path, directory: Path) -> List[Kept]:
     """Makes the copy, where there is one to make. Raises `NotArchived` and `DamagedFile`."""
-    kept = kept_in(directory)
+    left, kept = left_in(folder), kept_in(directory)
+    is_kept = bool(kept) and kept[-1].generation == left.generation - 1
+    if left.before is None and not is_kept:
+        left = left._replace(before=shut_in(folder, left))
     check_reaches(directory, kept, left)
+    if is_kept:
+        if left.before is not None:
+            check_copy(kept[-1], left.before)
+        sync(directory)  # whoever gave the copy its name may have been stopped before that
+        return []
     if left.before is None:
         return []
-    if kept and kept[-1].generation == left.generation - 1:
-        check_copy(kept[-1], left.before)
-        return []
-    disk = Disk(left.before, LARGEST)
+    disk = read_left(left.before)
     if kept:
         check_link(read_kept(kept[-1]), disk)
     check_link(disk, read_begin(left.current, LARGEST))
     return [_keep(disk, directory)]
+
+
+def shut_in(folder: Path, left: Left) -> Optional[Path]:
+    """The file that has the generation before the current one whole behind a shut gate: a rotation that was stopped as
+    it began leaves that, and the next one writes over it."""
+    for path in files_of(folder):
+        with contextlib.suppress(DamagedFile):
+            with open_file(path) as file:
+                front = file.read(FRONT_BYTES)
+            if read_header(path, front, path.stat().st_size).generation == left.generation - 1:
+                check_link(read_left(path), read_begin(left.current, LARGEST))
+                return path
+    return None
+
+
+def read_left(path: Path) -> Disk:
+    """What a rotation left behind, whatever the gate in front of it is: a rotation begins by shutting it."""
+    return Disk(path, data=b"\1" + read_file(path, LARGEST)[1:])
 
 
 def check_reaches(directory: Folder, kept: List[Kept], left: Left) -> None:
@@ -238,7 +261,7 @@ def check_copy(kept: Kept, path: Path) -> None:
         at += len(piece)
     found.update(b"\0")
     if gate == b"\1" or found.hexdigest() != kept.digest:
-        raise DamagedFile(kept.path, 0, f"it is not what {path} has of generation {kept.generation}")
+        raise DamagedFile(kept.path, 0, f"it is not what {path.name} has of generation {kept.generation}")
 
 
 def _keep(disk: Disk, directory: Path) -> Kept:
@@ -246,9 +269,7 @@ def _keep(disk: Disk, directory: Path) -> Kept:
     data = what_counts(disk)
     digest = digest_of(data)
     to = directory / f"{disk.generation:011}-{digest}.liq"
-    if not directory.exists():
-        directory.mkdir(0o700, parents=True)
-        sync(directory.absolute().parent)
+    make_folder(directory.absolute())
     part = directory / f".{to.name}.{secrets.token_hex(8)}"
     try:
         with open(os.open(part, os.O_WRONLY | os.O_CREAT | os.O_EXCL, 0o600), "wb") as file:
@@ -264,6 +285,14 @@ def _keep(disk: Disk, directory: Path) -> Kept:
     return Kept(disk.generation, to, digest)
 
 
+def make_folder(folder: Path) -> None:
+    """Makes a folder where it is missing, and those above it, and syncs the name of each."""
+    if not folder.exists():
+        make_folder(folder.parent)
+        folder.mkdir(0o700, exist_ok=True)
+        sync(folder.parent)
+
+
 def sync(folder: Path) -> None:
     """Waits until the names in a folder are on the disk."""
     descriptor = os.open(folder, os.O_RDONLY)
@@ -276,10 +305,12 @@ def sync(folder: Path) -> None:
 # ---- the whole
 
 
-def said_of(directory: Path, made: List[Kept]) -> List[str]:
+def said_of(folder: Path, directory: Path, made: List[Kept]) -> List[str]:
     """What was done, and what an archive has."""
-    kept = kept_in(directory)
+    kept, generation = kept_in(directory), left_in(folder).generation
     said = [f"generation {copy.generation}: {copy.path.name}" for copy in made]
+    if not kept and generation > 1:
+        return [f"generation {generation - 1} is on no file: the next rotation leaves generation {generation} behind"]
     if not kept:
         return ["no rotation has left anything behind"]
     first = kept[0].generation
@@ -295,7 +326,7 @@ def main(words: List[str]) -> int:
     try:
         with bounded(DAY):
             made = archive(folder, directory)
-            said = said_of(Path(directory), made)
+            said = said_of(Path(folder), Path(directory), made)
     except (Unfit, OSError) as fault:
         print(f"archive refuses: {fault}")
         return 1

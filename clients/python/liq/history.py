@@ -10,7 +10,7 @@ from pathlib import Path
 from typing import Any, Callable, Optional, Tuple
 
 from .journal import BYTES_MOST, FRONT_BYTES, LIMITS, Checkpoint, Command, DamagedFile, Disk, KeptReply
-from .journal import open_file, read_header
+from .journal import is_open, open_file, read_header
 from .model import Market, carry_out
 from .model.disks import checkpoint_bytes
 from .model.requests import is_repeated, refusal_text
@@ -33,6 +33,8 @@ def read_begin(path: Path, most: int = BYTES_MOST) -> Disk:
     """A file's header and checkpoint, without its records."""
     with open_file(path) as file:
         front = file.read(FRONT_BYTES)
+        if not is_open(front):
+            raise DamagedFile(path, 0, "its gate is shut")
         begin = read_header(path, front, path.stat().st_size).begin
         if begin > most:
             raise DamagedFile(path, 0, f"its header and its checkpoint have more than {most:,} bytes")

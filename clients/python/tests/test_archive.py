@@ -233,6 +233,69 @@ class Copies(InFolder):
                 else:
                     self.assertEqual(self.refused(), GONE)
 
+    def test_a_rotation_that_was_stopped_as_it_began(self) -> None:
+        """It has shut the gate of the file that it takes, and the next one writes over what is whole behind that."""
+        self.made.rotate()
+        left, right = self.made.folder / "left.liq", self.made.folder / "right.liq"
+        counts = digest_of(archive.what_counts(Disk(left)))
+        left.write_bytes(b"\0" + left.read_bytes()[1:])
+        self.assertEqual(self.archive(), [1])
+        self.assertEqual([kept.digest for kept in kept_in(self.directory)], [counts])
+        self.assertEqual(self.archive(), [])
+        self.made.write()
+        self.made.rotate()
+        right.write_bytes(b"\0" + right.read_bytes()[1:])
+        self.assertEqual((self.archive(), self.generations()), ([2], [1, 2]))
+
+    def test_a_rotation_that_was_stopped_as_it_wrote(self) -> None:
+        """What it wrote over is gone. An archive that has nothing yet begins behind that, and any other has a gap."""
+        self.made.rotate()
+        self.made.rotate()
+        right = self.made.folder / "right.liq"
+        right.write_bytes(b"\0" + right.read_bytes()[1:70] + b"x" + right.read_bytes()[71:])
+        self.assertEqual(self.archive(), [])
+        told = "generation 2 is on no file: the next rotation leaves generation 3 behind\n"
+        self.assertEqual(self.run_archive(self.made.folder, self.directory), (0, told))
+        other = modelled.two_depositors(self.folder / "other")
+        other.rotate()
+        archive.archive(other.folder, self.directory)
+        self.assertEqual(self.refused(), GONE)
+        self.made.rotate()
+        shutil.rmtree(self.directory)
+        self.assertEqual(self.archive(), [3])
+
+    def test_a_gate_that_is_shut_while_it_reads(self) -> None:
+        self.made.rotate()
+        right, real = self.made.folder / "right.liq", archive.read_begin
+
+        def shut(path: Path, most: int) -> Disk:
+            right.write_bytes(b"\0" + right.read_bytes()[1:])
+            return real(path, most)
+
+        with mock.patch.object(archive, "read_begin", shut):
+            self.assertEqual((self.archive(), self.directory.exists()), ([], False))
+
+    def test_what_is_synced_before_what_is_named(self) -> None:
+        """The copy, before it gets its name; and each name, before a call says that it is there."""
+        self.made.rotate()
+        self.directory = self.folder / "of" / "many" / "archives"
+        done: List[str] = []
+
+        def note(what: str) -> str:
+            done.append(what)
+            return what
+
+        real_sync, real_replace, real_fsync = archive.sync, os.replace, os.fsync
+        with mock.patch.object(archive, "sync", lambda folder: (note(f"names in {folder.name}"), real_sync(folder))), \
+                mock.patch.object(os, "replace", lambda one, other: (note("name"), real_replace(one, other))), \
+                mock.patch.object(os, "fsync", lambda file: (note("sync"), real_fsync(file))):
+            self.assertEqual(self.archive(), [1])
+            names = [f"names in {folder}" for folder in (self.folder.name, "of", "many", "archives")]
+            self.assertEqual(done, [
+                names[0], "sync", names[1], "sync", names[2], "sync", "sync", "name", names[3], "sync"])
+            done.clear()
+            self.assertEqual((self.archive(), done), ([], [names[3], "sync"]))
+
     def test_nothing_is_left_of_a_copy_that_failed(self) -> None:
         self.made.rotate()
         with mock.patch.object(os, "replace", side_effect=OSError(28, "No space left on device")):
