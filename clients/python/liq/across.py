@@ -89,10 +89,10 @@ def across(word: str, folder: Folder, archive: Optional[Folder] = None, lines: O
 
 
 def read_lines() -> List[str]:
-    """The lines of standard input, of which there may be 1,000,000."""
+    """The lines of standard input, of which there may be 1,000,000. They are bytes, whatever the locale is."""
     lines = []
-    for line in sys.stdin:
-        lines.append(line[:-1] if line.endswith("\n") else line)
+    for line in sys.stdin.buffer:
+        lines.append((line[:-1] if line.endswith(b"\n") else line).decode("latin-1"))
         if len(lines) > LINES_OF_A_RUN:
             raise TooMuch("the input has", LINES_OF_A_RUN, "lines")
     return lines

@@ -304,7 +304,9 @@ def not_checked(statement: Statement) -> List[str]:
         said.append(
             f"the commands before generation {first}, which are not here: its checkpoint is taken as true, exact shares"
             " count from it on, and by how much they may fall short is not known")
-    if not statement.earlier:
+    if statement.earlier:
+        said.append(f"who made {statement.earlier}, and whether what came behind it is what users saw")
+    else:
         said.append("whether these are the files that users saw: an earlier statement or copy shows that, or replies")
     return said + [
         "who sent a command, and whether prices and times were right",

@@ -22,10 +22,11 @@ import argparse
 import contextlib
 import hashlib
 import json
+import re
 import sys
 from datetime import date, datetime, timezone
 from pathlib import Path
-from typing import Dict, Iterator, List, NamedTuple, Optional, Tuple
+from typing import Any, Dict, Iterator, List, NamedTuple, Optional, Tuple
 
 from .archive import NotArchived, Source, named_in, sources
 from .backup import backup
@@ -35,6 +36,7 @@ from .history import begun, digest_of, replay, rotated
 from .journal import BYTES_MOST, FRONT_BYTES, RECORD_BYTES, DamagedFile, Disk
 from .journal import files_of, is_open, read_file, read_header
 from .model import Market, Offset, Own
+from .model.amounts import GENERATIONS_MOST, RECORDS_MOST
 from .model.pool import position
 from .model.told import state_text
 from .progress import Bar
@@ -45,6 +47,7 @@ from .stated import FORMS, STATEMENT, Depositor, FileRow, GenerationRow, Stateme
 from .units import counted
 
 NOTHING = ("nothing stands before that",)
+IS_DIGEST = re.compile("[0-9a-f]{64}").fullmatch
 
 
 class NotStated(Unfit):
@@ -214,12 +217,21 @@ def read_earlier(path: Folder) -> Earlier:
     """An earlier statement, as JSON. Raises `NotStated` where it is none."""
     try:
         made = json.loads(read_file(path))
-        rows = {int(row["generation"]): (int(row["records"]), str(row["sha256"])) for row in made["generations"]}
+        rows = dict(_earlier_row(row["generation"], row["records"], row["sha256"]) for row in made["generations"])
         if made["liq_statement"] != STATEMENT or not rows:
             raise ValueError
         return Earlier(read_day(made["date"]), rows)
     except (ValueError, KeyError, TypeError, RecursionError):
         raise NotStated(f"{path} is no statement of this form, as JSON") from None
+
+
+def _earlier_row(generation: Any, records: Any, digest: Any) -> Tuple[int, Tuple[int, str]]:
+    """A generation of an earlier statement. Raises ValueError and TypeError."""
+    if type(generation) is not int or type(records) is not int or not IS_DIGEST(digest):
+        raise ValueError
+    if not 1 <= generation <= GENERATIONS_MOST or not 0 <= records <= RECORDS_MOST:
+        raise ValueError
+    return generation, (records, digest)
 
 
 # ---- the whole

@@ -299,8 +299,9 @@ class WhatItSays(InFolder):
 
         status, said = ran("--archive", self.directory, "staking", self.market, lines="9 1 stake 7\n12 1 stake 3")
         self.assertEqual((status, said.split("\n")[:2]), (0, ["ok", "ok"]))
-        status, said = ran("--archive", self.directory, "staking", self.market, lines="9 1 stake 07\n")
-        self.assertEqual((status, said), (1, "across refuses: line 1 is none of staking\n"))
+        for line in ("9 1 stake 07\n", "9 1 stake 7\r\n", "9 1 stake 7\r9 1 stake 8", "9 1 stake \u0667"):
+            status, said = ran("--archive", self.directory, "staking", self.market, lines=line)
+            self.assertEqual((status, said), (1, "across refuses: line 1 is none of staking\n"))
         for words in (["audit", self.market], ["--archive", self.directory, "gen", self.market], []):
             self.assertEqual(ran(*words)[0], 2)
         with mock.patch.object(owed, "DEPOSITORS_MOST", 29), contextlib.redirect_stdout(io.StringIO()) as limit:
@@ -617,6 +618,40 @@ class Refused(InFolder):
         modelled.rewrite_checkpoint(self.right, lambda found: found._replace(clients={
             **found.clients, modelled.ROTATING: found.clients[modelled.ROTATING]._replace(values=(3, 0, 0, 0, 0, 0))}))
         self.assertIn("no client of its checkpoint has begun generation 2", self.refusal()[0])
+
+    def test_an_earlier_statement_that_is_none(self) -> None:
+        """Numbers and digests that no statement has; with an empty digest it would be compared with nothing."""
+        self.rotate()
+        path = self.folder / "earlier.json"
+        path.write_text(run_statement("--form", "json", self.market)[1])
+        self.assertEqual(run_statement("--earlier", path, self.market)[0], 0)
+        made = json.loads(path.read_text())
+        for key, values in (
+            ("generation", (0, -1, True, 1.0, "1", 2**36 + 1, 10**400)), ("sha256", ("", "0" * 63, "A" * 64, 0, None)),
+            ("records", (-1, 10**6 + 1, 1.5, float("inf"), float("nan"), None, [])),
+        ):
+            for value in values:
+                rows = [{**row, key: value} for row in made["generations"]]
+                path.write_text(json.dumps({**made, "generations": rows}))
+                self.assertEqual(self.refusal("--earlier", path)[0], f"{path} is no statement of this form, as JSON")
+
+    def test_what_an_earlier_statement_does_not_show(self) -> None:
+        path, title = self.folder / "earlier.json", f"a statement of {DAY} over generation 1 with 9 records"
+        path.write_text(run_statement("--form", "json", self.market)[1])
+        self.rotate()
+        said = run_statement("--earlier", path, self.market)[1]
+        self.assertIn(f"- that the files go on from {title}\n", said)
+        self.assertIn(f"- who made {title}, and whether what came behind it is what users saw\n", said)
+
+    def test_a_refusal_is_the_same_each_time(self) -> None:
+        """It names no copy of its own."""
+        for _ in range(2):
+            self.rotate()
+        archive.archive(self.market, self.directory)
+        modelled.rewrite(self.right, lambda found: found[:-1])
+        here = self.refusal("--archive", self.directory)
+        self.assertEqual(self.refusal("--archive", self.directory), here)
+        self.assertIn("it is not what", here[0])
 
     def test_files_that_are_older_than_an_archive_or_a_statement(self) -> None:
         shutil.copytree(self.market, self.folder / "old")
