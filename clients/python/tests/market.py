@@ -1,13 +1,16 @@
-"""What the cases share: a folder in memory for each, the program, and the documents."""
+"""What the cases share: a folder in memory for each, the program, files that are forged, and the documents."""
+import functools
 import os
+import runpy
 import shutil
 import sys
 import tempfile
 import unittest
 from pathlib import Path
-from typing import List
+from typing import Any, Callable, Dict, List
 
 from liq import scratch
+from liq.journal import SIDES
 from liq.service import MEMORY, Create, Service, find_program
 
 TOP = Path(__file__).resolve().parents[3]
@@ -49,6 +52,17 @@ class OverProgram(InFolder):
         """The replies to lines, in a market of that name."""
         with Service(self.folder / name, create=True) as service:
             return [" ".join(service.ask(line)) for line in lines]
+
+
+@functools.lru_cache(maxsize=1)
+def forge() -> Callable[[str, List[str]], Any]:
+    """What makes both disks, of scripts/forge: a start of Python for each would take longer than all that it does."""
+    return runpy.run_path(str(TOP / "scripts/forge"))["disks_after"]
+
+
+def forged(versions: str, lines: List[str]) -> Dict[str, bytes]:
+    """Both files after these commands, as scripts/forge makes them."""
+    return {side: bytes(data) for side, data in zip(SIDES, forge()(versions, lines))}
 
 
 def document(name: str) -> str:

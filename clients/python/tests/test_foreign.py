@@ -1,4 +1,6 @@
 """Folders that somebody else made: the reader, the audit and the page end within bounds, say why, and leave nothing."""
+import contextlib
+import io
 import os
 import signal
 import subprocess
@@ -10,7 +12,7 @@ from pathlib import Path
 from typing import Dict, Optional, Sequence, Tuple
 from unittest import mock
 
-from liq import Journal, journal, recheck, scratch, statement
+from liq import Journal, journal, page, recheck, scratch, statement
 from liq.ends import NoJournal, TooMuch
 from liq.journal import Checkpoint, DamagedFile, DepositRow, KeptReply
 from liq.shares import PlainLedger, Share
@@ -28,8 +30,22 @@ def environment(program: Optional[Path] = None) -> Dict[str, str]:
     return {**os.environ, "PYTHONPATH": str(TOP / "clients/python"), **chosen}
 
 
-def run(tool: str, *words: str, program: Optional[Path] = None) -> Tuple[int, str]:
-    """The status of a tool, and what it says in place of a page or rows."""
+def run(tool: str, *words: str) -> Tuple[int, str]:
+    """The status of a tool, and what it says in place of a page or rows. It is called and not started, which takes a
+    tenth of a second each time."""
+    main = {"recheck": recheck.main, "page": page.main, "statement": statement.main}[tool]
+    with contextlib.redirect_stdout(io.StringIO()) as told, contextlib.redirect_stderr(io.StringIO()) as said:
+        status = main(list(words))
+    return status, said.getvalue() or told.getvalue()
+
+
+def run_within(tool: str, folder: str) -> Tuple[int, str]:
+    """The same of a folder, which may not take it long."""
+    return run(tool, "--seconds", str(LATE), folder)
+
+
+def run_started(tool: str, *words: str, program: Path) -> Tuple[int, str]:
+    """The status of a tool that is started over a program of its own, and what it says."""
     ran = subprocess.run(
         [sys.executable, "-m", f"liq.{tool}", *words], env=environment(program), stdout=subprocess.PIPE,
         stderr=subprocess.PIPE, timeout=LATE)
@@ -65,17 +81,17 @@ class Small(OverProgram):
     def test_a_scale_of_two_to_the_24th(self) -> None:
         """It is sound, as the rules bound a scale by all records that there may have been. No step is made for each."""
         folder = self.made("scale", foreign.bytes_of(self.small._replace(scale=2**24)))
-        status, said = run("recheck", folder)
+        status, said = run_within("recheck", folder)
         self.assertEqual((status, said.splitlines()[0]), (0, "1 0 0.000 - 0 0.000 -"))
-        self.assertEqual(run("page", folder)[0], 0)
-        self.assertEqual(run("statement", folder)[0], 0)
+        self.assertEqual(run_within("page", folder)[0], 0)
+        self.assertEqual(run_within("statement", folder)[0], 0)
 
     def test_a_count_that_no_program_took(self) -> None:
         lines = ["1 1 fund 1 5", f"1 2 liquidate_lowest 1 {2**34}"]
         folder = self.made("count", b"", lines, generation=1)
-        self.assertEqual(run("recheck", folder), (1, "recheck refuses: liq ended with 6, damaged left 2\n"))
-        self.assertEqual(run("page", folder), (1, "page: liq ended with 6, damaged left 2\n"))
-        said = run("statement", folder)[1]
+        self.assertEqual(run_within("recheck", folder), (1, "recheck refuses: liq ended with 6, damaged left 2\n"))
+        self.assertEqual(run_within("page", folder), (1, "page: liq ended with 6, damaged left 2\n"))
+        said = run_within("statement", folder)[1]
         self.assertIn("left.liq is damaged at 2: the rules refuse it, no 12 17179869184 64: ", said)
         (self.folder / "again").mkdir()
         with self.assertRaises(recheck.Differs) as differs:
@@ -92,7 +108,7 @@ class Small(OverProgram):
             folder = Path(self.made(name, foreign.bytes_of(self.small)))
             make(folder / "left.liq")
             for tool in (*TOOLS, "statement"):
-                status, told = run(tool, str(folder))
+                status, told = run_within(tool, str(folder))
                 self.assertEqual((status, said in told), (1, True), told)
         self.assertEqual((self.folder / "small/right.liq").stat().st_size, size)
 
@@ -105,7 +121,7 @@ class Small(OverProgram):
             with self.assertRaises(DamagedFile) as damaged:
                 Journal(folder)
             self.assertIn(f"a {name} is 0", str(damaged.exception))
-            self.assertEqual([run(tool, folder)[0] for tool in (*TOOLS, "statement")], [1, 1, 1])
+            self.assertEqual([run_within(tool, folder)[0] for tool in (*TOOLS, "statement")], [1, 1, 1])
 
     def test_no_client_is_left_for_a_rotation(self) -> None:
         with self.assertRaises(recheck.Differs) as differs:
@@ -113,7 +129,7 @@ class Small(OverProgram):
         self.assertIn("every client is in use", str(differs.exception))
         last = self.small._replace(generation=2**36, clients={1: KeptReply(1, "price", (0,) * 6)})
         folder = self.made("last", foreign.bytes_of(last), generation=2**36)
-        self.assertEqual(run("recheck", folder)[1][:52], "recheck refuses: no checkpoint can be written: no 12")
+        self.assertEqual(run_within("recheck", folder)[1][:52], "recheck refuses: no checkpoint can be written: no 12")
 
     def test_a_program_whose_replies_cannot_be(self) -> None:
         """A full journal that is not rotated, and an offset of more than the pool has, end the replay at once."""
@@ -269,7 +285,8 @@ class Stopped(InFolder):
     def test_by_the_bound_on_time(self) -> None:
         for tool in TOOLS:
             for seconds in 1, 5, 25:
-                status, said = run(tool, "--seconds", str(seconds), str(self.folder / "market"), program=self.waits)
+                words = "--seconds", str(seconds), str(self.folder / "market")
+                status, said = run_started(tool, *words, program=self.waits)
                 self.assertEqual((status, said.endswith(f"it takes more than {seconds} seconds\n")), (1, True), said)
                 if self.told.exists():  # else a slow machine had not begun the program yet
                     break

@@ -5,7 +5,6 @@ import io
 import os
 import random
 import subprocess
-import sys
 import time
 import unittest
 from pathlib import Path
@@ -17,7 +16,8 @@ from liq.ends import Damaged, Unfit
 from liq.journal import SIDES
 from liq.words import state
 
-from .market import PROGRAM, READY, TOP, InFolder, OverProgram
+from .market import PROGRAM, READY, InFolder, OverProgram
+from .market import forged as files_after
 
 Pair = Dict[str, bytes]
 FUNDS = [f"1 {number} fund {number} {number}" for number in range(1, 7)]
@@ -31,10 +31,7 @@ def gate_of(record: int, begin: int = BEGIN) -> int:
 
 def forged(lines: List[str], versions: str = "2") -> Pair:
     """Both files after these commands."""
-    forge = [sys.executable, TOP / "scripts/forge", versions, *lines]
-    made = subprocess.run(forge, stdout=subprocess.PIPE, check=True).stdout.decode()
-    found = dict(line.split(" ") for line in made.splitlines())
-    return {side: bytes.fromhex(found.get(side, "")) for side in SIDES}
+    return files_after(versions, lines)
 
 
 class Looking(InFolder):

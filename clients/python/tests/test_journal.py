@@ -9,7 +9,7 @@ from liq.backup import backup
 from liq.ends import TooMuch
 from liq.journal import DamagedFile, KeptReply, NoRegularFile, Unknown, copy_file, read_file
 
-from .market import TOP, InFolder, OverProgram
+from .market import TOP, InFolder, OverProgram, forged
 
 LINES = ["1 1 fund 1 10000000000", "2 1 advance 5", "1 2 fund 2 7"]
 
@@ -76,16 +76,21 @@ class OfForge(InFolder):
     """Cases over files that scripts/forge makes."""
 
     def forge(self, versions: str, *lines: str) -> Journal:
-        forge = [sys.executable, TOP / "scripts/forge", versions, *lines]
-        made = subprocess.run(forge, stdout=subprocess.PIPE, check=True)
-        disks = dict(line.split(" ") for line in made.stdout.decode().splitlines())
-        for side in ("left", "right"):
-            (self.folder / f"{side}.liq").write_bytes(bytes.fromhex(disks.get(side, "")))
+        for side, data in forged(versions, list(lines)).items():
+            (self.folder / f"{side}.liq").write_bytes(data)
         return Journal(self.folder)
 
 
 class Forged(OfForge):
     """Files of both versions."""
+
+    def test_the_script_prints_what_it_makes(self) -> None:
+        lines = [*LINES, "3 1 rotate", "3 2 fund 3 1"]
+        script = [sys.executable, TOP / "scripts/forge", "12", *lines]
+        made = subprocess.run(script, stdout=subprocess.PIPE, check=True, text=True).stdout
+        self.assertEqual(
+            dict(line.split(" ") for line in made.splitlines()),
+            {side: data.hex() for side, data in forged("12", lines).items()})
 
     def test_both_versions(self) -> None:
         for version in (1, 2):

@@ -288,17 +288,19 @@ class WhatItSays(InFolder):
 
     def test_words_and_statuses_of_across(self) -> None:
         self.turned(20, 70)
-        run = [sys.executable, "-m", "liq.across"]
-        environment = {**os.environ, "PYTHONPATH": str(TOP / "clients/python")}
-
         def ran(*words: object, lines: str = "") -> Tuple[int, str]:
-            done = subprocess.run(
-                [*run, *map(str, words)], input=lines, stdout=subprocess.PIPE, stderr=subprocess.STDOUT, text=True,
-                env=environment)
-            return done.returncode, done.stdout
+            source = io.TextIOWrapper(io.BytesIO(lines.encode()))
+            with mock.patch.object(sys, "stdin", source), contextlib.redirect_stdout(io.StringIO()) as said:
+                with contextlib.redirect_stderr(said):
+                    return across.main([str(word) for word in words]), said.getvalue()
 
-        status, said = ran("--archive", self.directory, "staking", self.market, lines="9 1 stake 7\n12 1 stake 3")
+        words, lines = ["--archive", self.directory, "staking", self.market], "9 1 stake 7\n12 1 stake 3"
+        status, said = ran(*words, lines=lines)
         self.assertEqual((status, said.split("\n")[:2]), (0, ["ok", "ok"]))
+        done = subprocess.run(
+            [sys.executable, "-m", "liq.across", *map(str, words)], input=lines, stdout=subprocess.PIPE, text=True,
+            env={**os.environ, "PYTHONPATH": str(TOP / "clients/python")})
+        self.assertEqual((done.returncode, done.stdout), (status, said))
         for line in ("9 1 stake 07\n", "9 1 stake 7\r\n", "9 1 stake 7\r9 1 stake 8", "9 1 stake \u0667"):
             status, said = ran("--archive", self.directory, "staking", self.market, lines=line)
             self.assertEqual((status, said), (1, "across refuses: line 1 is none of staking\n"))
