@@ -87,6 +87,43 @@ def crash(folder: Path, rotations: Iterable[int] = (), before: Optional[Callable
     return made
 
 
+def emptied(
+    folder: Path, seed: int, rotations: Iterable[int] = (), before: Optional[Callable[[], object]] = None
+) -> Made:
+    """A market whose Stability Pool is emptied in most of its 60 steps, or but for one or two millionths, so that
+    epochs end and the scale rises. `rotations` and `before` are those of `crash`."""
+    chance, made, turns = random.Random(seed), Made(folder), set(rotations)
+    for account in range(1, 9):
+        made.call(1, f"fund {account} {4 * 10**12}")
+    made.call(1, f"open 1 {10**12} {10**11} {ANY_FEE} - -")
+    for step in range(60):
+        if step in turns:
+            if before:
+                made.write()
+                before()
+            made.rotate()
+        owner, leaves = chance.randrange(2, 9), chance.choice((0, 0, 1, 1, 2, 1000))
+        calls = ["price 1000000000", f"open {owner} {5 * 10**9} {chance.randrange(18, 35) * 10**8} {ANY_FEE} - -"]
+        for account in chance.sample(range(1, 9), 2):
+            lusd = chance.randrange(1, 10**9)
+            calls += [f"send 1 {account} {lusd}", f"provide {account} {lusd}"]
+        for call in calls:
+            made.call(1, call, may_fail=True)
+        wanted = made.market.troves[owner].debt + leaves if owner in made.market.troves else 0
+        for account in range(1, 9):
+            over = made.market.pool_lusd - wanted
+            if over > 0:
+                made.call(2, f"withdraw {account} {over}", may_fail=True)
+        lacks = max(0, wanted - made.market.pool_lusd)
+        for call in (
+            f"send 1 8 {lacks}", f"provide 8 {lacks}", "price 350000000", f"liquidate 9 {owner}",
+            f"withdraw {chance.randrange(1, 9)} {chance.randrange(10**9)}",
+        ):
+            made.call(2, call, may_fail=True)
+    made.write()
+    return made
+
+
 # ---- forging
 
 

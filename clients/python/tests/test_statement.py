@@ -169,6 +169,18 @@ class WhatItSays(InFolder):
         market = market_on(Disk(plain.folder / "left.liq"), True)
         self.assertEqual(across.across("audit", plain.folder), audit_text(market))
 
+    def test_where_epochs_end_and_scales_rise(self) -> None:
+        """From the first generation on, and from a checkpoint in which deposits are many scales behind."""
+        for seed, turns in enumerate(((11, 30, 47), (1, 2, 59), (25, 26, 40))):
+            plain = of(modelled.emptied(self.folder / f"plain {seed}", seed).folder)
+            market, directory = self.folder / f"turned {seed}", self.folder / f"archive {seed}"
+            modelled.emptied(market, seed, turns, lambda: archive.archive(market, directory))
+            many, late = of(market, directory), of(market)
+            self.assertEqual((many.depositors, many.faults, late.faults), (plain.depositors, [], []))
+            self.assertEqual((many.whole, late.whole, late.generations[0].generation), (True, False, 3))
+            self.assertGreater(plain.market.epoch, 10)
+            self.assertGreater(max(scale for _, scale in plain.market.finished), 2)
+
     def test_across_counts_the_records_of_all_generations(self) -> None:
         self.turned(20, 70)
         lines = [f"{of(self.market, self.directory).commands} 1 stake 7", "100000 1 stake 7"]
