@@ -3,10 +3,11 @@
 usage: python3 -m liq.archive FOLDER DIR
 
 A rotation begins the next generation in the file of the generation before the last. What stands there is gone then.
-This copies the file that the last rotation left behind into the folder DIR, which is made where it is missing. The copy
-has the name GENERATION-SHA256.liq: the generation, and the SHA-256 of its bytes. These are the file's up to its last
-record and one byte 0, the shut gate; what stands behind that in the file has no meaning. A copy is synced, and gets its
-name only then. liq may run meanwhile; call it as often as you like, and before each `rotate`.
+This copies the file that the last rotation left behind into the folder DIR, which is made where it is missing; also one
+whose gate was shut by a rotation that was stopped as it began. The copy has the name GENERATION-SHA256.liq: the
+generation, and the SHA-256 of its bytes. These are the file's up to its last record and one byte 0, the shut gate; what
+stands behind that in the file has no meaning. A copy is synced, and gets its name only then. liq may run meanwhile;
+call it as often as you like, and before each `rotate`.
 
 Before a copy gets its name the model carries out its commands, and the checkpoint with which the next generation begins
 has to be what that comes to, to the byte. The same is seen of the copy before it.

@@ -473,6 +473,34 @@ class Refused(InFolder):
         modelled.rewrite(self.left, moved)
         self.assertIn("right.liq is damaged at 0: generation 1 does not lead to it", self.refusal()[0])
 
+    def test_other_commands_that_lead_to_the_same_checkpoint(self) -> None:
+        """A depositor who came and went in one generation, and another one in its place: a checkpoint holds what came
+        out, and not how. The digest of an earlier statement does."""
+        earlier = self.folder / "earlier.json"
+
+        def exchanged(found: List[Command]) -> List[Command]:
+            return [each._replace(accounts=tuple(5 if account == 4 else account for account in each.accounts))
+                    for each in found]
+
+        self.made.call(1, "price 1000000000")
+        for call in ("fund 6 10000000000", f"open 6 10000000000 {4 * 10**9} {modelled.ANY_FEE} - -",
+                     "send 2 4 1000000000", "provide 4 1000000000", "price 460000000", "liquidate 9 6",
+                     "withdraw 4 1000000000"):
+            self.made.call(1, call)
+        coll, lusd = self.made.market.wallet(4)
+        self.made.call(1, f"send 4 2 {lusd}")
+        self.made.call(1, f"take 4 {coll}")
+        self.rotate()
+        earlier.write_text(run_statement("--form", "json", self.market)[1])
+        gained = {row.account: row.gained for row in of(self.market).depositors}
+        modelled.rewrite(self.left, exchanged)
+        forged = of(self.market)
+        self.assertEqual(forged.faults, [])
+        self.assertGreater(gained[4], 0)
+        gained[5] = gained.pop(4)
+        self.assertEqual({row.account: row.gained for row in forged.depositors}, gained)
+        self.assertIn("left.liq: the first 19 records of generation 1 are not", self.refusal("--earlier", earlier)[0])
+
     # ---- a withdraw left out
 
     def test_a_withdraw_left_out(self) -> None:
