@@ -13,7 +13,7 @@ It ends with 0; with 1 where it refuses, as of an archive that does not begin wi
 import sys
 from typing import List, NamedTuple, Optional
 
-from .archive import Generations, NotArchived, sources
+from .archive import Generations, Kept, NotArchived, named_in, sources
 from .backup import backup
 from .ends import Folder, TooMuch, Unfit
 from .history import begun, replay, rotated
@@ -48,12 +48,13 @@ class Past(NamedTuple):
     records: int
 
 
-def past_of(folder: Folder, archive: Optional[Folder] = None) -> Past:
-    """The whole past of a folder's market. Raises `NotArchived` where its first generation is not there, `DamagedFile`
-    where a generation is not as the rules have it, or does not lead to the next."""
+def past_of(folder: Folder, archive: Optional[Folder] = None, named: Optional[List[Kept]] = None) -> Past:
+    """The whole past of a folder's market, by the copies that an archive has, or had (`sources`). Raises `NotArchived`
+    where its first generation is not there, `DamagedFile` where a generation is not as the rules have it, or does not
+    lead to the next."""
     market: Optional[Market] = None
     records = 0
-    for disk in Generations(sources(folder, archive), BYTES_MOST):
+    for disk in Generations(sources(folder, archive, named), BYTES_MOST):
         if market is None and disk.checkpoint:
             why = f"the generations before {disk.generation} are missing"
             raise NotArchived(archive if archive is not None else folder, why)
@@ -83,9 +84,10 @@ def told(word: str, past: Past, lines: List[str]) -> List[str]:
 
 def across(word: str, folder: Folder, archive: Optional[Folder] = None, lines: Optional[List[str]] = None) -> List[str]:
     """What a word tells of a folder's market and of its archive, on copies."""
+    named = named_in(archive) if archive is not None else None
     with scratch(folder, "liq-across") as room:
         backup(folder, room)
-        return told(word, past_of(room, archive), lines or [])
+        return told(word, past_of(room, archive, named), lines or [])
 
 
 def read_lines() -> List[str]:

@@ -85,10 +85,10 @@ def archive(folder: Folder, directory: Folder) -> List[Kept]:
             raise
 
 
-def kept_in(directory: Folder) -> List[Kept]:
-    """The copies in an archive, oldest first, by their names. Raises `NotArchived` where a generation is missing among
-    them, or is there twice."""
-    kept = named_in(directory)
+def kept_in(directory: Folder, named: Optional[List[Kept]] = None) -> List[Kept]:
+    """The copies in an archive, oldest first, by their names, or by those that it had when it was `named_in`. Raises
+    `NotArchived` where a generation is missing among them, or is there twice."""
+    kept = named_in(directory) if named is None else named
     for one, following in zip(kept, kept[1:]):
         if following.generation == one.generation:
             raise NotArchived(directory, f"generation {one.generation} is there twice, and the two are not the same")
@@ -153,17 +153,19 @@ class Generations:
         return (source.read(self.most) for source in self.found)
 
 
-def sources(folder: Folder, directory: Optional[Folder] = None) -> List[Source]:
+def sources(folder: Folder, directory: Optional[Folder] = None, named: Optional[List[Kept]] = None) -> List[Source]:
     """Where the generations of a market are, oldest first and without a gap: in an archive, and in its own folder.
 
-    Without an archive these are one or two. Raises `NotArchived` where the archive has a gap, or ends before the files
-    begin; `DamagedFile` where a file is of a generation that no rotation leaves there; `NoJournal`."""
+    Without an archive these are one or two. Where the folder is a copy that was taken beside a run, `named` is what the
+    archive had before it: what came since may be newer than the copy. Raises `NotArchived` where the archive has a gap,
+    or ends before the files begin; `DamagedFile` where a file is of a generation that no rotation leaves there;
+    `NoJournal`."""
     left = left_in(Path(folder))
     before, kept = left.generation - 1, []
     if directory is not None:
         if before and not Path(directory).is_dir():
             raise NotArchived(directory, "it is no folder")
-        kept = kept_in(directory)
+        kept = kept_in(directory, named)
         check_reaches(directory, kept, left)
     found = [Source(copy.generation, left.before if copy.generation == before else None, copy) for copy in kept]
     if left.before is not None and before not in [copy.generation for copy in kept]:

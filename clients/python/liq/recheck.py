@@ -25,7 +25,7 @@ from itertools import chain
 from pathlib import Path
 from typing import Any, Container, Dict, Iterable, Iterator, List, NamedTuple, Optional, Tuple
 
-from .archive import Generations, sources
+from .archive import Generations, named_in, sources
 from .backup import backup
 from .client import ACCOUNTS, LOWEST_MOST
 from .ends import End, Folder, Limit, Rotated, TooMuch, Unfit
@@ -211,12 +211,13 @@ def recheck(folder: Folder, program: Optional[Folder] = None, archive: Optional[
     With an archive all its generations are carried out too. The program opens the copies before they are followed, and
     refuses what the rules do not allow. There is no bound on time here: `main` calls it within `scratch.bounded`.
     """
+    named = named_in(archive) if archive is not None else None
     with scratch(folder, "liq-recheck") as room:
         copied, again = room / "copy", room / "again"
         copied.mkdir()
         again.mkdir()
         backup(folder, copied)
-        disks = Generations(sources(copied, archive), BYTES_MOST) if archive else Journal(copied).chain
+        disks = Generations(sources(copied, archive, named), BYTES_MOST) if archive else Journal(copied).chain
         numbers = last_numbers(disks)
         found, why = audited(copied, program)
         replay = Replay(disks, again, program)

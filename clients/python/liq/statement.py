@@ -28,7 +28,7 @@ from datetime import date, datetime, timezone
 from pathlib import Path
 from typing import Any, Dict, Iterator, List, NamedTuple, Optional, Tuple
 
-from .archive import NotArchived, Source, named_in, sources
+from .archive import Kept, NotArchived, Source, named_in, sources
 from .backup import backup
 from .ends import Folder, TooMuch, Unfit
 from .guard import generation_of, look_at, said_of_records, said_of_shut
@@ -245,15 +245,18 @@ def statement(
 
     There is no bound on time here: `main` calls it within `scratch.bounded`.
     """
+    named = named_in(archive) if archive is not None else []
     with scratch(folder, "liq-statement") as room:
         backup(folder, room)
-        return _stated(room, archive, day or today(), earlier, bar or Bar())
+        return _stated(room, archive, named, day or today(), earlier, bar or Bar())
 
 
-def _stated(room: Path, archive: Optional[Folder], day: str, earlier: Optional[Earlier], bar: Bar) -> Statement:
+def _stated(
+    room: Path, archive: Optional[Folder], named: List[Kept], day: str, earlier: Optional[Earlier], bar: Bar
+) -> Statement:
     followed = Followed(bar)
     try:
-        chain = sources(room, archive)
+        chain = sources(room, archive, named)
         files = file_rows(room, chain)
         bar.begin("records", sum(source.path.stat().st_size // RECORD_BYTES for source in chain))
         if earlier and earlier.last not in [source.generation for source in chain]:

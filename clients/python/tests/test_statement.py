@@ -181,6 +181,34 @@ class WhatItSays(InFolder):
             self.assertGreater(plain.market.epoch, 10)
             self.assertGreater(max(scale for _, scale in plain.market.finished), 2)
 
+    def test_a_rotation_while_it_copies(self) -> None:
+        """The archive has then what is newer than the copy of the files, or the files what the archive had not."""
+        made = modelled.crash(self.market, (20, 70), lambda: archive.archive(self.market, self.directory))
+        said, audit = of(self.market, self.directory), across.across("audit", self.market, self.directory)
+        real = statement.backup
+
+        def turn() -> None:
+            archive.archive(self.market, self.directory)
+            made.rotate()
+            archive.archive(self.market, self.directory)
+
+        def behind(folder: Path, room: Path) -> None:
+            real(folder, room)
+            turn()
+
+        def before(folder: Path, room: Path) -> None:
+            turn()
+            real(folder, room)
+
+        for copying in (behind, before):
+            generation = made.market.generation + (copying is before)
+            with mock.patch.object(statement, "backup", copying):
+                found = of(self.market, self.directory)
+            self.assertEqual((found.depositors, found.faults, found.whole), (said.depositors, [], True))
+            self.assertEqual([row.generation for row in found.generations], list(range(1, generation + 1)))
+            with mock.patch.object(across, "backup", copying):
+                self.assertEqual(across.across("audit", self.market, self.directory), audit)
+
     def test_across_counts_the_records_of_all_generations(self) -> None:
         self.turned(20, 70)
         lines = [f"{of(self.market, self.directory).commands} 1 stake 7", "100000 1 stake 7"]
