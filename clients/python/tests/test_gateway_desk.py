@@ -287,6 +287,48 @@ class Books(Desks):
         self.assertRaises(Stopped, self.made)
 
 
+class Tables(Desks):
+    """A table that is changed while a line waits, which the door has judged by the one before."""
+
+    def change(self, text: str) -> None:
+        told: List[Any] = []
+        self.desk.change_table(parse_table(text), told.append)
+        self.desk._change_tables()
+        self.assertEqual(told, [None])
+
+    def said(self, job: Job) -> str:
+        self.desk.turn([job])
+        return self.answers[job]
+
+    def test_a_caller_that_is_gone(self) -> None:
+        """Others go on, also where it had never sent anything, so that the book has no client of its own for it."""
+        waits = self.job("bob", "a fund 10 5")
+        self.change(TABLE[: TABLE.index("[bob]")])
+        self.desk.turn([waits, self.job("alice", "a fund 1 5")])
+        self.assertEqual([text[:14] for text in self.answers.values()], ["refused caller", "ok"])
+        self.assertEqual(self.accepted(), ["fund 1 5"])
+
+    def test_a_client_that_is_somebody_elses_now(self) -> None:
+        waits = self.job("bob", "a fund 10 5")
+        self.change(TABLE.replace("[bob]", "[carol]"))
+        self.assertEqual(self.said(waits)[:14], "refused caller")
+        self.assertEqual(self.ask("? next_number 11"), ["1"])
+        self.assertEqual(self.accepted(), [])
+
+    def test_what_is_allowed_no_more(self) -> None:
+        waits = [self.job("alice", line) for line in ("a fund 2 5", "b fund 1 5", "? wallet 2", "? wallet 1")]
+        self.change(TABLE.replace("1-9", "1"))
+        self.assertEqual(
+            [self.said(job) for job in waits],
+            ["refused account 2 is none of your accounts", "ok", "refused account 2 is none of your accounts", "5 0"],
+        )
+
+    def test_another_user_for_a_caller(self) -> None:
+        waits = self.job("alice", "a fund 1 5")
+        self.change(TABLE.replace("[alice]\nrelayed = yes", "[alice]\nuser = 12345"))
+        self.assertEqual(self.said(waits)[:14], "refused caller")
+
+
 class Queues(unittest.TestCase):
     def job(self, name: str) -> Job:
         return Job(parse_table(TABLE).callers[name], read_line(b"? pools"))

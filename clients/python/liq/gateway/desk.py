@@ -27,7 +27,7 @@ from .keeper import Keeper
 from .lines import Refused
 from .log import Counts, Log
 from .run import Run
-from .table import Table
+from .table import OWN, Table
 
 STARTS_MOST = 3  # of a run, one behind the other, that ends before it has answered
 ENDS_MOST = 3  # of runs at one line, which is given up before unless it was carried out
@@ -63,7 +63,7 @@ class Desk:
 
     def __init__(self, parts: Parts, table: Table, deliver: Callable[[Answers], None], adopts: bool = False) -> None:
         self.run, self.book, self.log, self.counts, self.keeper = parts
-        self.own, self.deliver = table.client, deliver
+        self.table, self.deliver = table, deliver
         self.queue = Queue()
         self._held: List[Job] = []  # commands that wait for a rotation
         self._unsettled: List[Settled] = []
@@ -161,6 +161,7 @@ class Desk:
     def _prepared(self, job: Job, books: bool) -> Sent:
         """A job as what is sent. Raises `_Known` where its key has a reply, and `Refused`."""
         line, client = job.line, job.caller.client
+        self._check_caller(job)
         if line.is_query:
             return Sent(job, line.call)
         if not books:
@@ -172,6 +173,16 @@ class Desk:
             self.counts.add("lines", caller=job.caller.name, what="again")
             raise _Known(kept.reply)
         return Sent(job, line.call, Order(client, self.book.slots[client].accepted + 1, line.key, line.call))
+
+    def _check_caller(self, job: Job) -> None:
+        """Raises `Refused` where the table gives a line to its caller no more: it may be another one than that by which
+        the door judged, as behind a wait for a rotation, and the client may be somebody else's."""
+        then, now = job.caller, self.table.callers.get(job.caller.name)
+        if now is then or then.name == OWN:
+            return
+        if now is None or (now.client, now.user, now.is_relayed) != (then.client, then.user, then.is_relayed):
+            raise Refused("caller", f"the table has changed: this connection is no more {then.name}'s")
+        now.check(job.line)
 
     def _intended(self, sent: List[Sent], answers: Answers) -> List[Sent]:
         """Notes the commands in the book. Where that fails they are refused, and the queries are left."""
@@ -331,7 +342,7 @@ class Desk:
             if words != ["1"] and not adopts:
                 raise Stopped(1, _apart(slot, int(words[0]) - 1))
         self.book.enroll(table.clients)
-        self.own = table.client
+        self.table = table
 
     def _change_tables(self) -> None:
         while self._tables:
@@ -396,7 +407,8 @@ class Desk:
         """Sends the gateway's own `rotate`, and has the file that was left archived; or says why not."""
         assert self.keeper
         is_booked = self._settle_rest()
-        own = Sent(None, "", Order(self.own, self.book.slots[self.own].accepted + 1, None, "rotate"))
+        client = self.table.client
+        own = Sent(None, "", Order(client, self.book.slots[client].accepted + 1, None, "rotate"))
         sent = self._intended([own], []) if is_booked else []
         try:
             self._carry_out(sent)
