@@ -215,6 +215,16 @@ class Ends(Desks):
         with mock.patch.object(desks, "SECONDS_BETWEEN_STARTS", 0), self.assertRaises(Stopped):
             self.desk._begin_again([])
 
+    def test_a_disk_fault_while_a_table_is_looked_at(self) -> None:
+        """No run is begun behind it."""
+        ends = ENDS_AT.replace("fund 1 13", "next_number 44")
+        self.over(ends.format(when="True", before="print('disk fault')", status=5))
+        told: List[Any] = []
+        self.desk.change_table(parse_table(TABLE.replace("client = 12", "client = 44")), told.append)
+        with self.assertRaises(Stopped) as stopped:
+            self.desk._change_tables()
+        self.assertEqual((stopped.exception.status, len(told), self.desk.run.pid), (5, 1, None))
+
 
 class Books(Desks):
     def test_a_market_that_was_brought_back(self) -> None:
@@ -273,6 +283,20 @@ class Books(Desks):
                 self.desk._settle_rest()
             self.assertEqual(self.ask(f"{key} fund 1 5", "? wallet 10"), ["ok", "0 0"])
         self.assertEqual(self.accepted(), ["fund 1 5", "fund 1 5"])
+
+    def test_a_run_that_ends_while_the_book_can_not_be_written(self) -> None:
+        """And a gateway that begins then: queries are answered, and what was passed on is found once it can."""
+        fault = books.sqlite3.OperationalError("database or disk is full")
+        with mock.patch.object(Book, "settle", side_effect=fault):
+            lost = "refused book it was passed on, and its reply was not noted: send it again, with its key"
+            self.assertEqual(self.ask("a fund 1 5", "a fund 10 5"), [lost] * 2)
+            assert self.desk.run._process
+            self.desk.run._process.kill()
+            self.assertEqual(self.ask("? wallet 1", "? wallet 10"), ["5 0", "5 0"])
+            self.again()
+            self.assertEqual(self.ask("? wallet 1", "b fund 10 5")[0], "5 0")
+        self.assertEqual(self.ask("a fund 1 5", "a fund 10 5"), ["ok", "ok"])
+        self.assertEqual(self.accepted(), ["fund 1 5", "fund 10 5"])
 
     def test_numbers_that_are_not_the_books(self) -> None:
         self.desk.book.slots[11] = self.desk.book.slots[11]._replace(accepted=5)
@@ -476,6 +500,34 @@ class Rotations(Desks):
         self.assertEqual(self.answers[job], "refused archive the journal is full, and was not rotated: there is a gap")
         self.assertEqual(self.ask("k4 fund 1 1", "? wallet 10")[0][:15], "refused archive")  # and no archiving at once
         self.assertEqual(self.told("rotated"), [])
+
+    def test_an_archiving_that_can_not_be_begun(self) -> None:
+        """The commands that wait for it are refused, and the others of their turn get their replies."""
+        self.over_full("pass")
+        for index in range(2):
+            self.ask(f"k{index} fund 1 1")
+        jobs = [self.job("bob", "a fund 10 1"), self.job("alice", "k3 fund 1 1")]
+        with mock.patch("liq.gateway.keeper.subprocess.Popen", side_effect=BlockingIOError(11, "no more processes")):
+            self.desk.turn(jobs)
+            self.wait_for_archive()
+        self.assertEqual(self.answers[jobs[0]], "ok")
+        self.assertIn("was not rotated: it could not be begun: [Errno 11] no more processes", self.answers[jobs[1]])
+
+    def test_what_waits_when_the_rotation_ends_all(self) -> None:
+        """It is told so."""
+        ends = "\n    if 'rotate' in line: sys.exit(5)\n"
+        program = self.stand_in(FULL_AT_3.replace("for line in sys.stdin:\n", f"for line in sys.stdin:{ends}"))
+        self.again(program=program, archive=[sys.executable, "-c", ""])
+        self.wait_for_archive()
+        for index in range(3):
+            self.ask(f"k{index} fund 1 1")
+        held, waits = self.job("alice", "k3 fund 1 1"), self.job("bob", "? wallet 10")
+        self.desk.turn([held])
+        assert self.desk.keeper and self.desk.keeper._process
+        self.desk.keeper._process.wait()
+        self.desk.put(waits)
+        self.assertEqual(self.desk.work().status, 5)
+        self.assertEqual([self.answers[job][:15] for job in (held, waits)], ["refused stopped"] * 2)
 
     def test_without_an_archive_it_is_liqs_answer(self) -> None:
         self.again(program=self.stand_in(FULL_AT_3))

@@ -59,7 +59,8 @@ class Parts(NamedTuple):
 
 
 class Desk:
-    """Answers jobs. `deliver` is called with the answers of a turn, in the thread that works."""
+    """Answers jobs. `deliver` is called with the answers of a turn, in the thread that works. Where a job is answered
+    twice, as at an end, the first answer counts."""
 
     def __init__(self, parts: Parts, table: Table, deliver: Callable[[Answers], None], adopts: bool = False) -> None:
         self.run, self.book, self.log, self.counts, self.keeper = parts
@@ -105,6 +106,7 @@ class Desk:
     def work(self) -> Stopped:
         """Works until it is stopped, or can't go on. Whoever waits then is told so."""
         why = Stopped(0, "the gateway is stopped")
+        jobs: List[Job] = []
         try:
             while not self._is_stopping:
                 busy = self.keeper is not None and self.keeper.is_busy
@@ -112,6 +114,7 @@ class Desk:
                 self._change_tables()
                 self._look_at_archive()
                 self.turn(jobs)
+                jobs = []
         except Stopped as stopped:
             why = stopped
         except (Unfit, OSError, sqlite3.Error) as fault:
@@ -120,7 +123,7 @@ class Desk:
             why = Stopped(1, f"a fault of the gateway itself: {fault!r}")
             self.log.write("fault", trace=traceback.format_exc())
         self._is_stopping = True
-        self.deliver([(job, str(STOPPED)) for job in self._held + self.queue.close()])
+        self.deliver([(job, str(STOPPED)) for job in jobs + self._held + self.queue.close()])  # the first one counts
         return self._end(why)
 
     def _end(self, why: Stopped) -> Stopped:
@@ -312,7 +315,9 @@ class Desk:
 
     def _check(self, sent: List[Sent], adopts: bool = False) -> None:
         """Compares the journal's next numbers with the book, and settles what is without a reply there. What is in
-        hand, `sent`, may or may not be carried out, unless it was answered. Raises `Stopped`."""
+        hand, `sent`, may or may not be carried out, unless it was answered. Where the book can't be written what was
+        found is noted in front of the next commands. Raises `Stopped`."""
+        found: List[Settled] = []
         in_hand = {one.order.client: one for one in sent if one.order}
         slots = list(self.book.slots.values())
         replies = self.run.ask_many([f"? next_number {slot.client}" for slot in slots])
@@ -328,9 +333,10 @@ class Desk:
                 self.book.adopt(slot.client, last)
             elif slot.pending and one is None:
                 reply = " ".join(self.run.ask(slot.pending.line)) if last > slot.accepted else None
-                self.book.settle([Settled(slot.pending, reply)])
+                found.append(Settled(slot.pending, reply))
                 about = {"caller": slot.caller, "key": slot.pending.key, "call": slot.pending.call, "reply": reply}
                 self.log.write("found", client=slot.client, number=slot.pending.number, **about)
+        self._book_settled(found)
 
     # ---- the table
 
@@ -356,6 +362,8 @@ class Desk:
             except End as end:
                 self._ended(end)
                 told(str(end))
+                if isinstance(end, HOPELESS):
+                    raise self._hopeless(end) from None
                 self._begin_again([])
             else:
                 told(None)
@@ -390,12 +398,12 @@ class Desk:
             return
         self.log.write("archived" if outcome.is_done else "not archived", said=outcome.said)
         self.counts.add("archives", what="done" if outcome.is_done else "failed")
-        held, self._held = self._held, []
-        is_wanted, self._wants_rotation = self._wants_rotation or bool(held), False
+        is_wanted, self._wants_rotation = self._wants_rotation or bool(self._held), False
         if outcome.is_done and is_wanted:
             why = self._rotated()
         else:
             why = None if outcome.is_done else outcome.said
+        held, self._held = self._held, []
         if why is None:
             self.queue.put_back(held)
             return
@@ -416,7 +424,7 @@ class Desk:
             self._settled(sent)
         self.log.write("rotated", reply=own.reply)
         if own.reply is None or not own.reply.startswith("ok"):
-            return own.reply or "the gateway can't write its book"
+            return own.reply or (own.refused.reason if own.refused else "the gateway can't write its book")
         self.counts.add("rotations")
         self.keeper.begin()
         return None
