@@ -68,7 +68,7 @@ class Tables(InFolder):
             (ALICE + "connections = 0\n", "connections"),
             (ALICE.replace("alice", "Alice"), "'Alice'"),
             (ALICE.replace("1001", "nobody-of-this-name"), "nobody-of-this-name"),
-            (ALICE.replace("1001", "65534"), "can't name"),
+            (ALICE.replace("1001", "65534"), "can't name"), (ALICE.replace("1001", "ali\0ce"), "login name"),
             (ALICE.replace("11", "1048576"), "client"),
             ("[DEFAULT]\nverbs = take\n" + ALICE, "[DEFAULT]"),
             ("client = 1\n" + ALICE, "no section"),

@@ -1,6 +1,7 @@
 """The gateway's desk and book: keys, each moment of a stop, ends of the run, a full journal, a market that is not the
 book's."""
 import json
+import os
 import shutil
 import sys
 import time
@@ -406,6 +407,22 @@ class BookAlone(InFolder):
     def test_what_is_no_book(self) -> None:
         (self.folder / "book").write_bytes(b"no book" * 100)
         self.assertRaises(BadBook, self.opened)
+
+    def test_whose_it_is(self) -> None:
+        path = self.folder / "book"
+        before = os.umask(0)
+        try:
+            self.opened().close()
+        finally:
+            os.umask(before)
+        self.assertEqual(path.stat().st_mode & 0o777, 0o600)
+        for mode in (0o620, 0o602):
+            path.chmod(mode)
+            self.assertRaises(BadBook, self.opened)
+        path.chmod(0o600)
+        if os.geteuid() == 0:
+            os.chown(path, 1234, 0)
+            self.assertRaises(BadBook, self.opened)
 
     def test_what_is_settled_twice(self) -> None:
         book = self.opened()

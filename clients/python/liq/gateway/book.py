@@ -15,6 +15,7 @@ It is a database of SQLite, which its process holds for itself.
 import contextlib
 import os
 import sqlite3
+import stat
 from pathlib import Path
 from typing import Dict, Iterator, Mapping, NamedTuple, Optional, Sequence
 
@@ -37,7 +38,8 @@ CREATE TABLE replies (
 
 
 class BadBook(Unfit):
-    """A book is none, is held by another gateway, or can't be written; or it says otherwise than the table."""
+    """A book is none, is held by another gateway, can't be written, or others may write it; or it says otherwise than
+    the table."""
 
     def __init__(self, path: Folder, why: str) -> None:
         super().__init__(path, why)
@@ -103,6 +105,7 @@ class Book:
         finally:
             os.umask(before)
         try:
+            self._check_rights()
             self._open(is_new)
         except sqlite3.Error as fault:
             self._base.close()
@@ -111,6 +114,12 @@ class Book:
         except BaseException:
             self._base.close()
             raise
+
+    def _check_rights(self) -> None:
+        """Raises `BadBook` where somebody else could write it."""
+        found = self.path.stat()
+        if found.st_uid not in (0, os.geteuid()) or found.st_mode & (stat.S_IWGRP | stat.S_IWOTH):
+            raise BadBook(self.path, "it is another user's, or others may write it: chown and chmod go-w it")
 
     def _open(self, is_new: bool) -> None:
         for setting in "locking_mode = EXCLUSIVE", "journal_mode = WAL", "synchronous = FULL":

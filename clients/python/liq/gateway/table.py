@@ -206,7 +206,7 @@ def _client(name: str, row: Dict[str, str]) -> int:
 def _user(name: str, word: str) -> int:
     try:
         user = pwd.getpwnam(word).pw_uid
-    except KeyError:
+    except (KeyError, ValueError):  # the second one where it has a NUL
         user = _number(name, "user (a login name, or)", word, 0, 2**32 - 2)
     if user == NOBODY:
         raise BadTable(f"[{name}]: {word} is whom the system names where it can't name a user: take another one")
