@@ -5,6 +5,7 @@ import os
 import signal
 import socket
 import subprocess
+import threading
 import time
 import unittest
 from typing import List
@@ -15,7 +16,7 @@ from liq.gateway.lines import Refused, read_line
 from liq.gateway.log import Counts, Log
 from liq.gateway.table import BadTable, parse_table, read_table
 
-from .gateways import ME, TABLE, Gateways
+from .gateways import ME, SECONDS, TABLE, Gateways
 from .market import InFolder
 
 ALICE = "[gateway]\nclient = 1\n[alice]\nuser = 1001\nclient = 11\n"
@@ -244,6 +245,26 @@ class Connections(Gateways):
             except (Gone, AssertionError):
                 time.sleep(0.05)
         self.fail("a place that was left is not given again")
+
+
+    def test_more_at_once_than_are_taken(self) -> None:
+        """They wait for their turn."""
+        listening = socket.socket(socket.AF_UNIX, socket.SOCK_STREAM)
+        self.addCleanup(listening.close)
+        listening.bind(str(self.socket))
+        listening.listen(0)
+        first = Caller(self.socket)
+        self.addCleanup(first.close)
+        self.assertRaises(BlockingIOError, Caller, self.socket, None, 0.05)
+
+        def take() -> None:
+            time.sleep(0.1)
+            listening.accept()[0].close()
+
+        taking = threading.Thread(target=take)
+        taking.start()
+        self.addCleanup(taking.join)
+        Caller(self.socket, None, SECONDS).close()
 
 
 class Processes(Gateways):

@@ -4,12 +4,14 @@
         caller.ask("order-17 fund 1 5")     # "ok"; the same line again gets the same reply
 """
 import socket
+import time
 from types import TracebackType
 from typing import Optional, Type
 
 from ..ends import Folder
 
 PIECE_BYTES = 65536
+SECONDS_A_LOOK = 0.02
 
 
 class Gone(Exception):
@@ -24,12 +26,24 @@ class Caller:
         self.socket = socket.socket(socket.AF_UNIX, socket.SOCK_STREAM)
         self.socket.settimeout(seconds)
         try:
-            self.socket.connect(str(path))
+            self._connect(path, seconds)
             if name is not None:
                 self.send(f"as {name}")
         except BaseException:
             self.socket.close()
             raise
+
+    def _connect(self, path: Folder, seconds: float) -> None:
+        """Connects, and waits for a place where more do than the gateway has taken."""
+        until = time.monotonic() + seconds
+        while True:
+            try:
+                self.socket.connect(str(path))
+                return
+            except BlockingIOError:
+                if time.monotonic() > until:
+                    raise
+                time.sleep(SECONDS_A_LOOK)
 
     def send(self, line: str) -> None:
         """Sends a line."""
