@@ -200,9 +200,9 @@ class Connections(Gateways):
 
     def test_the_idle(self) -> None:
         """A letter now and then is no line; a line is."""
-        self.start("--idle", "0.8")
+        self.start("--idle", "2")
         slow, silent, busy = self.caller(), self.caller(), self.caller()
-        for _ in range(16):
+        for _ in range(30):
             self.assertEqual(busy.ask("? wallet 1"), "0 0")
             try:
                 slow.socket.send(b"x")
@@ -366,8 +366,9 @@ class Processes(Gateways):
         for generation in (2, 3, 4):
             self.assertEqual(self.caller().ask(f"k{generation} fund 1 5"), "ok")
             gateway.send_signal(signal.SIGUSR1)
-            while Journal(self.market).current.generation != generation:
+            while self.log.read_text().count('"rotated"') < generation - 1:
                 time.sleep(0.05)
+            self.assertEqual(Journal(self.market).current.generation, generation)
         self.assertEqual(self.caller().ask("k2 fund 1 5"), "ok")
         self.assertEqual(self.caller().ask("? wallet 1"), "15 0")
         while len(list((self.folder / "archive").glob("*.liq"))) < 3:
