@@ -216,6 +216,21 @@ class Ends(Desks):
         with mock.patch.object(desks, "SECONDS_BETWEEN_STARTS", 0), self.assertRaises(Stopped):
             self.desk._begin_again([])
 
+    def test_a_run_that_the_system_does_not_begin_at_once(self) -> None:
+        self.ask("a fund 1 5")
+        assert self.desk.run._process
+        self.desk.run._process.kill()
+        spawn, faults = self.desk.run._spawn, [OSError(24, "too many open files"), BlockingIOError(11, "no processes")]
+
+        def spawned() -> Any:
+            if faults:
+                raise faults.pop()
+            return spawn()
+
+        with mock.patch.object(desks, "SECONDS_BETWEEN_STARTS", 0), mock.patch.object(self.desk.run, "_spawn", spawned):
+            self.assertEqual(self.ask("b fund 1 6", "a fund 10 1"), ["ok", "ok"])
+        self.assertEqual(self.accepted(), ["fund 1 5", "fund 1 6", "fund 10 1"])
+
     def test_a_disk_fault_while_a_table_is_looked_at(self) -> None:
         """No run is begun behind it."""
         ends = ENDS_AT.replace("fund 1 13", "next_number 44")

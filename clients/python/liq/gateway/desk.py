@@ -310,7 +310,10 @@ class Desk:
                 self._ended(end)
                 if isinstance(end, HOPELESS):
                     raise self._hopeless(end) from None
-                time.sleep(SECONDS_BETWEEN_STARTS * count)
+            except OSError as fault:  # as for want of processes or of open files
+                self.run.kill()
+                self.log.write("run not begun", why=str(fault))
+            time.sleep(SECONDS_BETWEEN_STARTS * count)
         raise Stopped(1, f"liq was begun {STARTS_MOST} times, and ended before it answered")
 
     def _check(self, sent: List[Sent], adopts: bool = False) -> None:
