@@ -1,2 +1,5 @@
+pub mod Asked
 pub mod Held
+pub mod Names
+pub mod Opened
 pub mod Taking

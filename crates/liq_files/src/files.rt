@@ -1,22 +1,45 @@
 // The two files, each taken and held for this process alone.
-ghost use Rattle.std.specs.Prelude.{◌↔◌, ◌≡◌, None, IfSome, IsSome, IsTrue};
+ghost use Rattle.std.specs.Prelude.{◌↔◌, ◌≡◌, Err, None, IfOk, IfSome, IsSome, IsTrue};
+ghost use Rattle.liq_files.specs.Asked.{Earlier};
 ghost use Rattle.liq_files.specs.Held.{IsHeld};
+ghost use Rattle.liq_files.specs.Opened.{BothTaken, IsItsTurn, OpensRightly, SawNone, Taken, WasOpened};
+ghost use Rattle.liq_files.specs.declared.calls.Refusal.TheVariants.{Missing};
 
+use crate::calls::{Name, Opening, Refusal, Stream};
 use crate::found::{FileId, Found, may_be_taken};
-use crate::names::{LEFT, RIGHT, led_to};
-use crate::streams::{errors, input, output};
-use crate::user::effective_user;
+use crate::names::led_to;
+use crate::system::System;
 use liq_outside::FileDisk;
-use std::fs::{self, File, Files, TryLockError};
-use std::io::{self, ErrorKind};
-use std::os::unix::fs::OpenOptionsExt;
+use std::alloc::Global;
+use std::fs::{File, TryLockError};
+use std::io::ErrorKind;
+
+/// What is there is opened as it is.
+const AS_IT_IS: Opening = Opening {
+    read: true,
+    write: true,
+    truncate: false,
+    create_new: false,
+    mode: 0,
+};
+
+/// A new file, which its owner alone may read and write. No link is followed.
+const NEW: Opening = Opening {
+    read: true,
+    write: true,
+    truncate: false,
+    create_new: true,
+    mode: 0o600,
+};
 
 /// The disks over both files, or two without one: once the left file is refused the right one is not tried. No file stands for two of
 /// the standard streams, the left file and the right one. Nothing is written, and no folder synced, before both are taken.
-pub fn disks<R: Files<File = File> + AllocGlobal>(rt: &R) -> (FileDisk, FileDisk)
-    ensures { IsSome result.0.device ↔ IsSome result.1.device }
+pub fn disks<S: System>(system: &mut S, alloc: Global) -> (FileDisk, FileDisk)
+    ensures both { IsSome result.0.device ↔ IsSome result.1.device }
+    ensures opens { S.tells → OpensRightly (S.asked system.old) → OpensRightly (S.asked system.new) }
+    ensures taken { S.tells → IfSome result.0.device (λ left. IfSome result.1.device (λ right. BothTaken left right (S.asked system.new))) }
 {
-    match both(rt) {
+    match both(system, alloc) {
         Some(disks) => disks,
         None => no_disks(),
     }
@@ -30,68 +53,87 @@ pub fn no_disks() -> (FileDisk, FileDisk)
     (FileDisk::new(None), FileDisk::new(None))
 }
 
-fn both<R: Files<File = File> + AllocGlobal>(rt: &R) -> Option<(FileDisk, FileDisk)>
+fn both<S: System>(system: &mut S, alloc: Global) -> Option<(FileDisk, FileDisk)>
     ensures left { IfSome result (λ disks. IsSome disks.0.device) }
     ensures right { IfSome result (λ disks. IsSome disks.1.device) }
+    ensures opens { S.tells → OpensRightly (S.asked system.old) → OpensRightly (S.asked system.new) }
+    ensures taken { S.tells → IfSome result (λ disks. IfSome disks.0.device (λ left. IfSome disks.1.device (λ right. BothTaken left right (S.asked system.new)))) }
 {
-    let user = effective_user(rt)?;
-    let [input, output, errors] = [input(rt).ok()?, output(rt).ok()?, errors(rt).ok()?];
-    let (left, left_id) = taken(rt, LEFT, user, &[input, output, errors])?;
-    let (right, _) = taken(rt, RIGHT, user, &[input, output, errors, left_id])?;
-    sync_folder(rt, LEFT).ok()?;
-    sync_folder(rt, RIGHT).ok()?;
+    let user = system.user()?;
+    let input = system.behind(Stream::Input)?;
+    let output = system.behind(Stream::Output)?;
+    let errors = system.behind(Stream::Errors)?;
+    let (left, found) = taken(system, alloc, Name::Left, user, &[input, output, errors])?;
+    let (right, _) = taken(system, alloc, Name::Right, user, &[input, output, errors, found.id])?;
+    if !system.sync_folder(Name::Left) {
+        return None;
+    }
+    if !system.sync_folder(Name::Right) {
+        return None;
+    }
     Some((left, right))
 }
 
 /// The disk over the file of this name, and which file it is. There is none where the file cannot be opened or may not be taken, stands
 /// in the place of a standard stream, or is held by another process. What the name leads to is looked at once the file is open, so the
 /// file that is judged is the one that is used.
-fn taken<R: Files<File = File> + AllocGlobal>(
-    rt: &R,
-    name: &str,
+fn taken<S: System>(
+    system: &mut S,
+    alloc: Global,
+    name: Name,
     user: u32,
     others: &[FileId],
-) -> Option<(FileDisk, FileId)>
-    ensures { IfSome result (λ taken. IsSome taken.0.device) }
+) -> Option<(FileDisk, Found)>
+    ensures there { IfSome result (λ taken. IsSome taken.0.device) }
+    ensures since { S.tells → Earlier (S.asked system.old) (S.asked system.new) }
+    ensures opens { S.tells → IsItsTurn name (S.asked system.old) → OpensRightly (S.asked system.old) → OpensRightly (S.asked system.new) }
+    ensures taken { S.tells → IfSome result (λ taken. IfSome taken.0.device (λ file. Taken user others.now name file taken.1 (S.asked system.new))) }
 {
-    let file = opened(rt, name).ok()?;
-    let found = Found::of(&file.metadata().ok()?);
-    let is_named = led_to(rt, name, user)?.id == found.id;
-    if !is_named || !may_be_taken(&found, user, others) || !is_held(&file.try_lock()) {
+    let Ok(file) = opened(system, name) else {
+        return None;
+    };
+    let found = system.told(&file)?;
+    let named = led_to(system, alloc, name, user)?;
+    if named.id != found.id || !may_be_taken(&found, user, others) {
+        return None;
+    }
+    if !is_held(&system.lock(&file)) {
         return None;
     }
     let disk = FileDisk::new(Some(file));
-    disk.is_there().then_some((disk, found.id))
+    if !disk.is_there() {
+        return None;
+    }
+    Some((disk, found))
 }
 
 /// The file of this name, to be read and written. Where there is none it is made; where one came meanwhile, that one is opened.
-fn opened<F: Files<File = File>>(files: &F, name: &str) -> io::Result<File> {
-    match existing(files, name) {
-        Err(fault) if fault.kind() == ErrorKind::NotFound => {}
+fn opened<S: System>(system: &mut S, name: Name) -> Result<File, Refusal>
+    ensures since { S.tells → Earlier (S.asked system.old) (S.asked system.new) }
+    ensures opens { S.tells → IsItsTurn name (S.asked system.old) → OpensRightly (S.asked system.old) → OpensRightly (S.asked system.new) }
+    ensures opened { S.tells → IfOk result (λ file. WasOpened name file (S.asked system.new)) }
+{
+    match existing(system, name) {
+        Err(Refusal::Missing) => {}
         found => return found,
     }
-    match made(files, name) {
-        Err(fault) if fault.kind() == ErrorKind::AlreadyExists => existing(files, name),
+    match system.open(name, NEW) {
+        Err(Refusal::Exists) => existing(system, name),
         made => made,
     }
 }
 
 /// The file that is there. What is no regular file is not opened: a device may do something when it is.
-fn existing<F: Files<File = File>>(files: &F, name: &str) -> io::Result<File> {
-    if !fs::metadata(files, name)?.is_file() {
-        return Err(io::Error::from(ErrorKind::InvalidInput));
+fn existing<S: System>(system: &mut S, name: Name) -> Result<File, Refusal>
+    ensures since { S.tells → Earlier (S.asked system.old) (S.asked system.new) }
+    ensures opens { S.tells → IsItsTurn name (S.asked system.old) → OpensRightly (S.asked system.old) → OpensRightly (S.asked system.new) }
+    ensures opened { S.tells → IfOk result (λ file. WasOpened name file (S.asked system.new)) }
+    ensures none { S.tells → result ≡ Err Missing → SawNone name (S.asked system.new) }
+{
+    if !system.look(name)? {
+        return Err(Refusal::Other);
     }
-    File::options().read(true).write(true).open(files, name)
-}
-
-/// A new file, which its owner alone may read and write. No link is followed.
-fn made<F: Files<File = File>>(files: &F, name: &str) -> io::Result<File> {
-    File::options()
-        .read(true)
-        .write(true)
-        .create_new(true)
-        .mode(0o600)
-        .open(files, name)
+    system.open(name, AS_IT_IS)
 }
 
 /// Whether the lock lets the process go on: it is taken, or the file system has no locks. After any other fault nothing is held.
@@ -102,18 +144,5 @@ fn is_held(lock: &Result<(), TryLockError>) -> bool
         Ok(()) => true,
         Err(TryLockError::Error(fault)) => fault.kind() == ErrorKind::Unsupported,
         Err(TryLockError::WouldBlock) => false,
-    }
-}
-
-/// Syncs the folder in which the file of this name really is, so that one that was just made is there after a loss of power too: this
-/// one, or that of a link's target.
-fn sync_folder<R: Files<File = File> + AllocGlobal>(rt: &R, name: &str) -> io::Result<()> {
-    if !fs::symlink_metadata(rt, name)?.is_symlink() {
-        return File::open(rt, ".")?.sync_all();
-    }
-    let target = fs::canonicalize(rt, name)?;
-    match target.parent() {
-        Some(folder) => File::open(rt, folder)?.sync_all(),
-        None => Err(io::Error::from(ErrorKind::NotFound)),
     }
 }

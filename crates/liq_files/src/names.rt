@@ -1,40 +1,50 @@
 // What the names of the two files lead to.
+ghost use Rattle.std.specs.Prelude.{IfSome, IsTrue, ◌↔◌};
+ghost use Rattle.std.specs.Path.{path_buf_bytes};
+ghost use Rattle.liq_files.specs.Asked.{Earlier};
+ghost use Rattle.liq_files.specs.Names.{text_of};
+ghost use Rattle.liq_files.specs.Opened.{IsUnchanged, LeadsTo, OpensRightly};
 
+use crate::calls::{Name, Seen};
 use crate::found::{Found, may_be_followed};
-use std::fs::{self, Files, Metadata};
-use std::os::unix::fs::MetadataExt;
+use crate::system::System;
+use std::alloc::Global;
 use std::path::PathBuf;
-
-pub const LEFT: &str = "left.liq";
-
-pub const RIGHT: &str = "right.liq";
 
 /// As many links in a row as the system follows.
 const MOST_LINKS: u32 = 40;
 
 /// The file to which a name leads, where the user follows each link on the way. Folders on the way are not looked at. Memory is taken
 /// only where the name is a link.
-pub fn led_to<R: Files + AllocGlobal>(rt: &R, name: &str, user: u32) -> Option<Found> {
-    let told = fs::symlink_metadata(rt, name).ok()?;
-    if told.is_symlink() {
-        return behind_links(rt, PathBuf::from_str(rt.alloc(), name).ok()?, user);
+pub fn led_to<S: System>(system: &mut S, alloc: Global, name: Name, user: u32) -> Option<Found>
+    ensures since { S.tells → Earlier (S.asked system.old) (S.asked system.new) }
+    ensures opens { S.tells → OpensRightly (S.asked system.old) → OpensRightly (S.asked system.new) }
+    ensures leads { S.tells → IfSome result (λ found. LeadsTo user (text_of name) found (S.asked system.new)) }
+{
+    let seen = system.see(name.text())?;
+    if seen.is_link {
+        return behind_links(system, PathBuf::from_str(alloc, name.text()).ok()?, user);
     }
-    Some(Found::of(&told))
+    Some(seen.found)
 }
 
-fn behind_links<R: Files + AllocGlobal>(rt: &R, name: PathBuf, user: u32) -> Option<Found> {
+fn behind_links<S: System>(system: &mut S, name: PathBuf, user: u32) -> Option<Found>
+    ensures since { S.tells → Earlier (S.asked system.old) (S.asked system.new) }
+    ensures opens { S.tells → OpensRightly (S.asked system.old) → OpensRightly (S.asked system.new) }
+    ensures leads { S.tells → IfSome result (λ found. LeadsTo user (path_buf_bytes name) found (S.asked system.new)) }
+{
     let mut path = name;
     for _ in 0..=MOST_LINKS {
-        let told = fs::symlink_metadata(rt, path.as_str()).ok()?;
-        if !told.is_symlink() {
-            return Some(Found::of(&told));
+        let seen = system.see(path.as_str())?;
+        if !seen.is_link {
+            return Some(seen.found);
         }
-        if !may_be_followed(told.uid(), user) {
+        if !may_be_followed(seen.found.owner, user) {
             return None;
         }
-        let next = target(rt, &path)?;
-        let again = fs::symlink_metadata(rt, path.as_str()).ok()?;
-        if !is_unchanged(&told, &again) {
+        let next = system.read_link(path.as_str())?;
+        let again = system.see(path.as_str())?;
+        if !is_unchanged(&seen, &again) {
             return None;
         }
         path = next;
@@ -43,14 +53,8 @@ fn behind_links<R: Files + AllocGlobal>(rt: &R, name: PathBuf, user: u32) -> Opt
 }
 
 /// Whether two looks at a link saw the same one: a name that was given to another link meanwhile shows by its number or its time of change.
-fn is_unchanged(before: &Metadata, after: &Metadata) -> bool {
-    Found::of(before).id == Found::of(after).id
-        && before.ctime() == after.ctime()
-        && before.ctime_nsec() == after.ctime_nsec()
-}
-
-/// The path that a link holds, as it is from here.
-fn target<R: Files + AllocGlobal>(rt: &R, link: &PathBuf) -> Option<PathBuf> {
-    let held = fs::read_link(rt, link.as_str()).ok()?;
-    link.parent()?.join(rt.alloc(), held.as_str()).ok()
+fn is_unchanged(before: &Seen, after: &Seen) -> bool
+    ensures { IsTrue result ↔ IsUnchanged before.now after.now }
+{
+    before.found.id == after.found.id && before.changed == after.changed
 }

@@ -3,8 +3,8 @@ ghost use Rattle.std.specs.Prelude.{◌≡◌, ◌↔◌, None, IsErr, IsTrue};
 ghost use Rattle.std.specs.Io.{WritesAtMost};
 ghost use Rattle.liq_files.specs.Taking.{MayBe};
 
+use crate::calls::Name;
 use crate::found::{FileId, Found};
-use crate::names::{LEFT, RIGHT};
 use crate::streams::{is_output_regular, output};
 use std::fs::{self, Files};
 use std::io::{self, ErrorKind, Write};
@@ -18,7 +18,7 @@ pub struct Written<W> {
 /// What is written to standard output goes to this writer, or nowhere where standard output is one of the two files, or may be one: no
 /// reply and no last line is written over a journal.
 pub fn standard_output<F: Files, W: Write + Drop>(files: &F, writer: W) -> Written<W> {
-    let is_a_file = is_output(files, LEFT) || is_output(files, RIGHT);
+    let is_a_file = is_output(files, Name::Left.text()) || is_output(files, Name::Right.text());
     Written {
         writer: (!is_a_file).then_some(writer),
     }

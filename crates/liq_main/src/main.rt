@@ -1,7 +1,7 @@
 //! The program: the top call over the real streams, and over the two disks of the directory in which it runs.
 #![tactic(auto)]
 
-use liq_files::{disks, no_disks, standard_output};
+use liq_files::{Outside, disks, no_disks, standard_output};
 use liq_outside::{StdSink, StdSource};
 use liq_serve::{OpenGate, protocol, takes_disks, without_words};
 use std::fs::{File, Files};
@@ -31,7 +31,7 @@ fn main(rt: HostRuntime) -> ExitCode {
         Ok(words) => {
             let mut input = StdSource::new(rt.reader());
             let (left, right) = if takes_disks(&words) {
-                disks(&rt)
+                disks(&mut Outside::new(&rt), rt.alloc())
             } else {
                 no_disks()
             };

@@ -2,7 +2,7 @@
 #![tactic(auto)]
 
 use liq_ends::status;
-use liq_files::{disks, standard_output};
+use liq_files::{Outside, disks, standard_output};
 use liq_outside::{StdSink, StdSource};
 use liq_run::run_on;
 use std::io;
@@ -11,7 +11,7 @@ use std::process::ExitCode;
 fn main(rt: HostRuntime) -> ExitCode {
     let mut out = StdSink::new(standard_output(&rt, io::writer(&rt)));
     let mut input = StdSource::new(rt.reader());
-    let (left, right) = disks(&rt);
+    let (left, right) = disks(&mut Outside::new(&rt), rt.alloc());
     let ending = run_on(rt.alloc(), &mut input, &mut out, left, right);
     ExitCode::from(status(&ending.end))
 }

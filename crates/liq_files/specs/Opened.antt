@@ -1,0 +1,105 @@
+-- How the two files are opened and taken, over what was asked of the system and answered.
+use Rattle.std.specs.Prelude.{◌≡◌, ◌⊎◌, ℕ, true, false, List, [], ◌∷◌, Option, Some, Result, Ok, Err}
+use Rattle.std.specs.declared.fs.File.{File}
+use Rattle.std.specs.declared.fs.TryLockError.{TryLockError}
+use Rattle.liq_files.specs.Asked.{Asked, User, Behind, Looked, Opened, Told, Saw, Read, Locked, Synced, Earlier, WasAsked}
+use Rattle.liq_files.specs.Held.{IsHeld}
+use Rattle.liq_files.specs.Names.{text_of}
+use Rattle.liq_files.specs.Taking.{MayBeFollowed, MayBeTaken}
+use Rattle.liq_files.specs.declared.calls.Name.{Name}
+use Rattle.liq_files.specs.declared.calls.Name.TheVariants.{Left, Right}
+use Rattle.liq_files.specs.declared.calls.Opening.{Opening}
+use Rattle.liq_files.specs.declared.calls.Refusal.TheVariants.{Missing}
+use Rattle.liq_files.specs.declared.calls.Seen.{Seen}
+use Rattle.liq_files.specs.declared.calls.Stream.TheVariants.{Input, Output, Errors}
+use Rattle.liq_files.specs.declared.found.FileId.{FileId}
+use Rattle.liq_files.specs.declared.found.Found.{Found}
+
+-- the last answer was that a regular file is there
+abbrev pub SawRegular : Name → List Asked → Type 0
+SawRegular name calls = (before : List Asked) × (calls ≡ Looked name (Ok true) ∷ before)
+
+-- the last answer was that there is no such file
+abbrev pub SawNone : Name → List Asked → Type 0
+SawNone name calls =
+    ((before : List Asked) × (calls ≡ Looked name (Err Missing) ∷ before))
+    ⊎ ((how : Opening) × (before : List Asked) × (calls ≡ Opened name how (Err Missing) ∷ before))
+
+-- the file was opened under this name
+abbrev pub WasOpened : Name → File → List Asked → Type 0
+WasOpened name file calls = (how : Opening) × WasAsked (Opened name how (Ok file)) calls
+
+-- the file's lock was taken, or the file system has none
+abbrev pub WasHeld : File → List Asked → Type 0
+WasHeld file calls = (answer : Result (Unit {0}) TryLockError) × WasAsked (Locked file answer) calls × IsHeld answer
+
+-- the right file's turn comes once the left one is held
+abbrev pub IsItsTurn : Name → List Asked → Type 0
+IsItsTurn Left calls = Unit {0}
+IsItsTurn Right calls = (file : File) × WasOpened Left file calls × WasHeld file calls
+
+-- to read and write, and never truncated
+abbrev pub KeepsBytes : Opening → Type 0
+KeepsBytes how = (how.read ≡ true) × (how.write ≡ true) × (how.truncate ≡ false)
+
+-- a regular file that is there is opened as it is; where there is none a new one is made, for its owner alone
+abbrev pub OpensOrMakes : Name → Opening → List Asked → Type 0
+OpensOrMakes name how before =
+    ((how.create_new ≡ false) × SawRegular name before)
+    ⊎ ((how.create_new ≡ true) × (how.mode ≡ 0o600) × SawNone name before)
+
+-- the file of this name may be opened so, behind these calls
+pub record MayOpen (name : Name) (how : Opening) (before : List Asked) : Type 0 where
+  pub keeps : KeepsBytes how
+  pub there_or_made : OpensOrMakes name how before
+  pub in_turn : IsItsTurn name before
+
+-- each file that was opened, or that the system refused to open, was asked for as it may be
+abbrev pub OpensRightly : List Asked → Type 0
+OpensRightly [] = Unit {0}
+OpensRightly (Opened name how answer ∷ before) = MayOpen name how before × OpensRightly before
+OpensRightly (_ ∷ before) = OpensRightly before
+
+-- it is the same link at both looks: none took its name meanwhile
+abbrev pub IsUnchanged : Seen → Seen → Type 0
+IsUnchanged seen again = (seen.found.id ≡ again.found.id) × (seen.changed ≡ again.changed)
+
+-- The text leads to this path by links that the user follows, each of them looked at again once it was read.
+pub data Leads (user : ℕ) (text : List ℕ) : List ℕ → List Asked → Type 0 where
+  here : {calls : List Asked} → Leads user text text calls
+  along : {link target : List ℕ} {calls : List Asked} {seen again : Seen} → Leads user text link calls → MayBeFollowed user seen.found.owner → IsUnchanged seen again → Leads user text target (Saw link (Some again) ∷ Read link (Some target) ∷ Saw link (Some seen) ∷ calls)
+
+-- The text leads to the file that was found.
+pub record LeadsTo (user : ℕ) (text : List ℕ) (found : Found) (calls : List Asked) : Type 0 where
+  pub path : List ℕ
+  pub seen : Seen
+  pub before : List Asked
+  pub looked : Earlier (Saw path (Some seen) ∷ before) calls
+  pub leads : Leads user text path before
+  pub is_no_link : seen.is_link ≡ false
+  pub same : seen.found.id ≡ found.id
+
+-- The file was opened under this name, it is the one to which the name leads, the user may take it, and it is held.
+pub record Taken (user : ℕ) (others : List FileId) (name : Name) (file : File) (found : Found) (calls : List Asked) : Type 0 where
+  pub opened : WasOpened name file calls
+  pub told : WasAsked (Told file (Some found)) calls
+  pub named : LeadsTo user (text_of name) found calls
+  pub may : MayBeTaken user others found
+  pub held : WasHeld file calls
+
+-- Both files are taken, and then their folders were synced. Neither is the other or a standard stream.
+pub record BothTaken (left right : File) (calls : List Asked) : Type 0 where
+  pub user : ℕ
+  pub input : FileId
+  pub output : FileId
+  pub errors : FileId
+  pub left_found : Found
+  pub right_found : Found
+  pub before : List Asked
+  pub synced : calls ≡ Synced Right true ∷ Synced Left true ∷ before
+  pub is_user : WasAsked (User (Some user)) before
+  pub is_input : WasAsked (Behind Input (Some input)) before
+  pub is_output : WasAsked (Behind Output (Some output)) before
+  pub is_errors : WasAsked (Behind Errors (Some errors)) before
+  pub left_taken : Taken user (input ∷ output ∷ errors ∷ []) Left left left_found before
+  pub right_taken : Taken user (input ∷ output ∷ errors ∷ left_found.id ∷ []) Right right right_found before
