@@ -3,7 +3,7 @@ use Rattle.std.specs.Prelude.{◌≡◌, ℕ, Bool, true, List, [], ◌∷◌, O
 use Rattle.std.proofs.Common.{subst, sym, ◌∙◌, ap, refl, rules}
 use Rattle.std.specs.declared.fs.File.{File}
 use Rattle.liq_files.specs.Asked.{Asked, User, Behind, Looked, Opened, Synced, Earlier, WasAsked}
-use Rattle.liq_files.specs.Opened.{BothTaken, IsItsTurn, LeadsTo, MayOpen, OpensRightly, SawRegular, Taken, WasHeld, WasOpened}
+use Rattle.liq_files.specs.Opened.{BothTaken, IsItsTurn, LeadsTo, MayOpen, OpensWell, SawRegular, Taken, WasHeld, WasOpened}
 use Rattle.liq_files.specs.declared.calls.Name.{Name}
 use Rattle.liq_files.specs.declared.calls.Name.TheVariants.{Left, Right}
 use Rattle.liq_files.specs.declared.calls.Opening.{Opening}
@@ -25,11 +25,11 @@ turn_still Right old new since turn =
     (turn.0, opened_still Left turn.0 old new since turn.1, held_still turn.0 old new since turn.2)
 
 -- a call of another kind
-pub rightly_along : (old new : List Asked) → new ≡ old → OpensRightly old → OpensRightly new
-rightly_along old new is h = subst (λ (c : List Asked). OpensRightly c) (sym is) h
+pub rightly_along : (old new : List Asked) → new ≡ old → OpensWell old → OpensWell new
+rightly_along old new is h = subst (λ (c : List Asked). OpensWell c) (sym is) h
 
-pub opens : (name : Name) (how : Opening) (answer : Result File Refusal) (before after : List Asked) → after ≡ Opened name how answer ∷ before → MayOpen name how before → OpensRightly before → OpensRightly after
-opens name how answer before after is may h = subst (λ (c : List Asked). OpensRightly c) (sym is) (may, h)
+pub opens : (name : Name) (how : Opening) (answer : Result File Refusal) (before after : List Asked) → after ≡ Opened name how answer ∷ before → MayOpen name how before → OpensWell before → OpensWell after
+opens name how answer before after is may h = subst (λ (c : List Asked). OpensWell c) (sym is) (may, h)
 
 pub saw_regular : (name : Name) (answer : Result Bool Refusal) (before after : List Asked) → after ≡ Looked name answer ∷ before → answer ≡ Ok true → SawRegular name after
 saw_regular name answer before after is regular =

@@ -1,5 +1,5 @@
 -- How the two files are opened and taken, over what was asked of the system and answered.
-use Rattle.std.specs.Prelude.{◌≡◌, ◌⊎◌, ℕ, true, false, List, [], ◌∷◌, Option, Some, Result, Ok, Err}
+use Rattle.std.specs.Prelude.{◌≡◌, ◌⊎◌, ℕ, true, false, List, [], ◌∷◌, Option, Some, Result, Ok, Err, IfOk, IfSome}
 use Rattle.std.specs.declared.fs.File.{File}
 use Rattle.std.specs.declared.fs.TryLockError.{TryLockError}
 use Rattle.liq_files.specs.Asked.{Asked, User, Behind, Looked, Opened, Told, Saw, Read, Locked, Synced, Earlier, WasAsked}
@@ -9,6 +9,7 @@ use Rattle.liq_files.specs.Taking.{MayBeFollowed, MayBeTaken}
 use Rattle.liq_files.specs.declared.calls.Name.{Name}
 use Rattle.liq_files.specs.declared.calls.Name.TheVariants.{Left, Right}
 use Rattle.liq_files.specs.declared.calls.Opening.{Opening}
+use Rattle.liq_files.specs.declared.calls.Refusal.{Refusal}
 use Rattle.liq_files.specs.declared.calls.Refusal.TheVariants.{Missing}
 use Rattle.liq_files.specs.declared.calls.Seen.{Seen}
 use Rattle.liq_files.specs.declared.calls.Stream.TheVariants.{Input, Output, Errors}
@@ -31,7 +32,8 @@ WasOpened name file calls = (how : Opening) × WasAsked (Opened name how (Ok fil
 
 -- the file's lock was taken, or the file system has none
 abbrev pub WasHeld : File → List Asked → Type 0
-WasHeld file calls = (answer : Result (Unit {0}) TryLockError) × WasAsked (Locked file answer) calls × IsHeld answer
+WasHeld file calls =
+    (answer : Result (Unit {0}) TryLockError) × WasAsked (Locked file answer) calls × IsHeld answer
 
 -- the right file's turn comes once the left one is held
 abbrev pub IsItsTurn : Name → List Asked → Type 0
@@ -54,11 +56,11 @@ pub record MayOpen (name : Name) (how : Opening) (before : List Asked) : Type 0 
   pub there_or_made : OpensOrMakes name how before
   pub in_turn : IsItsTurn name before
 
--- each file that was opened, or that the system refused to open, was asked for as it may be
-abbrev pub OpensRightly : List Asked → Type 0
-OpensRightly [] = Unit {0}
-OpensRightly (Opened name how answer ∷ before) = MayOpen name how before × OpensRightly before
-OpensRightly (_ ∷ before) = OpensRightly before
+-- each file was asked for as it may be, whether the system then opened it or refused
+abbrev pub OpensWell : List Asked → Type 0
+OpensWell [] = Unit {0}
+OpensWell (Opened name how answer ∷ before) = MayOpen name how before × OpensWell before
+OpensWell (_ ∷ before) = OpensWell before
 
 -- it is the same link at both looks: none took its name meanwhile
 abbrev pub IsUnchanged : Seen → Seen → Type 0
@@ -67,7 +69,12 @@ IsUnchanged seen again = (seen.found.id ≡ again.found.id) × (seen.changed ≡
 -- The text leads to this path by links that the user follows, each of them looked at again once it was read.
 pub data Leads (user : ℕ) (text : List ℕ) : List ℕ → List Asked → Type 0 where
   here : {calls : List Asked} → Leads user text text calls
-  along : {link target : List ℕ} {calls : List Asked} {seen again : Seen} → Leads user text link calls → MayBeFollowed user seen.found.owner → IsUnchanged seen again → Leads user text target (Saw link (Some again) ∷ Read link (Some target) ∷ Saw link (Some seen) ∷ calls)
+  along :
+      {link target : List ℕ} {calls : List Asked} {seen again : Seen}
+      → Leads user text link calls
+      → MayBeFollowed user seen.found.owner
+      → IsUnchanged seen again
+      → Leads user text target (Saw link (Some again) ∷ Read link (Some target) ∷ Saw link (Some seen) ∷ calls)
 
 -- The text leads to the file that was found.
 pub record LeadsTo (user : ℕ) (text : List ℕ) (found : Found) (calls : List Asked) : Type 0 where
@@ -79,8 +86,13 @@ pub record LeadsTo (user : ℕ) (text : List ℕ) (found : Found) (calls : List 
   pub is_no_link : seen.is_link ≡ false
   pub same : seen.found.id ≡ found.id
 
+-- where a file was found, the text leads to it
+abbrev pub LeadsToIt : ℕ → List ℕ → Option Found → List Asked → Type 0
+LeadsToIt user text result calls = IfSome result (λ found. LeadsTo user text found calls)
+
 -- The file was opened under this name, it is the one to which the name leads, the user may take it, and it is held.
-pub record Taken (user : ℕ) (others : List FileId) (name : Name) (file : File) (found : Found) (calls : List Asked) : Type 0 where
+pub record Taken (user : ℕ) (others : List FileId) (name : Name) (file : File) (found : Found) (calls : List Asked)
+    : Type 0 where
   pub opened : WasOpened name file calls
   pub told : WasAsked (Told file (Some found)) calls
   pub named : LeadsTo user (text_of name) found calls
@@ -103,3 +115,19 @@ pub record BothTaken (left right : File) (calls : List Asked) : Type 0 where
   pub is_errors : WasAsked (Behind Errors (Some errors)) before
   pub left_taken : Taken user (input ∷ output ∷ errors ∷ []) Left left left_found before
   pub right_taken : Taken user (input ∷ output ∷ errors ∷ left_found.id ∷ []) Right right right_found before
+
+-- where both are handed out, both are taken
+abbrev pub AreTaken : Option File → Option File → List Asked → Type 0
+AreTaken left right calls = IfSome left (λ l. IfSome right (λ r. BothTaken l r calls))
+
+-- where the file is handed out, it is taken
+abbrev pub IsTaken : ℕ → List FileId → Name → Option File → Found → List Asked → Type 0
+IsTaken user others name device found calls = IfSome device (λ file. Taken user others name file found calls)
+
+-- where a file was answered, it was opened under this name
+abbrev pub IsOpened : Name → Result File Refusal → List Asked → Type 0
+IsOpened name result calls = IfOk result (λ file. WasOpened name file calls)
+
+-- a call of the name's turn leaves each file asked for as it may be
+abbrev pub OpensInTurn : Name → List Asked → List Asked → Type 0
+OpensInTurn name old new = IsItsTurn name old → OpensWell old → OpensWell new

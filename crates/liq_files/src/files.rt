@@ -1,8 +1,8 @@
 // The two files, each taken and held for this process alone.
-ghost use Rattle.std.specs.Prelude.{◌↔◌, ◌≡◌, Err, None, IfOk, IfSome, IsSome, IsTrue};
+ghost use Rattle.std.specs.Prelude.{◌↔◌, ◌≡◌, Err, None, IfSome, IsSome, IsTrue};
 ghost use Rattle.liq_files.specs.Asked.{Earlier};
 ghost use Rattle.liq_files.specs.Held.{IsHeld};
-ghost use Rattle.liq_files.specs.Opened.{BothTaken, IsItsTurn, OpensRightly, SawNone, Taken, WasOpened};
+ghost use Rattle.liq_files.specs.Opened.{AreTaken, IsOpened, IsTaken, OpensInTurn, OpensWell, SawNone};
 ghost use Rattle.liq_files.specs.declared.calls.Refusal.TheVariants.{Missing};
 
 use crate::calls::{Name, Opening, Refusal, Stream};
@@ -36,8 +36,8 @@ const NEW: Opening = Opening {
 /// the standard streams, the left file and the right one. Nothing is written, and no folder synced, before both are taken.
 pub fn disks<S: System>(system: &mut S, alloc: Global) -> (FileDisk, FileDisk)
     ensures both { IsSome result.0.device ↔ IsSome result.1.device }
-    ensures opens { S.tells → OpensRightly (S.asked system.old) → OpensRightly (S.asked system.new) }
-    ensures taken { S.tells → IfSome result.0.device (λ left. IfSome result.1.device (λ right. BothTaken left right (S.asked system.new))) }
+    ensures opens { S.tells → OpensWell (S.asked system.old) → OpensWell (S.asked system.new) }
+    ensures taken { S.tells → AreTaken result.0.device result.1.device (S.asked system.new) }
 {
     match both(system, alloc) {
         Some(disks) => disks,
@@ -56,15 +56,22 @@ pub fn no_disks() -> (FileDisk, FileDisk)
 fn both<S: System>(system: &mut S, alloc: Global) -> Option<(FileDisk, FileDisk)>
     ensures left { IfSome result (λ disks. IsSome disks.0.device) }
     ensures right { IfSome result (λ disks. IsSome disks.1.device) }
-    ensures opens { S.tells → OpensRightly (S.asked system.old) → OpensRightly (S.asked system.new) }
-    ensures taken { S.tells → IfSome result (λ disks. IfSome disks.0.device (λ left. IfSome disks.1.device (λ right. BothTaken left right (S.asked system.new)))) }
+    ensures opens { S.tells → OpensWell (S.asked system.old) → OpensWell (S.asked system.new) }
+    ensures taken { S.tells → IfSome result (λ disks.
+        AreTaken disks.0.device disks.1.device (S.asked system.new)) }
 {
     let user = system.user()?;
     let input = system.behind(Stream::Input)?;
     let output = system.behind(Stream::Output)?;
     let errors = system.behind(Stream::Errors)?;
     let (left, found) = taken(system, alloc, Name::Left, user, &[input, output, errors])?;
-    let (right, _) = taken(system, alloc, Name::Right, user, &[input, output, errors, found.id])?;
+    let (right, _) = taken(
+        system,
+        alloc,
+        Name::Right,
+        user,
+        &[input, output, errors, found.id],
+    )?;
     if !system.sync_folder(Name::Left) {
         return None;
     }
@@ -86,8 +93,9 @@ fn taken<S: System>(
 ) -> Option<(FileDisk, Found)>
     ensures there { IfSome result (λ taken. IsSome taken.0.device) }
     ensures since { S.tells → Earlier (S.asked system.old) (S.asked system.new) }
-    ensures opens { S.tells → IsItsTurn name (S.asked system.old) → OpensRightly (S.asked system.old) → OpensRightly (S.asked system.new) }
-    ensures taken { S.tells → IfSome result (λ taken. IfSome taken.0.device (λ file. Taken user others.now name file taken.1 (S.asked system.new))) }
+    ensures opens { S.tells → OpensInTurn name (S.asked system.old) (S.asked system.new) }
+    ensures taken { S.tells → IfSome result (λ taken.
+        IsTaken user others.now name taken.0.device taken.1 (S.asked system.new)) }
 {
     let Ok(file) = opened(system, name) else {
         return None;
@@ -110,8 +118,8 @@ fn taken<S: System>(
 /// The file of this name, to be read and written. Where there is none it is made; where one came meanwhile, that one is opened.
 fn opened<S: System>(system: &mut S, name: Name) -> Result<File, Refusal>
     ensures since { S.tells → Earlier (S.asked system.old) (S.asked system.new) }
-    ensures opens { S.tells → IsItsTurn name (S.asked system.old) → OpensRightly (S.asked system.old) → OpensRightly (S.asked system.new) }
-    ensures opened { S.tells → IfOk result (λ file. WasOpened name file (S.asked system.new)) }
+    ensures opens { S.tells → OpensInTurn name (S.asked system.old) (S.asked system.new) }
+    ensures opened { S.tells → IsOpened name result (S.asked system.new) }
 {
     match existing(system, name) {
         Err(Refusal::Missing) => {}
@@ -126,8 +134,8 @@ fn opened<S: System>(system: &mut S, name: Name) -> Result<File, Refusal>
 /// The file that is there. What is no regular file is not opened: a device may do something when it is.
 fn existing<S: System>(system: &mut S, name: Name) -> Result<File, Refusal>
     ensures since { S.tells → Earlier (S.asked system.old) (S.asked system.new) }
-    ensures opens { S.tells → IsItsTurn name (S.asked system.old) → OpensRightly (S.asked system.old) → OpensRightly (S.asked system.new) }
-    ensures opened { S.tells → IfOk result (λ file. WasOpened name file (S.asked system.new)) }
+    ensures opens { S.tells → OpensInTurn name (S.asked system.old) (S.asked system.new) }
+    ensures opened { S.tells → IsOpened name result (S.asked system.new) }
     ensures none { S.tells → result ≡ Err Missing → SawNone name (S.asked system.new) }
 {
     if !system.look(name)? {

@@ -1,9 +1,9 @@
 // What the names of the two files lead to.
-ghost use Rattle.std.specs.Prelude.{IfSome, IsTrue, ◌↔◌};
+ghost use Rattle.std.specs.Prelude.{IsTrue, ◌↔◌};
 ghost use Rattle.std.specs.Path.{path_buf_bytes};
 ghost use Rattle.liq_files.specs.Asked.{Earlier};
 ghost use Rattle.liq_files.specs.Names.{text_of};
-ghost use Rattle.liq_files.specs.Opened.{IsUnchanged, LeadsTo, OpensRightly};
+ghost use Rattle.liq_files.specs.Opened.{IsUnchanged, LeadsToIt, OpensWell};
 
 use crate::calls::{Name, Seen};
 use crate::found::{Found, may_be_followed};
@@ -18,8 +18,8 @@ const MOST_LINKS: u32 = 40;
 /// only where the name is a link.
 pub fn led_to<S: System>(system: &mut S, alloc: Global, name: Name, user: u32) -> Option<Found>
     ensures since { S.tells → Earlier (S.asked system.old) (S.asked system.new) }
-    ensures opens { S.tells → OpensRightly (S.asked system.old) → OpensRightly (S.asked system.new) }
-    ensures leads { S.tells → IfSome result (λ found. LeadsTo user (text_of name) found (S.asked system.new)) }
+    ensures opens { S.tells → OpensWell (S.asked system.old) → OpensWell (S.asked system.new) }
+    ensures leads { S.tells → LeadsToIt user (text_of name) result (S.asked system.new) }
 {
     let seen = system.see(name.text())?;
     if seen.is_link {
@@ -30,8 +30,8 @@ pub fn led_to<S: System>(system: &mut S, alloc: Global, name: Name, user: u32) -
 
 fn behind_links<S: System>(system: &mut S, name: PathBuf, user: u32) -> Option<Found>
     ensures since { S.tells → Earlier (S.asked system.old) (S.asked system.new) }
-    ensures opens { S.tells → OpensRightly (S.asked system.old) → OpensRightly (S.asked system.new) }
-    ensures leads { S.tells → IfSome result (λ found. LeadsTo user (path_buf_bytes name) found (S.asked system.new)) }
+    ensures opens { S.tells → OpensWell (S.asked system.old) → OpensWell (S.asked system.new) }
+    ensures leads { S.tells → LeadsToIt user (path_buf_bytes name) result (S.asked system.new) }
 {
     let mut path = name;
     for _ in 0..=MOST_LINKS {

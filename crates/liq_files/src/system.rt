@@ -1,6 +1,6 @@
 // What is asked of the system, call by call.
-ghost use Rattle.std.specs.Prelude.{◌≡◌, ◌∷◌, List, option_map};
-ghost use Rattle.std.specs.Path.{path_buf_bytes};
+ghost use Rattle.std.specs.Prelude.{◌≡◌, ◌∷◌, List};
+ghost use Rattle.liq_files.specs.Names.{path_in};
 ghost use Rattle.liq_files.specs.Asked.{Asked, User, Behind, Looked, Opened, Told, Saw, Read, Locked, Synced};
 
 use crate::calls::{Name, Opening, Refusal, Seen, Stream};
@@ -42,7 +42,7 @@ pub trait System {
 
     /// The path that a link holds, as it is from here.
     fn read_link(&mut self, link: &str) -> Option<PathBuf>
-        ensures { tells → asked self.new ≡ Read link.now (option_map path_buf_bytes result) ∷ asked self.old };
+        ensures { tells → asked self.new ≡ Read link.now (path_in result) ∷ asked self.old };
 
     /// Takes the file's lock for this process alone, without waiting.
     fn lock(&mut self, file: &File) -> Result<(), TryLockError>

@@ -1,10 +1,10 @@
-use Rattle.std.proofs.Common.{◌∙◌, ◌≡◌, Bool, List, Option, Some, ap}
+use Rattle.std.proofs.Common.{◌∙◌, Bool, List, Option, ap}
 use Rattle.std.specs.Prelude.{ℕ, true, ◌∷◌}
-use Rattle.liq_files.specs.Asked.{Asked, User, Behind, Synced, Earlier, WasAsked}
+use Rattle.liq_files.specs.Asked.{Asked, User, Behind, Synced, Earlier}
 use Rattle.liq_files.specs.declared.calls.Name.TheVariants.{Left, Right}
 use Rattle.liq_files.specs.declared.calls.Stream.TheVariants.{Input, Output, Errors}
 use Rattle.liq_files.specs.declared.found.FileId.{FileId}
-use Rattle.liq_files.proofs.Moments.{last, one, one_more, onward, still}
+use Rattle.liq_files.proofs.Moments.{last, one, onward, still}
 use Rattle.liq_files.proofs.Openings.{both_taken, rightly_along, turn_of_right}
 use Rattle.liq_files.proofs.files.both.Goals as goal
 
@@ -32,13 +32,13 @@ returns-clause-taken g c = λ t.
     let since2 : Earlier s2 s6 = onward (one (c.behind-2.ensures t)) since3 in
     let since1 : Earlier s1 s6 = onward (one (c.behind.ensures t)) since2 in
     both_taken c.in_ok-user.user c.in_ok-input.input c.in_ok-output.output c.in_ok-errors.errors c.in_ok-left.found c.in_ok-right.field-0-1
-        c.in_ok-left.left.device c.in_ok-right.right.device s5 s6 (asked c.sync_folder-2.new.self) since5
-        (c.in_ok-left.ensures.taken t)
-        (c.in_ok-right.ensures.taken t)
-        (still since1 (last (c.user.ensures t ∙ ap (λ (a : Option ℕ). User a ∷ asked c.args.system.now) c.in_ok-user.was)))
-        (still since2 (last (c.behind.ensures t ∙ ap (λ (a : Option FileId). Behind Input a ∷ s1) c.in_ok-input.was)))
-        (still since3 (last (c.behind-2.ensures t ∙ ap (λ (a : Option FileId). Behind Output a ∷ s2) c.in_ok-output.was)))
-        (still since4 (last (c.behind-3.ensures t ∙ ap (λ (a : Option FileId). Behind Errors a ∷ s3) c.in_ok-errors.was)))
-        (c.sync_folder-2.ensures t
-            ∙ ap (λ (b : Bool). Synced Right b ∷ s7) c.if-not-sync_folder-2.false
-            ∙ ap (λ (x : List Asked). Synced Right true ∷ x) (c.sync_folder.ensures t ∙ ap (λ (b : Bool). Synced Left b ∷ s6) c.if-not-sync_folder.false))
+    c.in_ok-left.left.device c.in_ok-right.right.device s5 s6 (asked c.sync_folder-2.new.self) since5
+    (c.in_ok-left.ensures.taken t)
+    (c.in_ok-right.ensures.taken t)
+    (still since1 (last (c.user.ensures t ∙ ap (λ (a : Option ℕ). User a ∷ asked c.args.system.now) c.in_ok-user.was)))
+    (still since2 (last (c.behind.ensures t ∙ ap (λ (a : Option FileId). Behind Input a ∷ s1) c.in_ok-input.was)))
+    (still since3 (last (c.behind-2.ensures t ∙ ap (λ (a : Option FileId). Behind Output a ∷ s2) c.in_ok-output.was)))
+    (still since4 (last (c.behind-3.ensures t ∙ ap (λ (a : Option FileId). Behind Errors a ∷ s3) c.in_ok-errors.was)))
+    (c.sync_folder-2.ensures t
+    ∙ ap (λ (b : Bool). Synced Right b ∷ s7) c.if-not-sync_folder-2.false
+    ∙ ap (λ (x : List Asked). Synced Right true ∷ x) (c.sync_folder.ensures t ∙ ap (λ (b : Bool). Synced Left b ∷ s6) c.if-not-sync_folder.false))

@@ -20,12 +20,12 @@ pub returns-in_default-open : goal.returns-in_default-open
 returns-in_default-open g c = record {
   since = λ t. one_more (c.open.ensures t) (c.existing.ensures.since t);
   opens = λ t turn h.
-    let asked = g.S.System.asked in
-    opens c.args.name _ c.open.result (asked c.existing.new.system) (asked c.open.new.self) (c.open.ensures t) (record {
-      keeps = (refl, refl, refl);
-      there_or_made = inr (refl, refl, c.existing.ensures.none t (c.in-Err-Missing.is ∙ ap Err c.in-Err-Missing.field-0-is));
-      in_turn = turn_still c.args.name (asked c.args.system.now) (asked c.existing.new.system) (c.existing.ensures.since t) turn;
-    }) (c.existing.ensures.opens t turn h);
+      let asked = g.S.System.asked in
+      opens c.args.name _ c.open.result (asked c.existing.new.system) (asked c.open.new.self) (c.open.ensures t) (record {
+        keeps = (refl, refl, refl);
+        there_or_made = inr (refl, refl, c.existing.ensures.none t (c.in-Err-Missing.is ∙ ap Err c.in-Err-Missing.field-0-is));
+        in_turn = turn_still c.args.name (asked c.args.system.now) (asked c.existing.new.system) (c.existing.ensures.since t) turn;
+      }) (c.existing.ensures.opens t turn h);
   opened = λ t. tt;
 }
 

@@ -1,4 +1,4 @@
-use Rattle.std.proofs.Common.{◌≡◌, ◌≤◌, ◌∙◌, List, Option, Ok, Some, Result, IfOk, subst, ap, rules}
+use Rattle.std.proofs.Common.{◌≡◌, ◌∙◌, List, Option, Result, IfOk, subst, ap, rules}
 use Rattle.std.specs.Prelude.{◌∷◌}
 use Rattle.std.specs.declared.fs.File.{File}
 use Rattle.liq_files.specs.Asked.{Asked, Told, Earlier}
