@@ -8,13 +8,28 @@ use Rattle.liq_files.proofs.Moments.{last, one, onward, still}
 use Rattle.liq_files.proofs.Openings.{both_taken, rightly_along, turn_of_right}
 use Rattle.liq_files.proofs.files.both.Goals as goal
 
+pub returns-in_err-left-clause-opens : goal.returns-in_err-left-clause-opens
+returns-in_err-left-clause-opens g c = λ t h. c.taken.ensures.opens t tt (rightly_along _ _ (c.behind-3.ensures t) (rightly_along _ _ (c.behind-2.ensures t) (rightly_along _ _ (c.behind.ensures t) (rightly_along _ _ (c.user.ensures t) h))))
+
+pub returns-in_err-right-clause-opens : goal.returns-in_err-right-clause-opens
+returns-in_err-right-clause-opens g c = λ t h.
+    let turn = turn_of_right c.in_ok-user.user _ c.in_ok-left.found (g.S.System.asked c.taken.new.system) c.in_ok-left.left.device c.in_ok-left.ensures.there (c.in_ok-left.ensures.taken t) in
+    c.taken-2.ensures.opens t turn (c.taken.ensures.opens t tt (rightly_along _ _ (c.behind-3.ensures t) (rightly_along _ _ (c.behind-2.ensures t) (rightly_along _ _ (c.behind.ensures t) (rightly_along _ _ (c.user.ensures t) h)))))
+
+pub returns-then-not-sync_folder-clause-opens : goal.returns-then-not-sync_folder-clause-opens
+returns-then-not-sync_folder-clause-opens g c = λ t h.
+    let turn = turn_of_right c.in_ok-user.user _ c.in_ok-left.found (g.S.System.asked c.taken.new.system) c.in_ok-left.left.device c.in_ok-left.ensures.there (c.in_ok-left.ensures.taken t) in
+    rightly_along _ _ (c.sync_folder.ensures t) (c.taken-2.ensures.opens t turn (c.taken.ensures.opens t tt (rightly_along _ _ (c.behind-3.ensures t) (rightly_along _ _ (c.behind-2.ensures t) (rightly_along _ _ (c.behind.ensures t) (rightly_along _ _ (c.user.ensures t) h))))))
+
+pub returns-then-not-sync_folder-2-clause-opens : goal.returns-then-not-sync_folder-2-clause-opens
+returns-then-not-sync_folder-2-clause-opens g c = λ t h.
+    let turn = turn_of_right c.in_ok-user.user _ c.in_ok-left.found (g.S.System.asked c.taken.new.system) c.in_ok-left.left.device c.in_ok-left.ensures.there (c.in_ok-left.ensures.taken t) in
+    rightly_along _ _ (c.sync_folder-2.ensures t) (rightly_along _ _ (c.sync_folder.ensures t) (c.taken-2.ensures.opens t turn (c.taken.ensures.opens t tt (rightly_along _ _ (c.behind-3.ensures t) (rightly_along _ _ (c.behind-2.ensures t) (rightly_along _ _ (c.behind.ensures t) (rightly_along _ _ (c.user.ensures t) h)))))))
+
 pub returns-clause-opens : goal.returns-clause-opens
 returns-clause-opens g c = λ t h.
-    let asked = g.S.System.asked in
-    let found = c.in_ok-left.found in
-    let turn = turn_of_right c.in_ok-user.user _ found (asked c.taken.new.system) c.in_ok-left.left.device c.in_ok-left.ensures.there (c.in_ok-left.ensures.taken t) in
-    let streams = rightly_along _ _ (c.behind-3.ensures t) (rightly_along _ _ (c.behind-2.ensures t) (rightly_along _ _ (c.behind.ensures t) (rightly_along _ _ (c.user.ensures t) h))) in
-    rightly_along _ _ (c.sync_folder-2.ensures t) (rightly_along _ _ (c.sync_folder.ensures t) (c.taken-2.ensures.opens t turn (c.taken.ensures.opens t tt streams)))
+    let turn = turn_of_right c.in_ok-user.user _ c.in_ok-left.found (g.S.System.asked c.taken.new.system) c.in_ok-left.left.device c.in_ok-left.ensures.there (c.in_ok-left.ensures.taken t) in
+    rightly_along _ _ (c.sync_folder-2.ensures t) (rightly_along _ _ (c.sync_folder.ensures t) (c.taken-2.ensures.opens t turn (c.taken.ensures.opens t tt (rightly_along _ _ (c.behind-3.ensures t) (rightly_along _ _ (c.behind-2.ensures t) (rightly_along _ _ (c.behind.ensures t) (rightly_along _ _ (c.user.ensures t) h)))))))
 
 pub returns-clause-taken : goal.returns-clause-taken
 returns-clause-taken g c = λ t.

@@ -47,8 +47,8 @@ returns-clause-taken g c = λ t.
     let since_open : Earlier after_open after_lock = onward (one (c.told.ensures t)) since_told in
     let opened : WasOpened name file after_open = subst (λ (r : Result File Refusal). IfOk r (λ f. WasOpened name f after_open)) c.in-Ok.is (c.opened.ensures.opened t) in
     let same : named.id ≡ found.id = search rules in
-    let may : MayBeTaken user c.args.others.now found = search rules in
-    let held : IsHeld c.lock.result = search rules in
+    let may : MayBeTaken user c.args.others.now found = c.may_be_taken.ensures.0 c.if-not-may_be_taken.false in
+    let held : IsHeld c.lock.result = c.is_held.ensures.0 c.if-not-is_held.false in
     handed (λ f. Taken user c.args.others.now name f found after_lock) _ file c.new-disk.result.device c.new-disk.ensures.apart (record {
       opened = opened_still name file after_open after_lock since_open opened;
       told = still since_told (last (c.told.ensures t ∙ ap (λ (a : Option Found). Told file a ∷ after_open) c.in_ok-found.was));
