@@ -1,5 +1,5 @@
 -- The list around a chunk, and what an entry that comes into the chunk or leaves it makes of the list.
-use Rattle.std.proofs.Common.{◌≡◌, ℕ, ◌<◌, ◌+◌, suc, zero, true, false, List, [], ◌∷◌, ◌++◌, length, get_or, set, take, drop, refl, sym, ap, ◌∙◌, arith, append_assoc, subst, Option}
+use Rattle.std.proofs.Common.{◌≡◌, ℕ, ◌<◌, ◌≤◌, ◌+◌, suc, zero, true, false, List, [], ◌∷◌, ◌++◌, length, length-append, get_or, set, take, drop, refl, sym, ap, ◌∙◌, arith, append_assoc, subst, Option}
 use Rattle.std.proofs.lemmas.List.{get_or_default, set-get_or}
 use Rattle.std.proofs.lemmas.List.Elements.{All-contains, All-from_recursion, Contains-append_left, Contains-append_right}
 use Rattle.std.specs.Prelude.{insert, remove}
@@ -21,6 +21,12 @@ around (f ∷ fs) (r ∷ rs) zero d h k = refl
 around (f ∷ fs) (r ∷ rs) (suc i) d h k =
     ap (λ (l : List Ranked). f ∷ (r ++ l)) (around fs rs i d (omega arith) (omega arith))
     ∙ ap (λ (l : List Ranked). f ∷ l) (sym (append_assoc r (joined (take i fs) (take i rs)) ((get_or fs i d ∷ get_or rs i []) ++ joined (drop (suc i) fs) (drop (suc i) rs))))
+
+-- each chunk has a first
+pub no_more_than_entries : (fs : List Ranked) (rs : List (List Ranked)) → length fs ≡ length rs → length fs ≤ length (joined fs rs)
+no_more_than_entries [] rs h = omega arith
+no_more_than_entries (f ∷ fs) [] h = absurd (omega (arith, h))
+no_more_than_entries (f ∷ fs) (r ∷ rs) h = omega (arith, length-append r (joined fs rs), no_more_than_entries fs rs (omega (arith, h)))
 
 set_around : (fs : List Ranked) (rs : List (List Ranked)) (i : ℕ) (f : Ranked) (r : List Ranked) → i < length fs → length fs ≡ length rs → joined (set fs i f) (set rs i r) ≡ joined (take i fs) (take i rs) ++ ((f ∷ r) ++ joined (drop (suc i) fs) (drop (suc i) rs))
 set_around [] rs i f r h k = absurd (omega arith)

@@ -12,9 +12,6 @@ use liq_types::NoMemory;
 use std::alloc::Global;
 use std::marker::Model;
 
-#[cfg(test)]
-mod tests;
-
 /// A key and an account.
 pub type Entry = (i64, u32);
 
@@ -135,6 +132,13 @@ impl Chunks {
             0 => None,
             chunks => Some(last_in(self.firsts[chunks - 1], &self.rests[chunks - 1])),
         }
+    }
+
+    /// How many chunks there are. Each takes memory of its own.
+    pub fn chunks(&self) -> usize
+        ensures { result ≤ length self.now }
+    {
+        self.firsts.len()
     }
 }
 

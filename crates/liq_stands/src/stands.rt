@@ -1,6 +1,6 @@
 //! Where each account stands.
 
-ghost use Rattle.std.specs.Prelude.{◌≡◌, ℕ, true, None, Some, IsSome, IfSome, OnOk, OnErr};
+ghost use Rattle.std.specs.Prelude.{◌≡◌, ℕ, true, None, Some, length, IsSome, IfSome, OnOk, OnErr};
 ghost use Rattle.liq_types.specs.Tables.{at};
 ghost use Rattle.liq_stands.specs.Kept.{is_kept};
 ghost use Rattle.liq_stands.specs.Parts.{stand_of};
@@ -12,9 +12,6 @@ use liq_types::NoMemory;
 use std::alloc::Global;
 use std::collections::BTreeMap;
 use std::marker::Model;
-
-#[cfg(test)]
-mod tests;
 
 /// Where an account stands.
 #[derive(Clone, Copy)]
@@ -148,6 +145,20 @@ impl Stands {
         let _ = self.apart.remove(&account);
         let _ = self.kept.write(account, kept);
         Ok(())
+    }
+
+    /// How many accounts are kept. It looks at each.
+    pub fn count_kept(&self) -> u64
+        ensures { result ≡ length self.now.kept }
+    {
+        self.kept.count()
+    }
+
+    /// How many accounts stand apart. Each takes more memory than one that is kept.
+    pub fn count_apart(&self) -> usize
+        ensures { result ≡ length self.now.apart }
+    {
+        self.apart.len()
     }
 }
 

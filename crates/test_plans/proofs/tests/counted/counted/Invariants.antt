@@ -1,4 +1,0 @@
-use Rattle.test_plans.proofs.tests.counted.counted.Given as goal
-
-abbrev pub ghosts-check : goal.ghosts-check
-ghosts-check g a = record { name = a.blank.name; parts = a.blank.parts }

@@ -1,5 +1,0 @@
-//! Worked rows of liquidations and redemptions: tests of the public calls, with values that were worked out by hand.
-#![tactic(auto)]
-
-#[cfg(test)]
-mod tests;
