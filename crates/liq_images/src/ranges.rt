@@ -6,11 +6,12 @@ ghost use Rattle.liq_types.specs.Soundness.{has_ranges, is_limit};
 use liq_types::Image;
 use liq_types::amounts::{
     GENERATIONS_MOST, LIM, LIM_OF_VERSION_1, MINUTE_MOST, ONE, PRICE_LEAST, PRICE_MOST,
+    RECORDS_MOST,
 };
 
-/// Rule 1: whether price, minutes, base rate, generation, limit and collateral inside lie within their bounds.
-pub fn has_ranges(image: &Image) -> bool
-    ensures { result ≡ has_ranges image.now 0 }
+/// Rule 1: whether price, minutes, base rate, generation, records, limit and collateral inside lie within their bounds.
+pub fn has_ranges(image: &Image, records: u64) -> bool
+    ensures { result ≡ has_ranges image.now records }
 {
     PRICE_LEAST <= image.price
         && image.price <= PRICE_MOST
@@ -19,6 +20,7 @@ pub fn has_ranges(image: &Image) -> bool
         && image.base <= ONE
         && 1 <= image.generation
         && image.generation <= GENERATIONS_MOST
+        && records <= RECORDS_MOST
         && is_limit(image.limit)
         && image.brought <= image.limit
 }

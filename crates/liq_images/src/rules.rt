@@ -11,12 +11,13 @@ use liq_rows::{
 };
 use liq_types::Image;
 
-/// The number of the first rule, from 1, that an image breaks. `None` is a sound image, where its tables are in form.
-pub fn first_unsound(image: &Image) -> Option<u8>
-    ensures { result ≡ first_unsound image.now 0 }
+/// The number of the first rule, from 1, that an image breaks beside so many records of its generation, of which a
+/// checkpoint has none. `None` is a sound image, where its tables are in form.
+pub fn first_unsound(image: &Image, records: u64) -> Option<u8>
+    ensures { result ≡ first_unsound image.now records }
 {
     let rules = [
-        (1, has_ranges(image)),
+        (1, has_ranges(image, records)),
         (2, has_accounts(image)),
         (3, has_coll_at_home(image)),
         (4, has_lusd_at_home(image)),
@@ -24,7 +25,7 @@ pub fn first_unsound(image: &Image) -> Option<u8>
         (6, has_sound_troves(image)),
         (7, has_troves_added_up(image)),
         (8, is_backed(image)),
-        (9, has_sound_words(image)),
+        (9, has_sound_words(image, records)),
         (10, has_sound_deposits(image)),
         (11, has_sound_clients(image)),
     ];

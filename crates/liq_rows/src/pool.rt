@@ -14,11 +14,11 @@ use liq_types::amounts::{LIM, OFFSET_MOST, P_LEAST, P_OPENING, PLACES_A_RECORD, 
 use liq_types::{DepositRow, FinishedRows, FinishedSum, Image};
 
 /// Rule 9: whether the product and the sum beside it, scale and epoch, and each finished sum lie within their bounds, with the
-/// places of finished sums before the current one.
-pub fn has_sound_words(image: &Image) -> bool
-    ensures { result ≡ has_sound_words image.now 0 }
+/// places of finished sums before the current one. How far scale and epoch may be is by the records beside the image.
+pub fn has_sound_words(image: &Image, records: u64) -> bool
+    ensures { result ≡ has_sound_words image.now records }
 {
-    let most = places_most(image.generation);
+    let most = places_most(image.generation, records);
     let now = (image.epoch, image.scale);
     is_product(image.p)
         && is_sum_beside(image.sum, image.p)
@@ -37,12 +37,12 @@ pub fn has_sound_deposits(image: &Image) -> bool
     rows.iter().all(|row| is_sound_deposit(image, ascend, row))
 }
 
-/// The most that scale or epoch may be in a generation, before any of its records.
-fn places_most(generation: u64) -> u128
-    ensures { result ≡ places_most generation 0 }
+/// The most that scale or epoch may be in a generation, behind so many of its records.
+fn places_most(generation: u64, records: u64) -> u128
+    ensures { result ≡ places_most generation records }
 {
-    let records = u128::from(RECORDS_MOST) * u128::from(generation.saturating_sub(1));
-    u128::from(PLACES_A_RECORD) * records
+    let before = u128::from(RECORDS_MOST) * u128::from(generation.saturating_sub(1));
+    u128::from(PLACES_A_RECORD) * (before + u128::from(records))
 }
 
 fn is_product(p: u128) -> bool

@@ -538,7 +538,7 @@ fn opening_tells<R: Abort>(rt: &R, alloc: Global, p: u128, want: Option<u8>) {
         Ok(mut image) => {
             empty(alloc, &mut image);
             image.p = p;
-            assert!(rt; first_unsound(&image) == want, "the opening image");
+            assert!(rt; first_unsound(&image, 0) == want, "the opening image");
         }
         Err(_) => assert!(rt; false, "memory"),
     }

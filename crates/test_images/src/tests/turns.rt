@@ -69,7 +69,7 @@ pub enum Turn {
 /// The first rule that the sound image breaks, changed so, is this one.
 pub fn tells<R: Abort>(rt: &R, alloc: Global, changes: &[Turn], want: Option<u8>, what: &str) {
     match changed(alloc, changes) {
-        Ok(image) => assert!(rt; first_unsound(&image) == want, "{what}"),
+        Ok(image) => assert!(rt; first_unsound(&image, 0) == want, "{what}"),
         Err(_) => assert!(rt; false, "memory"),
     }
 }
