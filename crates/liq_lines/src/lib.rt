@@ -5,6 +5,6 @@ mod reader;
 mod stops;
 mod writer;
 
-pub use reader::{LINE_END, LineEnd, READ_BYTES, Reader};
+pub use reader::{LINE_END, LineEnd, READ_BYTES, Reader, line_end_in};
 pub use stops::Stop;
 pub use writer::write_all;

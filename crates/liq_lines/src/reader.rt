@@ -208,7 +208,7 @@ impl Reader {
 }
 
 /// Where the first line end stands.
-fn line_end_in(bytes: &[u8]) -> Option<usize>
+pub fn line_end_in(bytes: &[u8]) -> Option<usize>
     ensures first { IfSome result (λ at. (at < length bytes.now) × IsWithinLine (take at bytes.now)
         × (bytes.now ≡ take at bytes.now ++ LINE_END ∷ drop (at + 1) bytes.now)) }
     ensures none { result ≡ None → IsWithinLine bytes.now }
