@@ -8,5 +8,6 @@ mod Leaving
 mod Passing
 mod Progressing
 mod Residual
+mod Showing
 mod Taking
 mod Turning

@@ -1,11 +1,14 @@
-use Rattle.std.proofs.Common.{◌≡◌, [], ◌∷◌, ◌+◌, Result, arith, refl, sym, subst, ◌∙◌}
+use Rattle.std.proofs.Common.{◌≡◌, ◌≤◌, ℕ, [], ◌∷◌, ◌+◌, Result, arith, refl, sym, subst, ◌∙◌}
 use Rattle.liq_types.specs.declared.amounts.TheConstants.{LINES_MOST}
+use Rattle.liq_outside.specs.Faults.{Rose}
 use Rattle.liq_ends.specs.declared.halts.Halt.{Halt}
+use Rattle.liq_ends.specs.Causes.{WriteCause}
 use Rattle.liq_run.specs.Calls.{KeepsAround}
 use Rattle.liq_run.specs.Passing.{IsPastOf, IsStoppedPastOf}
 use Rattle.liq_run.specs.Progress.{Comes}
 use Rattle.liq_run.proofs.Passing.{behind, same_past, still}
-use Rattle.liq_run.proofs.Residual.{handed_on}
+use Rattle.liq_run.proofs.Residual.{cut_at, handed_on}
+use Rattle.liq_run.proofs.Showing.{shows_behind, shows_cut, shows_halt}
 use Rattle.liq_run.proofs.Turning.{opened, answered_on, answered_cut, reading_fails, reading_ends, limit_halts}
 use Rattle.liq_run.proofs.run.Run.answer_lines.Goals as goal
 use Rattle.liq_lines.proofs.Readings.{few_begins, few_behind, few_in_all}
@@ -102,3 +105,75 @@ returns-in_err-turn-clause-run g c start stands bytes told ol or l r past =
     (λ requests request. IsStoppedPastOf g.D.Disk.seen g.D.Disk.moment g.D.Disk.left_at ol or l r start requests request store) bytes (g.S.Source.left c.turn.new.input) c.turn.new.self.waiting.items (held c.args.out.now) (held c.turn.new.out))
     (sym (handed_on c.from_residual.result halt c.from_residual.ensures.1))
     (c.in_err-turn.ensures.turn.turn start bytes (held c.args.out.now) ol or l r (c.loop-answered.invariant.answered start stands bytes told ol or l r past))
+
+-- ---- what it shows
+
+pub returns-then-not-branch-clause-shows : goal.returns-then-not-branch-clause-shows
+returns-then-not-branch-clause-shows g c =
+    let before = c.loop-answered.invariant in
+    let h = c.in_ok-turn.ensures.shows in
+    record {
+      caught_up = λ is. absurd (cc is);
+      caught_up_too = λ is. absurd (cc is);
+      source = h.source ∙ before.source_count;
+      sink = h.sink ∙ before.sink_count;
+      stopped = h.stopped;
+      time = behind g.D.Disk.moment g.D.Disk.left_at _ _ _ before.time h.time;
+      disks = h.disks ∙ before.disks_count;
+    }
+
+pub returns-in_err-turn-clause-shows : goal.returns-in_err-turn-clause-shows
+returns-in_err-turn-clause-shows g c =
+    let before = c.loop-answered.invariant in
+    let halt = c.in_err-turn.field-0.0 in
+    let shows = shows_behind g.D.Disk.faults g.D.Disk.moment g.D.Disk.left_at _ _ _ _ _ _ _ _ _ _ _ before.time before.disks_count before.source_count before.sink_count c.in_err-turn.ensures.shows in
+    shows_halt g.D.Disk.faults g.D.Disk.moment g.D.Disk.left_at _ _ _ _ _ _ _ c.from_residual.result halt (handed_on c.from_residual.result halt c.from_residual.ensures.1) shows
+
+pub returns-in-Ok-None-clause-shows : goal.returns-in-Ok-None-clause-shows
+returns-in-Ok-None-clause-shows g c =
+    let before = c.loop-answered.invariant in
+    record {
+      caught_up = λ is. c.flush.ensures.empty;
+      caught_up_too = λ is. c.flush.ensures.empty;
+      source = c.in-Ok-None.ensures.cause.ok ∙ before.source_count;
+      sink = c.in_ok-flush.ensures.cause ∙ before.sink_count;
+      stopped = before.going;
+      time = before.time;
+      disks = before.disks_count;
+    }
+
+pub returns-in-Ok-Some-clause-shows : goal.returns-in-Ok-Some-clause-shows
+returns-in-Ok-Some-clause-shows g c =
+    let before = c.loop-answered.invariant in
+    record {
+      caught_up = λ is. c.flush.ensures.empty;
+      caught_up_too = λ is. c.flush.ensures.empty;
+      source = c.in-Ok-Some.ensures.cause.ok ∙ before.source_count;
+      sink = c.in_ok-flush.ensures.cause ∙ before.sink_count;
+      stopped = before.going;
+      time = before.time;
+      disks = before.disks_count;
+    }
+
+pub returns-in-Err-clause-shows : goal.returns-in-Err-clause-shows
+returns-in-Err-clause-shows g c =
+    let before = c.loop-answered.invariant in
+    let cause = c.in-Err.ensures.cause in
+    record {
+      caught_up = λ is. c.flush.ensures.empty;
+      caught_up_too = λ is. c.flush.ensures.empty;
+      source = subst (λ (n : ℕ). (n ≤ g.S.Source.faults c.next_byte.new.input) × Rose n (g.S.Source.faults c.next_byte.new.input)) before.source_count (cause.later, cause.failed);
+      sink = c.in_ok-flush.ensures.cause ∙ before.sink_count;
+      stopped = before.going;
+      time = before.time;
+      disks = before.disks_count;
+    }
+
+pub returns-in_err-flush-clause-shows : goal.returns-in_err-flush-clause-shows
+returns-in_err-flush-clause-shows g c =
+    let before = c.loop-answered.invariant in
+    let halt = c.in_err-flush.field-0.0 in
+    let end = c.from_residual-in_err-flush.result in
+    let cut = cut_at end halt _ _ _ _ c.from_residual-in_err-flush.ensures.1 c.in_err-flush.ensures.written in
+    let cause = subst (λ (e : Result (Unit {0}) Halt). WriteCause e (g.K.Sink.faults c.loop-answered.out) (g.K.Sink.faults c.flush.new.out)) (sym (handed_on end halt c.from_residual-in_err-flush.ensures.1)) c.in_err-flush.ensures.cause in
+    shows_cut g.D.Disk.faults g.D.Disk.moment g.D.Disk.left_at _ _ _ _ _ _ _ end _ cut c.flush.ensures.empty before.source_count before.sink_count cause before.going before.time before.disks_count
