@@ -1,0 +1,14 @@
+use Rattle.std.proofs.Common.{◌∙◌}
+use Rattle.liq_types.specs.State.{opening}
+use Rattle.liq_sessions.specs.Generated.{generated}
+use Rattle.liq_load.specs.Load.{load}
+use Rattle.liq_rules.specs.Step.{run}
+use Rattle.liq_load.proofs.Told.{line_written}
+use Rattle.liq_load.proofs.telling.write_load.Goals as goal
+
+pub returns-clause-written : goal.returns-clause-written
+returns-clause-written g c =
+    let requests = load opening (generated c.args.seed c.args.count) in
+    let done = c.in_ok-carried_out.ensures in
+    line_written requests _ _ c.write_text.result (g.K.Sink.held c.args.out.now) (g.K.Sink.held c.write_text.new.out) done.1
+    (c.as_bytes.ensures.value ∙ c.in_ok-line.ensures (run opening requests).0 done.0) c.write_text.ensures.ok c.write_text.ensures.err
