@@ -1,6 +1,7 @@
 pub mod Audited
 mod DamagedTold
 mod Generations
+mod Looking
 pub mod StakeLines
 pub mod TagLines
 mod Standing
