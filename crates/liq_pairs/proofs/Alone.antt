@@ -4,7 +4,7 @@ use Rattle.liq_types.specs.declared.requests.Command.{Command}
 use Rattle.liq_types.specs.State.{State}
 use Rattle.liq_rules.specs.Step.{Allowed, after, ruling}
 use Rattle.liq_outside.specs.Disk.{overwritten}
-use Rattle.liq_journal.specs.Crash.{BeforeOrAfter, CreateLeaves, HasGate, IsClosed, SettleLeaves, Stands, beginning, is_odd}
+use Rattle.liq_journal.specs.Crash.{BeforeOrAfter, CreateLeaves, HasGate, IsClosed, Stands, beginning, is_odd}
 use Rattle.liq_journal.specs.Opened.{OpenLeaves}
 use Rattle.liq_journal.specs.Written.{Absent, Open, Written, and_then, end_of, found_on, opened}
 use Rattle.liq_pairs.specs.declared.side.Side.{Side}
@@ -41,28 +41,27 @@ open_alone Left bytes s is =
 open_alone Right bytes s is =
     stand_before Right [] bytes is.written s is.leads is.found (nothing (standing_absent true [] (empty_absent true)))
 
--- ---- any byte at place 0
+-- ---- some byte at place 0
 
 pub stood_again : (held image later : List ℕ) → IsAsItStood held image → IsAsItStood image later
     → IsAsItStood held later
 stood_again held image later (inl same) then = subst (λ (l : List ℕ). IsAsItStood l later) same then
-stood_again held image later (inr has) (inl same) = inr (has.0, same ∙ has.1)
-stood_again held image later (inr has) (inr more) =
+stood_again held image later (inr (unshut, has)) (inl same) = inr (unshut, (has.0, same ∙ has.1))
+stood_again held image later (inr (unshut, has)) (inr (again, more)) =
     inr (
-      more.0,
-      more.1 ∙ ap (λ (l : List ℕ). overwritten l 0 (more.0 ∷ [])) has.1
-          ∙ written_again 0 has.0 held (omega arith) more.0,
+      unshut,
+      (
+        more.0,
+        more.1 ∙ ap (λ (l : List ℕ). overwritten l 0 (more.0 ∷ [])) has.1
+            ∙ written_again 0 has.0 held (omega arith) more.0,
+      ),
     )
-
-pub settled_stood : (held image : List ℕ) → SettleLeaves 0 held image → IsAsItStood held image
-settled_stood held image (inl same) = inl same
-settled_stood held image (inr (unshut, has)) = inr has
 
 -- it is the same disk, or absent
 pub open_with : (side : Side) (bytes image : List ℕ) (s : State) → IsOpenFor side bytes s → IsAsItStood bytes image
     → (found_on (has_odd side) image ≡ Absent) ⊎ IsOpenFor side image s
 open_with side bytes image s is (inl same) = inr (subst (λ (l : List ℕ). IsOpenFor side l s) (sym same) is)
-open_with side bytes image s is (inr has) = ⊎_elim
+open_with side bytes image s is (inr (unshut, has)) = ⊎_elim
     (λ gate. inr (subst (λ (l : List ℕ). IsOpenFor side l s) (sym (still gate)) is))
     (λ shut. inl (unopened_absent (has_odd side) image shut))
     (gate_open_or_not image)
@@ -90,7 +89,7 @@ pub of_creation : (side : Side) (held image : List ℕ) (w : Written) → Create
     → (found_on (has_odd side) image ≡ Absent)
     ⊎ (IsAsItStood held image ⊎ (found_on (has_odd side) image ≡ Open w))
 of_creation side held image w (inl closed) = inl (closed_absent (has_odd side) image closed)
-of_creation side held image w (inr (inl left)) = inr (inl (settled_stood held image left))
+of_creation side held image w (inr (inl left)) = inr (inl left)
 of_creation side held image w (inr (inr made)) = ⊎_elim
     (λ gate. inr (inr (ap (found_on (has_odd side)) (sym (opened_already image gate)) ∙ made.found)))
     (λ shut. inl (unopened_absent (has_odd side) image shut))

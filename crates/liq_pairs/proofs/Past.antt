@@ -14,7 +14,7 @@ use Rattle.liq_rules.specs.Step.{Allowed, Refused, Repeated, Ruling, accepted, a
 use Rattle.liq_rules.proofs.AlikeReads.{Alike}
 use Rattle.liq_rules.proofs.AlikeReplies.{accepted_alike, after_alike, ruling_alike, run_alike}
 use Rattle.liq_rules.proofs.Runs.{run_accepted}
-use Rattle.liq_journal.specs.Crash.{HasByteAt, beginning}
+use Rattle.liq_journal.specs.Crash.{IsClosed, beginning}
 use Rattle.liq_journal.specs.declared.damage.Damage.{Damage}
 use Rattle.liq_journal.specs.Opened.{OpenLeaves}
 use Rattle.liq_journal.specs.Written.{Absent, Damaged, Open, Written, found_on, is_rotate}
@@ -22,13 +22,13 @@ use Rattle.liq_outside.specs.Disk.{overwritten}
 use Rattle.liq_pairs.specs.declared.side.Side.{Side}
 use Rattle.liq_pairs.specs.declared.side.Side.TheVariants.{Left, Right}
 use Rattle.liq_pairs.specs.Kept.{IsKept}
-use Rattle.liq_pairs.specs.Past.{AtCommand, Fault, InOpening, IsAsItStood, IsOfFailed, IsOfPrefix, IsOfRun, NoFault, StandsAlone, failed_commands, rotations}
+use Rattle.liq_pairs.specs.Past.{AtCommand, Fault, InOpening, IsAsItStood, IsOfFailed, IsOfPrefix, IsOfRun, IsOfUnfinished, NoFault, StandsAlone, failed_commands, rotations}
 use Rattle.liq_pairs.specs.Pair.{Faulty, Nothing, standing}
 use Rattle.liq_pairs.specs.Sides.{has_odd, on}
 use Rattle.liq_pairs.specs.Unfinished.{LeftLeaves}
 use Rattle.liq_pairs.proofs.Alike.{stand_alike, unfinished_alike}
 use Rattle.liq_pairs.proofs.Alone.{IsOpenFor, IsOpenedFor, created_open, empty_absent, isnt_absent, of_creation, open_alone, open_left, open_with, stood_again}
-use Rattle.liq_pairs.proofs.FirstPlace.{absent_isnt_open}
+use Rattle.liq_pairs.proofs.FirstPlace.{absent_isnt_open, closed_absent, closed_with, unshut_no_gate}
 use Rattle.liq_pairs.proofs.Generations.{after_generation}
 use Rattle.liq_pairs.proofs.Standings.{pair_ends, standing_absent, standing_damaged, state_by}
 
@@ -172,7 +172,7 @@ module _ (side : Side) (l r : List ℕ) (s : State) (fault : Fault) (image : Lis
       opened_of (open_left side l r s image some.0 kept some.1 (inr (place, inl some, has)))
   opening_of (inr (place, inr none, has)) =
       let there = has.1 ∙ ap (λ (n : ℕ). overwritten (on side l r) n (has.0 ∷ [])) none.1 in
-      inr (inl (inr (has.0, there)))
+      inr (inl (inr (unshut_no_gate (on side l r) none.2, (has.0, there))))
 
   opened_whole : (w : Written) → found_on (has_odd side) (on side l r) ≡ Open w
       → (image ≡ on side l r) ⊎ IsOpenedFor side l r s image → found_on (has_odd side) image ≡ Absent → ⊥
@@ -181,7 +181,7 @@ module _ (side : Side) (l r : List ℕ) (s : State) (fault : Fault) (image : Lis
   opened_whole w found (inr (inl opens)) absent = isnt_absent side image s opens absent
   opened_whole w found (inr (inr (c, holds, opens))) absent = isnt_absent side image (after s c) opens absent
 
-  -- with any byte at place 0 what it leaves is of the run, too
+  -- with some byte at place 0, where no shut gate is, what it leaves is of the run, too
   pub opening_with : (held : List ℕ) → OpenLeaves (has_odd side) (on side l r) held → IsAsItStood held image
       → IsOfRun side l r s [] fault image
   opening_with held (inl same) stood = inr (inl (stood_again (on side l r) held image (inl same) stood))
@@ -198,7 +198,7 @@ module _ (side : Side) (l r : List ℕ) (s : State) (fault : Fault) (image : Lis
       by (inr (inr (c, holds, opens))) = open_or_not (after s c) (λ is. opened_of (inr (inr (c, holds, is)))) opens
   opening_with held (inr (place, inr none, has)) stood =
       let there = has.1 ∙ ap (λ (n : ℕ). overwritten (on side l r) n (has.0 ∷ [])) none.1 in
-      inr (inl (stood_again (on side l r) held image (inr (has.0, there)) stood))
+      inr (inl (stood_again (on side l r) held image (inr (unshut_no_gate (on side l r) none.2, (has.0, there))) stood))
 
   -- an open disk stays open
   pub opening_whole : (w : Written) → found_on (has_odd side) (on side l r) ≡ Open w
@@ -208,7 +208,7 @@ module _ (side : Side) (l r : List ℕ) (s : State) (fault : Fault) (image : Lis
 module _ (l r : List ℕ) (s : State) (fault : Fault) (image : List ℕ) (kept : IsKept l r s) where
   created_of : found_on true l ≡ Absent → found_on false r ≡ Absent
       → (found_on true image ≡ Absent)
-      ⊎ (((image ≡ l) ⊎ HasByteAt 0 l image) ⊎ (found_on true image ≡ Open (beginning 1 [])))
+      ⊎ (IsAsItStood l image ⊎ (found_on true image ≡ Open (beginning 1 [])))
       → IsOfRun Left l r s [] fault image
   created_of left right (inl absent) = inl absent
   created_of left right (inr (inl stood)) = inr (inl stood)
@@ -257,6 +257,22 @@ damaged_stood side l r start requests fault image damage (inr (inr (inr (inl (c,
     absurd (alone_undamaged side image (after start c) damage alone found)
 damaged_stood side l r start requests fault image damage (inr (inr (inr (inr failed)))) found =
     absurd (failed_undamaged side image (run start requests).0 fault damage failed found)
+
+-- ---- what was closed
+
+-- Nothing is open on an image of it, or that stands for a state of the run.
+pub closed_stands : (side : Side) (l r : List ℕ) (start : State) (requests : List Request) (fault : Fault)
+    (image : List ℕ) → IsClosed (on side l r) → IsOfRun side l r start requests fault image
+    → (found_on (has_odd side) image ≡ Absent)
+    ⊎ (IsOfPrefix side start requests image
+    ⊎ (IsOfUnfinished side l r start image ⊎ IsOfFailed side (run start requests).0 fault image))
+closed_stands side l r start requests fault image closed (inl absent) = inl absent
+closed_stands side l r start requests fault image closed (inr (inl (inl same))) =
+    inl (closed_absent (has_odd side) image (subst (λ (bytes : List ℕ). IsClosed bytes) (sym same) closed))
+closed_stands side l r start requests fault image closed (inr (inl (inr (unshut, has)))) =
+    inl (closed_absent (has_odd side) image
+    (subst (λ (bytes : List ℕ). IsClosed bytes) (sym has.1) (closed_with (on side l r) has.0 closed unshut)))
+closed_stands side l r start requests fault image closed (inr (inr stands)) = inr stands
 
 -- ---- generations
 

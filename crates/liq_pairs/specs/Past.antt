@@ -6,7 +6,7 @@ use Rattle.liq_types.specs.declared.requests.Request.{Request}
 use Rattle.liq_types.specs.State.{State}
 use Rattle.liq_rules.specs.Step.{Allowed, accepted, after, ruling, run}
 use Rattle.liq_outside.specs.Disk.{LeftSince}
-use Rattle.liq_journal.specs.Crash.{HasByteAt}
+use Rattle.liq_journal.specs.Crash.{SettleLeaves}
 use Rattle.liq_journal.specs.Written.{Absent, Open, Written, found_on, is_rotate}
 use Rattle.liq_pairs.specs.declared.side.Side.{Side}
 use Rattle.liq_pairs.specs.Kept.{IsKept}
@@ -31,9 +31,9 @@ failed_commands (AtCommand c) = c ∷ []
 abbrev pub StandsAlone : Side → List ℕ → State → Type 0
 StandsAlone side image s = StandFor (on side image []) (on side [] image) s
 
--- as it was, or with any byte at place 0
+-- as it was, or with some byte at place 0, where no shut gate was
 abbrev pub IsAsItStood : List ℕ → List ℕ → Type 0
-IsAsItStood held image = (image ≡ held) ⊎ HasByteAt 0 held image
+IsAsItStood held image = SettleLeaves 0 held image
 
 -- It stands for the state after the first so many accepted commands.
 abbrev pub IsOfPrefix : Side → State → List Request → List ℕ → Type 0

@@ -10,17 +10,17 @@ ghost use Rattle.liq_types.specs.Soundness.{first_unsound};
 ghost use Rattle.liq_types.specs.State.{State, opening_with};
 ghost use Rattle.liq_types.specs.WellFormed.{IsWellFormed};
 ghost use Rattle.liq_rules.specs.Image.{IsSameState, image};
-ghost use Rattle.liq_rules.specs.Step.{Allowed, after, ruling};
+ghost use Rattle.liq_rules.specs.Step.{Allowed, after, ruling, run};
 ghost use Rattle.liq_checkpoint.specs.Reading.{image_at};
 ghost use Rattle.liq_checkpoint.specs.Spelling.{spelling};
 ghost use Rattle.liq_journal.specs.declared.damage.Damage.{Damage};
-ghost use Rattle.liq_journal.specs.Crash.{BeforeOrAfter, CreateLeaves, Stands, beginning, is_odd};
+ghost use Rattle.liq_journal.specs.Crash.{BeforeOrAfter, CreateLeaves, IsClosed, Stands, beginning, is_odd};
 ghost use Rattle.liq_journal.specs.Opened.{OpenLeaves};
-ghost use Rattle.liq_journal.specs.Written.{Damaged, Open, Written, and_then, found_on};
+ghost use Rattle.liq_journal.specs.Written.{Absent, Damaged, Open, Written, and_then, found_on};
 ghost use Rattle.liq_pairs.specs.declared.side.Side.{Side};
 ghost use Rattle.liq_pairs.specs.Kept.{IsKept, IsRotationOf, IsSettledFor};
 ghost use Rattle.liq_pairs.specs.Pair.{commands_on, journal_on, limit_on, state_on};
-ghost use Rattle.liq_pairs.specs.Past.{Fault, IsAsItStood, IsOfRun};
+ghost use Rattle.liq_pairs.specs.Past.{Fault, IsAsItStood, IsOfFailed, IsOfPrefix, IsOfRun, IsOfUnfinished};
 ghost use Rattle.liq_pairs.specs.Replay.{base_of, outcome, replay};
 ghost use Rattle.liq_pairs.specs.Sides.{beside, has_odd, on, other};
 ghost use Rattle.liq_pairs.specs.Unfinished.{IsRecovered, LeftLeaves};
@@ -139,10 +139,20 @@ pub fn settled_pairs_are_opened_again()
         → LeftLeaves l r a → OpenLeaves false r b → IsSettledFor side a b s }
 {}
 
-/// A damaged image of a run is the disk as it stood when the run began, with any byte at place 0: a run writes nothing that
-/// is damaged.
+/// A damaged image of a run is the disk as it stood when the run began, or so with another byte at place 0, where no shut
+/// gate was: a run writes nothing that is damaged.
 pub fn runs_damage_no_disk()
     ensures { (side : Side) → (l r : List ℕ) → (s : State) → (requests : List Request) → (fault : Fault)
         → (image : List ℕ) → (damage : Damage) → IsOfRun side l r s requests fault image
         → found_on (has_odd side) image ≡ Damaged damage → IsAsItStood (on side l r) image }
+{}
+
+/// On a disk that was closed when a run began, too short for a header or with a 0 at place 0, a journal is open in an
+/// image only where that stands for a state of the run, whatever a rotation that was cut short left behind the gate.
+pub fn closed_disks_open_for_a_state_of_the_run()
+    ensures { (side : Side) → (l r : List ℕ) → (s : State) → (requests : List Request) → (fault : Fault)
+        → (image : List ℕ) → IsClosed (on side l r) → IsOfRun side l r s requests fault image
+        → (found_on (has_odd side) image ≡ Absent)
+        ⊎ (IsOfPrefix side s requests image
+        ⊎ (IsOfUnfinished side l r s image ⊎ IsOfFailed side (run s requests).0 fault image)) }
 {}

@@ -843,7 +843,7 @@ module _ {D : Type 0} (seen : D → Option (List ℕ)) (moment : D → ℕ) (lef
     join_grows : Grows l r start [] requests fault
     join_grows = grows_all l r start requests fault
 
-    -- as the one disk stood there, with any byte at place 0, or the other
+    -- as the one disk stood there, or so with some byte at place 0, where no shut gate was; or as the other did
     join_taken : (image : List ℕ) → IsAsItStood (on store.side a b) image
         → IsOfRun store.side l r start requests fault image
     join_taken image stood = join_grows.images store.side image (⊎_elim
