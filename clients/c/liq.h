@@ -70,8 +70,7 @@ typedef struct {
     uint8_t bytes[96];
 } liq_command;
 
-/* A query: one of liq_topic, and the account or client that it asks about; 0 where there is none.
- * */
+/* A query: one of liq_topic, and the account or client that it is about, or 0. */
 typedef struct {
     uint32_t topic, account;
 } liq_query;
