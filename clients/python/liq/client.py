@@ -18,30 +18,22 @@ AMOUNTS = 2**64
 LOWEST_MOST = 64  # the most troves of one `liquidate_lowest`
 
 
-class Client:
-    """Sends commands under one client's number, each with its next number, and one at a time.
+class Calls:
+    """A call for each verb. How a command is sent is up to who derives from it.
 
     An accepted command gives a named tuple of its values (`replies`); a refused one raises its refusal (`refusals`)
     and leaves its number to the next. Amounts are whole numbers: ether in gwei, LUSD and prices in millionths;
     `units` makes them of decimal text. Hints are two accounts or None; liq finds the place by itself. An account or a
     hint of 2^20 or more, or an amount of 2^64 or more, is a `ValueError`, what is no whole number a `TypeError`: then
     nothing is sent.
-
-    Where liq ends without a reply to the last command, start the service again and `resend`.
-
-    With `rotate_when_full` a command that finds the journal full sends `rotate` first. After it the records before are
-    on the other file alone, and `audit` has nothing to tell: docs/OPERATING.md, "A full journal". With `archive`, a
-    folder, each `rotate` of this client first copies there what it would write over (`liq.archive`); where that raises
-    nothing was sent.
     """
 
-    def __init__(
-        self, service: "Service", client: int, rotate_when_full: bool = False, archive: Optional[Folder] = None
-    ) -> None:
-        self.service, self.client, self.rotate_when_full = service, client, rotate_when_full
-        self.archive = archive
-        self.next_number = service.next_number(client)
-        self._unanswered: Optional[Tuple[str, Type[Any]]] = None
+    def _send(
+        self, row: Type[Row], verb: str, accounts: Sequence[int], amounts: Sequence[int],
+        hints: Sequence[Optional[int]] = (),
+    ) -> Row:
+        """Sends a command, and gives what it was replied as such a row. Raises its refusal."""
+        raise NotImplementedError
 
     # ---- the price and time
 
@@ -121,12 +113,36 @@ class Client:
     # ---- the journal
 
     def rotate(self) -> NextGeneration:
+        """Begins the next generation, without records."""
+        return self._send(NextGeneration, "rotate", (), ())
+
+
+class Client(Calls):
+    """Sends commands to a service under one client's number, each with its next number, and one at a time.
+
+    Where liq ends without a reply to the last command, start the service again and `resend`.
+
+    With `rotate_when_full` a command that finds the journal full sends `rotate` first. After it the records before are
+    on the other file alone, and `audit` has nothing to tell: docs/OPERATING.md, "A full journal". With `archive`, a
+    folder, each `rotate` of this client first copies there what it would write over (`liq.archive`); where that raises
+    nothing was sent.
+    """
+
+    def __init__(
+        self, service: "Service", client: int, rotate_when_full: bool = False, archive: Optional[Folder] = None
+    ) -> None:
+        self.service, self.client, self.rotate_when_full = service, client, rotate_when_full
+        self.archive = archive
+        self.next_number = service.next_number(client)
+        self._unanswered: Optional[Tuple[str, Type[Any]]] = None
+
+    def rotate(self) -> NextGeneration:
         """Begins the next generation of the journal, in the other file, with a checkpoint of the market."""
         if self.archive is not None:
             from .archive import archive  # not at the top: the model stands on this package's words, and they on this
 
             archive(self.service.folder, self.archive)
-        return self._send(NextGeneration, "rotate", (), ())
+        return super().rotate()
 
     def resend(self) -> Any:
         """Sends the command that has no reply once more, word for word, and gives its reply: it counts once."""

@@ -365,11 +365,15 @@ BY_CODE: Dict[int, Type[Refusal]] = {each.code: each for each in Refusal.__subcl
 
 def read_refusal(words: Sequence[str]) -> Refusal:
     """The refusal that a reply `no CODE ..` says, by its words."""
-    code, values = int(words[1]), [int(word) for word in words[2:]]
+    return refusal_of(int(words[1]), [int(word) for word in words[2:]])
+
+
+def refusal_of(code: int, values: Sequence[int]) -> Refusal:
+    """The refusal of a code, with its values in their order."""
     if code not in BY_CODE:
         unknown = Refusal(*values)
         unknown.code = code  # type: ignore[misc]
         return unknown
     if len(values) != len(BY_CODE[code].fields):
-        raise ValueError(f"not the values of refusal {code}: {' '.join(words)}")
+        raise ValueError(f"not the values of refusal {code}: {' '.join(map(str, values))}")
     return BY_CODE[code](*values)

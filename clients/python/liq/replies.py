@@ -2,7 +2,7 @@
 
 Ether (`coll`, `gain`, `gas`, `drawn`, `surplus`) is in gwei, LUSD and debt are in millionths, a base rate over 10^18.
 """
-from typing import NamedTuple
+from typing import Any, Dict, NamedTuple, Tuple, Type
 
 # ---- what an accepted command replies
 
@@ -160,3 +160,15 @@ class System(NamedTuple):
     def recovery(self) -> bool:
         """Whether it is Recovery Mode."""
         return self.mode == 1
+
+
+# ---- which row is whose
+
+BY_VERB: Dict[str, Type[Tuple[Any, ...]]] = {
+    "price": Done, "advance": Advanced, "fund": Done, "take": Done, "send": Done, "open": Opened, "adjust": Adjusted,
+    "close": Closed, "provide": Provided, "withdraw": Withdrawn, "gain_to_trove": Moved, "liquidate": Liquidated,
+    "liquidate_lowest": LowestLiquidated, "redeem": Redeemed, "claim": Claimed, "rotate": NextGeneration,
+}
+BY_QUERY: Dict[str, Type[Tuple[Any, ...]]] = {
+    "wallet": Wallet, "trove": Trove, "deposit": Deposit, "pools": Pools, "system": System,
+}

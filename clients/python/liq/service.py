@@ -10,8 +10,8 @@ from typing import Iterable, Iterator, List, Optional, Sequence, Type, Union
 from .client import ACCOUNTS, Client, spelt
 from .ends import End, Folder, MarketExists, NoJournal, is_reply, read_end
 from .journal import holds_journal
+from .queries import Queries
 from .refusals import read_refusal
-from .replies import Deposit, Pools, System, Trove, Wallet
 
 LINES_OF_A_RUN = 1_000_000
 BYTES_AT_ONCE = 10_000
@@ -41,7 +41,7 @@ def prepare(folder: Folder, create: Create) -> None:
         Path(folder).mkdir(parents=True, exist_ok=True)
 
 
-class Service:
+class Service(Queries):
     """A run of liq over the files of a folder.
 
     A folder without a journal is an error, for liq would begin a new market there. `create=True` begins one, and is an
@@ -213,57 +213,22 @@ class Service:
 
     # ---- queries
 
-    def wallet(self, account: int) -> Wallet:
-        """The ether and the LUSD of an account."""
-        return self.wallets([account])[0]
+    def _row(self, query: str, *accounts: int) -> Optional[List[int]]:
+        return numbers_of(self.ask(f"? {query}" + spelt(accounts, ACCOUNTS)))
 
-    def trove(self, account: int) -> Optional[Trove]:
-        """The trove of an account, with all that is pending; None where it has none."""
-        return self.troves([account])[0]
-
-    def deposit(self, account: int) -> Optional[Deposit]:
-        """The deposit of an account in the Stability Pool; None where it has none."""
-        return self.deposits([account])[0]
-
-    def wallets(self, accounts: Iterable[int]) -> List[Wallet]:
-        """The wallets of many accounts."""
-        return [Wallet(*row) for row in self._rows("wallet", accounts) if row is not None]
-
-    def troves(self, accounts: Iterable[int]) -> List[Optional[Trove]]:
-        """The troves of many accounts, None where an account has none."""
-        return [row and Trove(*row) for row in self._rows("trove", accounts)]
-
-    def deposits(self, accounts: Iterable[int]) -> List[Optional[Deposit]]:
-        """The deposits of many accounts, None where an account has none."""
-        return [row and Deposit(*row) for row in self._rows("deposit", accounts)]
-
-    def pools(self) -> Pools:
-        """The pools."""
-        return Pools(*map(int, self.ask("? pools")))
-
-    def system(self) -> System:
-        """The market as a whole."""
-        return System(*map(int, self.ask("? system")))
-
-    def next_number(self, client: int) -> int:
-        """The number of the client's next new command."""
-        words = self.ask("? next_number" + spelt((client,), ACCOUNTS))
-        if words[0] == "no":
-            raise read_refusal(words)
-        return int(words[0])
-
-    def _rows(self, query: str, accounts: Iterable[int]) -> List[Optional[List[int]]]:
-        """The numbers of the replies, None for `none`."""
-        rows: List[Optional[List[int]]] = []
-        for words in self.ask_many(f"? {query}" + spelt((account,), ACCOUNTS) for account in accounts):
-            if words[0] == "no":
-                raise read_refusal(words)
-            rows.append(None if words == ["none"] else [int(word) for word in words])
-        return rows
+    def _rows(self, query: str, accounts: Iterable[int]) -> List[Optional[Sequence[int]]]:
+        return [numbers_of(words) for words in self.ask_many(f"? {query}" + spelt((it,), ACCOUNTS) for it in accounts)]
 
     def client(self, client: int, rotate_when_full: bool = False, archive: Optional[Folder] = None) -> Client:
         """A client of this market. Each program, and each thread of work, wants a number of its own."""
         return Client(self, client, rotate_when_full, archive)
+
+
+def numbers_of(words: Sequence[str]) -> Optional[List[int]]:
+    """The numbers of a query's reply; None for `none`. Raises its refusal."""
+    if words[0] == "no":
+        raise read_refusal(words)
+    return None if words == ["none"] else [int(word) for word in words]
 
 
 def pipe_size(descriptor: int) -> int:

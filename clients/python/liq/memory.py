@@ -1,0 +1,446 @@
+"""A market in this process, without files and without a run: the engine as a library (`liq.library`).
+
+    market = Market()
+    owner = market.client(1)
+    owner.fund(1, ether(10))
+    print(owner.open(1, ether(10), lusd(4000)), owner.preview.adjust(1, borrow=lusd(1000)))
+    worse = market.fork()
+    worse.client(2).price(lusd(460))
+
+Calls, refusals and rows are those of a `Service`. Nothing outlasts the process but what `save` gave.
+"""
+import ctypes
+import hashlib
+import threading
+import weakref
+from array import array
+from contextlib import contextmanager
+from types import TracebackType
+from typing import Any, Iterable, Iterator, List, Optional, Sequence, Tuple, Type
+
+from .batch import COMMANDS, QUERIES, BatchStopped, Given, Why, address_of
+from .client import ACCOUNTS, AMOUNTS, Calls, Row
+from .ends import Folder, NoJournal
+from .journal import BYTES_MOST, LIMITS, RECORD_BYTES, RECORDS_MOST, DamagedFile, Disk, Journal, holds_journal
+from .library import ACCEPTED, BAD, DEPOSITS, ITEM_BYTES, NO_MEMORY, OK, SHORT, TOUCHED, TROVES, WALLETS
+from .library import Library, Place, load_library
+from .packed import ASKED, FORMS, check_numbers, fault_in, hint_words, pack_query
+from .queries import Queries
+from .refusals import JournalFull, Refusal
+
+ROTATING = ACCOUNTS - 1  # who rotates, where no other client is named
+ROWS_AT_ONCE = 2**16
+TEXT_AT_ONCE = 2**16
+ACCOUNTS_AT_ONCE = 2**10
+SAVE_NAME = b"LIQSNAP1"
+ONE = ctypes.c_size_t(1)
+
+
+class MarketClosed(Exception):
+    """The market was closed."""
+
+
+class Busy(Exception):
+    """Another thread's call is in this market, which is for one at a time. Other markets, and forks of it, are free."""
+
+
+class BadSave(ValueError):
+    """The bytes are not what `save` gave: they were damaged or cut short, or something else made them."""
+
+
+class Market(Queries):
+    """A market in memory, as it opens. `close` frees it, or the end of `with`, or the collector.
+
+    It is for one call at a time: one that another thread makes meanwhile raises `Busy`. Behind `close` each raises `MarketClosed`. A
+    batch, a fork, a save and a load let other threads run; a single call does not, it is too short.
+
+    After 1,000,000 accepted commands it is full, as a journal is. Then a typed call, or a batch of `next`, first sends `rotate` as the
+    client `rotating`, whose next number that takes. With None nobody does, and each command is refused: `JournalFull`.
+
+    A copy of it, deep or not, is a fork; pickled it is what `save` gives. The forked child of a process without other threads has
+    forks of all its markets; where there were other threads it may call none.
+    """
+
+    def __init__(self, library: Optional[Folder] = None, rotating: Optional[int] = ROTATING) -> None:
+        self._set_up(load_library(library), rotating)
+        must(self._calls.one.open(self._at))
+
+    def _set_up(self, calls: Library, rotating: Optional[int]) -> None:
+        """A place, without a market yet."""
+        check_numbers(() if rotating is None else (rotating,), ACCOUNTS)
+        self.rotating, self._calls = rotating, calls
+        self._place, self._lock = Place(), threading.Lock()
+        self._at: Optional[ctypes.c_void_p] = ctypes.c_void_p(ctypes.addressof(self._place))
+        self._sent, self._reply = bytearray(ITEM_BYTES), bytearray(ITEM_BYTES)
+        self._sent_at, self._reply_at = (ctypes.c_void_p(address_of(it)) for it in (self._sent, self._reply))
+        self._next, self._preview, self._ask = calls.one.next, calls.one.preview, calls.one.ask
+        self._end = weakref.finalize(self, let_go, calls, self._place, self._lock)
+        self._end.atexit = False  # at the end of the process a thread may still be in a call
+
+    @classmethod
+    def _empty(cls, calls: Library, rotating: Optional[int]) -> "Market":
+        made = cls.__new__(cls)
+        made._set_up(calls, rotating)
+        return made
+
+    @contextmanager
+    def _used(self) -> Iterator[ctypes.c_void_p]:
+        """Its place, for one call."""
+        if not self._lock.acquire(False):
+            raise Busy(Busy.__doc__)
+        try:
+            if self._at is None:
+                raise MarketClosed("the market was closed")
+            yield self._at
+        finally:
+            self._lock.release()
+
+    # ---- its life
+
+    def close(self) -> None:
+        """Frees it; nothing where it is closed already."""
+        if not self._lock.acquire(False):
+            raise Busy(Busy.__doc__)
+        try:
+            if self._at is not None:
+                self._at = None
+                self._end.detach()
+                self._calls.one.close(ctypes.byref(self._place))
+        finally:
+            self._lock.release()
+
+    @property
+    def closed(self) -> bool:
+        """Whether it was closed."""
+        return self._at is None
+
+    def __enter__(self) -> "Market":
+        return self
+
+    def __exit__(
+        self, kind: Optional[Type[BaseException]], fault: Optional[BaseException], trace: Optional[TracebackType]
+    ) -> None:
+        self.close()
+
+    def fork(self) -> "Market":
+        """The same market once more, on its own from then on: with its count of records and its clients' numbers."""
+        made = self._empty(self._calls, self.rotating)
+        with self._used() as at:
+            must(self._calls.many.fork(at, made._at))
+        return made
+
+    __copy__ = fork
+
+    def __deepcopy__(self, _: Any) -> "Market":
+        return self.fork()
+
+    def save(self) -> bytes:
+        """The market as bytes, for `load`. Equal markets save equal bytes."""
+        with self._used() as at:
+            saved = bytearray(self._calls.one.save_size(at))
+            must(self._calls.many.save(at, address_of(saved), len(saved)))
+        return bytes(saved)
+
+    @classmethod
+    def load(cls, saved: bytes, library: Optional[Folder] = None, rotating: Optional[int] = ROTATING) -> "Market":
+        """The market that was saved. Raises `BadSave`. Nobody knows the history of one that comes in."""
+        made, data = cls._empty(load_library(library), rotating), bytearray(saved)
+        status = made._calls.many.load(made._at, address_of(data), len(data))
+        if status == BAD:
+            raise BadSave("these are not the bytes of a market that was saved")
+        must(status)
+        return made
+
+    def __reduce__(self) -> Tuple[Any, ...]:
+        return load_again, (self.save(), self.rotating)
+
+    @classmethod
+    def of_folder(
+        cls, folder: Folder, most: int = BYTES_MOST, library: Optional[Folder] = None, rotating: Optional[int] = ROTATING
+    ) -> "Market":
+        """The market that stands on a folder's files, each of at most `most` bytes. Nothing is written there, and no run may have them
+        open: `liq.backup` copies them beside one. Raises `NoJournal`, or `DamagedFile` as `liq.journal` does and where the rules refuse
+        a record."""
+        if not holds_journal(folder):
+            raise NoJournal(folder)
+        disk = Journal(folder, most).current
+        try:
+            made = cls.load(save_of(disk), library, rotating)
+        except BadSave:
+            raise DamagedFile(disk.path, 0, "its checkpoint is of no sound market") from None
+        made._follow(disk)
+        return made
+
+    def _follow(self, disk: Disk) -> None:
+        """Carries out a disk's records."""
+        last = {client: row.last for client, row in disk.checkpoint.clients.items()} if disk.checkpoint else {}
+        for index, command in enumerate(disk.commands, 1):
+            if last.get(command.client) == command.number:
+                raise DamagedFile(disk.path, index, "it comes again")
+            last[command.client] = command.number
+        for first in range(0, len(disk.commands), ROWS_AT_ONCE):
+            begin = disk.begin + first * RECORD_BYTES
+            end = min(disk.end, begin + ROWS_AT_ONCE * RECORD_BYTES)
+            replies = self.do(b"".join([disk.data[at + 1 : at + 1 + ITEM_BYTES] for at in range(begin, end, RECORD_BYTES)]))
+            kinds = replies[::ITEM_BYTES]
+            if kinds.count(ACCEPTED) < len(kinds):
+                refused = next(index for index, kind in enumerate(kinds) if kind != ACCEPTED)
+                raise DamagedFile(disk.path, first + refused + 1, "the rules refuse it")
+
+    # ---- commands
+
+    def client(self, client: int) -> "MarketClient":
+        """A client of this market. The market numbers its commands, so there may be several of one number."""
+        return MarketClient(self, client)
+
+    def _carry(
+        self, call: Any, client: int, number: int, row: Type[Row], verb: str, accounts: Sequence[int],
+        amounts: Sequence[int], hints: Sequence[Optional[int]],
+    ) -> Row:
+        """What a command is replied by `next` or `preview`. Raises its refusal, or MemoryError."""
+        form = FORMS[verb]
+        check_numbers(accounts, ACCOUNTS)
+        check_numbers(amounts, AMOUNTS)
+        if hints:
+            hints = hint_words(hints)
+        if not self._lock.acquire(False):
+            raise Busy(Busy.__doc__)
+        try:
+            at = self._at
+            if at is None:
+                raise MarketClosed("the market was closed")
+            form.pack_into(self._sent, 0, form.kind, client, number, *accounts, *amounts, *hints)
+            call(at, self._sent_at, ONE, self._reply_at, ONE)
+            told = form.read(self._reply)
+            if told[0] != form.accepted:
+                raise fault_in(self._reply)
+        finally:
+            self._lock.release()
+        return row(*told[2:])
+
+    def _rotate(self, at: ctypes.c_void_p) -> None:
+        """Rotates, as who rotates."""
+        form = FORMS["rotate"]
+        form.pack_into(self._sent, 0, form.kind, self.rotating, 0)
+        self._next(at, self._sent_at, ONE, self._reply_at, ONE)
+        if form.read(self._reply)[0] != form.accepted:
+            raise fault_in(self._reply)
+
+    # ---- queries
+
+    def _told(self, at: ctypes.c_void_p, query: str, account: int = 0) -> Optional[Sequence[int]]:
+        """The numbers that are told; None where there is no such trove or deposit."""
+        asked = ASKED[query]
+        pack_query(self._sent, 0, asked.topic, account)
+        self._ask(at, self._sent_at, ONE, self._reply_at, ONE)
+        told = asked.read(self._reply)
+        if told[0] != asked.told:
+            raise fault_in(self._reply)
+        return told[2:] if told[1] else None
+
+    def _row(self, query: str, *accounts: int) -> Optional[Sequence[int]]:
+        check_numbers(accounts, ACCOUNTS)
+        with self._used() as at:
+            return self._told(at, query, *accounts)
+
+    def _rows(self, query: str, accounts: Iterable[int]) -> List[Optional[Sequence[int]]]:
+        asked, wanted = ASKED[query], list(accounts)
+        check_numbers(wanted, ACCOUNTS)
+        rows: List[Optional[Sequence[int]]] = []
+        for begin in range(0, len(wanted), ROWS_AT_ONCE):
+            part = array("I", wanted[begin : begin + ROWS_AT_ONCE])
+            queries = array("I", [asked.topic, 0]) * len(part)
+            queries[1::2] = part
+            rows += [told[2:] if told[1] else None for told in asked.read_all(self.query(queries))]
+        return rows
+
+    # ---- batches
+
+    def do(self, commands: Any) -> Any:
+        """The replies to many commands, each under the number that it has (`liq.batch`). Refusals are among them, and stop
+        nothing. A repetition is replied as the first time. Raises `BatchStopped` at what is no command."""
+        return self._batch(self._calls.many.do, Given(commands, COMMANDS))
+
+    def next(self, commands: Any) -> Any:
+        """The same under each client's next number, which the market puts into the commands: they come with number 0, and go
+        as `do`, another market or `liq run` may take them. Where the market is full it rotates: see `rotating`."""
+        given = Given(commands, COMMANDS, is_written=True)
+        done, why = 0, None
+        with self._used() as at:
+            while why is None and done < given.count:
+                try:
+                    part = min(given.count - done, self._make_room(at))
+                except (Refusal, MemoryError) as fault:
+                    why = fault
+                else:
+                    answered = self._calls.many.next(at, *given.part(done, part))
+                    done += answered.done
+                    why = given.why(answered.status, done)
+        return given.answered(done, why)
+
+    def preview(self, commands: Any) -> Any:
+        """What each command would be replied now, each as if it were the only one; nothing changes. One with number 0 is looked
+        at under its client's next number."""
+        return self._batch(self._calls.many.preview, Given(commands, COMMANDS).numbered(self.next_number))
+
+    def query(self, queries: Any) -> Any:
+        """The replies to many queries (`liq.batch.queries`)."""
+        return self._batch(self._calls.many.ask, Given(queries, QUERIES))
+
+    def _batch(self, call: Any, given: Given) -> Any:
+        with self._used() as at:
+            answered = call(at, *given.part(0, given.count))
+        return given.answered(answered.done, given.why(answered.status, answered.done))
+
+    def _make_room(self, at: ctypes.c_void_p) -> int:
+        """How many commands may be accepted before it is full. Where none may it first rotates."""
+        if self.rotating is None:
+            return RECORDS_MOST
+        left = RECORDS_MOST - (self._told(at, "system") or ())[-1]
+        if left == 0:
+            self._rotate(at)
+            left = RECORDS_MOST
+        return left
+
+    def lines(self, text: str) -> List[str]:
+        """The replies to lines, as `liq run` writes them; so nobody rotates. Raises `BatchStopped` at a line that is no request."""
+        data = bytearray(text.encode("ascii"))
+        if data and not data.endswith(b"\n"):
+            data += b"\n"
+        told, room, taken, status = bytearray(), bytearray(TEXT_AT_ONCE), 0, SHORT
+        data_at, room_at = address_of(data), address_of(room)
+        with self._used() as at:
+            while status == SHORT:
+                written = self._calls.many.lines(at, data_at + taken, len(data) - taken, room_at, len(room))
+                told += room[: written.written]
+                taken, status = taken + written.taken, written.status
+        replies = told.decode("ascii").splitlines()
+        if status != OK:
+            line = bytes(data[taken : data.index(b"\n", taken)]).decode("ascii")
+            raise BatchStopped(len(replies), MemoryError() if status == NO_MEMORY else line, replies)
+        return replies
+
+    def ask(self, line: str) -> List[str]:
+        """The words of the reply to a line. A client of its own numbers commands: see `client`."""
+        if "\n" in line:
+            raise ValueError("more than one line")
+        return self.lines(line + "\n")[0].split(" ")
+
+    # ---- lists of accounts
+
+    def trove_accounts(self, first: int = 0, most: Optional[int] = None) -> List[int]:
+        """Who has a trove, in the order of the list: from the one of the lowest ratio on, which is liquidated and redeemed
+        first. Those from index `first` on, and at most so many."""
+        return self._accounts(TROVES, first, most)
+
+    def deposit_accounts(self, first: int = 0, most: Optional[int] = None) -> List[int]:
+        """Who has a deposit in the Stability Pool, ascending."""
+        return self._accounts(DEPOSITS, first, most)
+
+    def wallet_accounts(self, first: int = 0, most: Optional[int] = None) -> List[int]:
+        """Whose wallet is not empty, ascending."""
+        return self._accounts(WALLETS, first, most)
+
+    def touched(self) -> List[int]:
+        """Whom the last accepted command names, and then whose place in the list of troves it changed besides: of
+        `liquidate_lowest` and `redeem` the owners. Nobody in a fork, and in a market that was loaded."""
+        return self._accounts(TOUCHED, 0, None)
+
+    def _accounts(self, which: int, first: int, most: Optional[int]) -> List[int]:
+        check_numbers((first,) if most is None else (first, most), AMOUNTS)
+        found: List[int] = []
+        places = ACCOUNTS_AT_ONCE
+        with self._used() as at:
+            while most is None or len(found) < most:
+                places = places if most is None else min(places, most - len(found))
+                room = array("I", [0]) * places
+                answered = self._calls.one.accounts(at, which, first + len(found), address_of(room), places)
+                if answered.status not in (OK, SHORT):
+                    must(answered.status)
+                found += room[: answered.done]
+                if answered.status == OK:
+                    break
+                places *= 2
+        return found
+
+
+class MarketClient(Calls):
+    """A client of a market in memory: its commands as typed calls, each under its next number, which the market knows."""
+
+    def __init__(self, market: Market, client: int) -> None:
+        check_numbers((client,), ACCOUNTS)
+        self.market, self.client = market, client
+
+    @property
+    def next_number(self) -> int:
+        """The number of the next new command."""
+        return self.market.next_number(self.client)
+
+    @property
+    def preview(self) -> "Preview":
+        """The same calls, which give what they would give, or raise what they would raise, and change nothing."""
+        return Preview(self.market, self.client)
+
+    def _send(
+        self, row: Type[Row], verb: str, accounts: Sequence[int], amounts: Sequence[int],
+        hints: Sequence[Optional[int]] = (),
+    ) -> Row:
+        market = self.market
+        try:
+            return market._carry(market._next, self.client, 0, row, verb, accounts, amounts, hints)
+        except JournalFull:
+            if market.rotating is None:
+                raise
+        market.client(market.rotating).rotate()
+        return market._carry(market._next, self.client, 0, row, verb, accounts, amounts, hints)
+
+
+class Preview(Calls):
+    """What a client's next command would be replied, as typed calls; nothing changes."""
+
+    def __init__(self, market: Market, client: int) -> None:
+        self.market, self.client = market, client
+
+    def _send(
+        self, row: Type[Row], verb: str, accounts: Sequence[int], amounts: Sequence[int],
+        hints: Sequence[Optional[int]] = (),
+    ) -> Row:
+        market, number = self.market, self.market.next_number(self.client)
+        return market._carry(market._preview, self.client, number, row, verb, accounts, amounts, hints)
+
+
+# ---- beneath
+
+
+def let_go(calls: Library, place: Place, lock: threading.Lock) -> None:
+    """Frees a market that nobody has any more, unless a call is in it."""
+    if lock.acquire(False):
+        calls.one.close(ctypes.byref(place))
+
+
+def save_of(disk: Disk) -> bytes:
+    """What a market saves with which a disk's records begin."""
+    checkpoint = disk.data[disk.header : disk.begin]
+    found = disk.checkpoint
+    if found is None:
+        from .model import Market as Model  # not at the top: few callers want it
+        from .model.disks import checkpoint_bytes
+
+        checkpoint = checkpoint_bytes(Model(LIMITS[disk.version]).checkpoint())
+    elif (found.generation, found.version) != (disk.generation, disk.version):
+        raise DamagedFile(disk.path, 0, "its checkpoint is of another generation or limit")
+    saved = SAVE_NAME + bytes(8) + checkpoint
+    return saved + hashlib.sha256(saved).digest()
+
+
+def load_again(saved: bytes, rotating: Optional[int]) -> Market:
+    """A market that was pickled."""
+    return Market.load(saved, rotating=rotating)
+
+
+def must(status: int) -> None:
+    """Raises what a status says that may be none but that there was no memory."""
+    if status == NO_MEMORY:
+        raise MemoryError("there was no memory for it, and nothing changed")
+    if status != OK:
+        raise RuntimeError(f"the library gave {status}")

@@ -1,0 +1,86 @@
+"""Commands, queries and replies as the library takes and gives them: 96 bytes, 8 bytes and 96 bytes (clients/c/liq.h)."""
+import struct
+from typing import Any, Callable, Dict, Iterable, Iterator, NamedTuple, Optional, Sequence, Tuple, Type
+
+from .client import ACCOUNTS, spelt
+from .journal import FIELDS, KINDS, NO_HINT, VERBS
+from .library import ACCEPTED, ITEM_BYTES, OUT_OF_MEMORY, REFUSED, TOLD, TOPICS
+from .refusals import refusal_of
+from .replies import BY_QUERY, BY_VERB
+
+Numbers = Tuple[int, ...]
+FIELD = {"a": (4, "I"), "v": (8, "Q"), "h": (4, "I")}
+HEAD = "<HB5x"  # of a reply: kind and verb, topic or code as one number; how many numbers there are
+
+
+class Form(NamedTuple):
+    """How a verb's command is packed: kind, client, number, and its words. `read` reads its reply, whose first number is
+    `accepted` where it is one."""
+
+    kind: int
+    pack_into: Callable[..., None]
+    read: Callable[[Any], Numbers]
+    accepted: int
+
+
+class Asked(NamedTuple):
+    """A query's topic; how one reply, and many in a row, are read; and by which number they begin."""
+
+    topic: int
+    read: Callable[[Any], Numbers]
+    read_all: Callable[[Any], Iterator[Numbers]]
+    told: int
+
+
+def form_of(verb: str) -> Form:
+    """The form of a verb. What it has no word for is 0."""
+    spelling = ">B3xIQ"
+    for letter, (size, field) in FIELD.items():
+        used = VERBS[verb].count(letter)
+        spelling += field * used + f"{size * (FIELDS[letter] - used)}x"
+    kind = KINDS.index(verb) + 1
+    read = struct.Struct(f"{HEAD}{width(BY_VERB[verb])}Q").unpack_from
+    return Form(kind, struct.Struct(spelling + "24x").pack_into, read, ACCEPTED | kind << 8)
+
+
+def asked_by(topic: int, count: int) -> Asked:
+    """The form of a query that so many numbers are told of."""
+    spelling = f"{HEAD}{count}Q"
+    rest = ITEM_BYTES - struct.calcsize(spelling)
+    whole = struct.Struct(f"{spelling}{rest}x")
+    return Asked(topic, struct.Struct(spelling).unpack_from, whole.iter_unpack, TOLD | topic << 8)
+
+
+def width(row: Optional[Type[Any]]) -> int:
+    """How many numbers a row has; that of a client's next number is one."""
+    return len(row._fields) if row else 1
+
+
+FORMS: Dict[str, Form] = {verb: form_of(verb) for verb in VERBS}
+ASKED: Dict[str, Asked] = {name: asked_by(topic, width(BY_QUERY.get(name))) for topic, name in enumerate(TOPICS, 1)}
+pack_query = struct.Struct("=2I").pack_into
+
+
+def fault_in(reply: Any) -> Exception:
+    """What a reply says that is not what was asked for: a refusal, or that there was no memory."""
+    kind, which, count = reply[0], reply[1], reply[2]
+    if kind == REFUSED:
+        words = struct.unpack_from(f"<{2 * count}Q", reply, 8)
+        return refusal_of(which, [low | high << 64 for low, high in zip(words[::2], words[1::2])])
+    if kind == OUT_OF_MEMORY:
+        return MemoryError("there was no memory for it, and nothing changed")
+    return RuntimeError(f"no reply to this: {bytes(reply[:16]).hex()}")
+
+
+def check_numbers(numbers: Iterable[int], limit: int) -> None:
+    """Raises the error of the first that is no whole number below the limit: a TypeError or a ValueError."""
+    for number in numbers:
+        if type(number) is not int or not 0 <= number < limit:
+            spelt((number,), limit)
+
+
+def hint_words(hints: Sequence[Optional[int]]) -> Tuple[int, int]:
+    """Two hints as they are packed."""
+    before, after = hints
+    check_numbers([hint for hint in hints if hint is not None], ACCOUNTS)
+    return NO_HINT if before is None else before, NO_HINT if after is None else after
