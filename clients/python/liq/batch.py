@@ -254,7 +254,7 @@ class Kind(NamedTuple):
 COMMANDS, QUERIES = Kind("commands", ITEM_BYTES, "COMMAND"), Kind("queries", QUERY_BYTES, "QUERY")
 
 
-WHOSE = struct.Struct(">4xIQ")  # of a command: its client and its number
+WHOSE = struct.Struct(">IQ")  # from byte 4 of a command on: its client and its number
 PLACE = struct.Struct("<8xQ")  # of a reply that says where a field fits nothing
 NOTHING = bytearray(1)
 
@@ -263,21 +263,26 @@ class Given:
     """A batch that was looked at, and places for as many replies. What is not as the library takes it is an error."""
 
     def __init__(self, items: Any, kind: Kind, is_written: bool = False) -> None:
-        self.kind = kind
+        self.kind, self.lent = kind, None
         if is_array(items):
             self._take_array(items, is_written)
         else:
             self._take_bytes(items, is_written)
 
     def _take_array(self, items: Any, is_written: bool) -> None:
-        if items.dtype != type_of(self.kind.type):
+        wanted = type_of(self.kind.type)
+        if items.dtype.newbyteorder("=") != wanted.newbyteorder("="):
             raise TypeError(f"an array of {items.dtype} has no {self.kind.what}: see liq.batch")
-        if items.ndim != 1 or not items.flags.c_contiguous:
-            raise ValueError(f"the {self.kind.what} don't lie side by side: numpy.ascontiguousarray copies them so")
+        if items.ndim != 1:
+            raise ValueError(f"the {self.kind.what} are no row, but an array of {items.ndim} dimensions")
         if is_written and not items.flags.writeable:
             raise ValueError(f"numbers are written into the {self.kind.what}, and this array may not be written: copy() it")
-        self.items, self.count, self.items_at = items, len(items), items.ctypes.data
-        self.replies = need_numpy().zeros(self.count, type_of("REPLY"))
+        numpy = need_numpy()
+        # A copy of those that lie apart, as a slice's do, or whose bytes are turned, as by numpy's concatenate.
+        self.items = numpy.ascontiguousarray(items, wanted)
+        self.lent = items if is_written and self.items is not items else None
+        self.count, self.items_at = len(items), self.items.ctypes.data
+        self.replies = numpy.zeros(self.count, type_of("REPLY"))
         self.replies_at = self.replies.ctypes.data
 
     def _take_bytes(self, items: Any, is_written: bool) -> None:
@@ -295,7 +300,7 @@ class Given:
         """The same commands, copied, those with number 0 under their clients' next numbers."""
         copied = bytearray(memoryview(self.items).cast("B")) if self.count else bytearray()
         known: Dict[int, int] = {}
-        for at in range(0, len(copied), ITEM_BYTES):
+        for at in range(4, len(copied), ITEM_BYTES):
             client, number = WHOSE.unpack_from(copied, at)
             if number == 0 and client < ACCOUNTS:
                 known[client] = known.get(client) or next_number(client)
@@ -317,6 +322,8 @@ class Given:
 
     def answered(self, done: int, why: Optional[Why]) -> Columns:
         """The replies to all items. Raises `BatchStopped` where there is a reason why not all are answered."""
+        if self.lent is not None:
+            self.lent["number"] = self.items["number"]
         if why is None:
             return self.replies
         raise BatchStopped(done, why, self.replies[: done * (1 if is_array(self.replies) else ITEM_BYTES)])

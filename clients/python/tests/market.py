@@ -7,15 +7,23 @@ import sys
 import tempfile
 import unittest
 from pathlib import Path
-from typing import Any, Callable, Dict, List
+from typing import Any, Callable, Dict, List, Optional
+from unittest import mock
 
-from liq import scratch
+from liq import Market, NotBuilt, memory, scratch
 from liq.journal import SIDES
+from liq.library import find_library
 from liq.service import MEMORY, Create, Service, find_program
+
+from .standin import StandIn
 
 TOP = Path(__file__).resolve().parents[3]
 PROGRAM = find_program()
 READY = os.access(PROGRAM, os.X_OK)
+try:
+    LIBRARY: Optional[Path] = find_library()
+except NotBuilt:
+    LIBRARY = None
 
 
 class InFolder(unittest.TestCase):
@@ -24,6 +32,7 @@ class InFolder(unittest.TestCase):
     def setUp(self) -> None:
         self.folder = Path(tempfile.mkdtemp(dir=MEMORY if MEMORY.is_dir() else None, prefix="liq-test-"))
         self.addCleanup(shutil.rmtree, self.folder)
+        super().setUp()
 
     def bounded(self, seconds: int = 60) -> None:
         """Makes the case an error where it takes more seconds, as one that waits for ever would."""
@@ -52,6 +61,28 @@ class OverProgram(InFolder):
         """The replies to lines, in a market of that name."""
         with Service(self.folder / name, create=True) as service:
             return [" ".join(service.ask(line)) for line in lines]
+
+
+@unittest.skipIf(LIBRARY is None, "there is no libliq.so")
+class OverLibrary(InFolder):
+    """A case over the built library."""
+
+    def begin(self) -> Market:
+        return Market()
+
+
+class OverStandIn(InFolder):
+    """A case over what stands in for the library (`tests.standin`)."""
+
+    def setUp(self) -> None:
+        self.library = StandIn()
+        loads = mock.patch.object(memory, "load_library", lambda library=None: self.library)
+        loads.start()
+        self.addCleanup(loads.stop)
+        super().setUp()
+
+    def begin(self) -> Market:
+        return Market()
 
 
 @functools.lru_cache(maxsize=1)

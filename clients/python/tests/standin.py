@@ -9,12 +9,13 @@ import struct
 from pathlib import Path
 from typing import Any, Callable, Dict, List, Optional, Tuple
 
-from liq.journal import KINDS, VERBS, Command, read_checkpoint, read_command
+from liq.journal import KINDS, RECORDS_MOST, VERBS, Command, read_checkpoint, read_command
 from liq.library import ABI, ACCEPTED, BAD, LINE_MOST, NO_COMMAND, NO_MARKET, NO_MEMORY, OK, OUT_OF_MEMORY, REFUSED, SHORT, TOLD
 from liq.library import TOPICS, Answered, Place, Written
 from liq.model import Market, NoRequest, answer, read_request
 from liq.model.disks import checkpoint_bytes
 from liq.model.requests import Query, ask, carry_out, next_number
+from liq.model.sound import first_unsound
 from liq.refusals import Refusal
 
 OPEN = 0x6C69715F6F70656E
@@ -107,10 +108,12 @@ class StandIn:
             found = read_checkpoint(Path("left.liq"), data[16:-32], 0)
         except Exception:
             return BAD
-        if found is None:
+        records = int.from_bytes(data[8:16], "big")
+        broken = found and first_unsound(found)
+        if found is None or records > RECORDS_MOST or broken and not (broken == 9 and records):  # 9 is under the count of records
             return BAD
         market = Market.begun_with(found)
-        market.records = int.from_bytes(data[8:16], "big")
+        market.records = records
         return self.put(at, market)
 
     # ---- items

@@ -12,6 +12,7 @@ import liq
 from liq import refusals
 from liq.across import NoLine
 from liq.archive import NotArchived
+from liq.batch import BatchStopped
 from liq.ends import End, MarketExists, NoJournal, TooMuch
 from liq.guard import Parted
 from liq.journal import DamagedFile, NoRegularFile
@@ -22,7 +23,7 @@ MADE = {  # by what an exception is made where that is not a message alone
     NoJournal: (Path("a"),), MarketExists: ("a",), NoRegularFile: (Path("a/left.liq"),),
     DamagedFile: (Path("a/left.liq"), 3, "its digest is another"), TooMuch: ("a/left.liq has", 5, "bytes"),
     Parted: (1, 2), NotArchived: (Path("a"), "generation 2 is missing"), NoLine: ("staking", 3),
-    NotStated: ("left.liq is damaged at 3: its digest is another", ("nothing stands before that",)),
+    BatchStopped: (3, 8, (1, 2)), NotStated: ("left.liq is damaged at 3: its digest is another", ("nothing stands before that",)),
 }
 
 

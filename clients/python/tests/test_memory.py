@@ -1,0 +1,163 @@
+"""A market in this process: over the built library, and over what stands in for it where none is built."""
+import copy
+import gc
+import multiprocessing
+import threading
+from typing import List
+
+from liq import BadSave, BatchStopped, Busy, Market, memory
+
+from . import calls, inmemory
+from .inmemory import busy_market, fund
+from .market import OverLibrary, OverStandIn
+
+# ---- over the library
+
+
+class VerbsInMemory(OverLibrary, calls.EveryVerb):
+    """Each verb."""
+
+
+class RefusedInMemory(OverLibrary, calls.Refused):
+    """Refusals."""
+
+
+class LifeInMemory(OverLibrary, inmemory.Life):
+    """Forks and saves."""
+
+
+class CallsInMemory(OverLibrary, inmemory.Calls):
+    """Clients, previews and lines."""
+
+
+class FullInMemory(OverLibrary, inmemory.Full):
+    """Rotations."""
+
+
+class BytesInMemory(OverLibrary, inmemory.Bytes):
+    """Batches."""
+
+
+class OfFolderInMemory(OverLibrary, inmemory.OfFolder):
+    """Files."""
+
+
+# ---- over what stands in
+
+
+class VerbsBeside(OverStandIn, calls.EveryVerb):
+    """Each verb."""
+
+
+class RefusedBeside(OverStandIn, calls.Refused):
+    """Refusals."""
+
+
+class LifeBeside(OverStandIn, inmemory.Life):
+    """Forks and saves."""
+
+
+class CallsBeside(OverStandIn, inmemory.Calls):
+    """Clients, previews and lines."""
+
+
+class BytesBeside(OverStandIn, inmemory.Bytes):
+    """Batches."""
+
+
+class FullBeside(OverStandIn, inmemory.Full):
+    """Rotations."""
+
+
+class OfFolderBeside(OverStandIn, inmemory.OfFolder):
+    """Files."""
+
+
+class Faults(OverStandIn):
+    """What a library of plenty of memory doesn't show."""
+
+    def test_no_memory(self) -> None:
+        market = busy_market(self.begin())
+        before = market.save()
+        client, self.library.fails = market.client(1), 0
+        for call in (
+            lambda: client.fund(1, 5), lambda: client.preview.fund(1, 5), market.fork, Market, lambda: market.wallet(1), lambda: market.wallets([1]),
+        ):
+            self.assertRaises((MemoryError, BatchStopped), call)
+        self.library.fails = -1
+        self.assertEqual(market.save(), before)
+        self.library.fails = 1 + 2  # the count of records is asked for first
+        with self.assertRaises(BatchStopped) as stopped:
+            market.next(fund(5))
+        self.assertEqual((stopped.exception.index, len(stopped.exception.replies)), (2, 2 * 96))
+        self.assertIsInstance(stopped.exception.why, MemoryError)
+
+    def test_a_call_in_the_midst_of_a_batch(self) -> None:
+        market = busy_market(self.begin())
+        client, found = market.client(1), []
+
+        def meanwhile() -> None:
+            self.library.while_many = None
+            for call in (
+                lambda: client.fund(1, 5), lambda: client.preview.fund(1, 5), lambda: market.wallet(1), market.fork, market.save, market.close,
+                lambda: market.do(b""), lambda: market.lines("? pools"), market.touched,
+            ):
+                try:
+                    call()
+                except Busy:
+                    found.append(call)
+            memory.let_go(self.library, market._place, market._lock)
+
+        self.library.while_many = meanwhile
+        self.assertEqual(market.do(fund(3, market.next_number(1)))[::96], bytes([1, 1, 1]))
+        self.assertEqual(len(found), 9)
+        self.assertEqual(client.fund(1, 5), ())
+        market.close()
+        self.assertEqual(self.library.markets, {})
+
+    def test_nothing_is_left_behind(self) -> None:
+        for _ in range(3):
+            market = self.begin()
+            fork = market.fork()
+            self.assertRaises(BadSave, Market.load, b"")
+            Market.load(fork.save())
+            copy.copy(fork)
+            del market, fork
+        gc.collect()
+        self.assertEqual(self.library.markets, {})
+
+
+class Threads(OverLibrary):
+    """Several threads, and several processes."""
+
+    def test_a_batch_lets_others_run(self) -> None:
+        """A second thread finds its own market free and this one busy, as long as the batch goes on."""
+        market, other, seen = self.begin(), self.begin(), []
+        begun, commands = threading.Event(), fund(400_000)
+
+        def batch() -> None:
+            begun.set()
+            market.next(commands)
+
+        thread = threading.Thread(target=batch)
+        thread.start()
+        begun.wait()
+        while thread.is_alive():
+            other.client(1).fund(1, 1)
+            try:
+                market.wallet(1)
+            except Busy:
+                seen.append(1)
+        thread.join()
+        self.assertTrue(seen)
+        self.assertEqual(market.wallet(1).coll, 400_000 * 5)
+
+    def test_a_pool_of_processes(self) -> None:
+        market = busy_market(self.begin())
+        for how in ("spawn", "fork"):
+            with multiprocessing.get_context(how).Pool(2) as pool:
+                self.assertEqual(pool.map(troves_of, [market] * 3), [market.trove_accounts()] * 3)
+
+
+def troves_of(market: Market) -> List[int]:
+    return market.trove_accounts()
