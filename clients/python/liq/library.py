@@ -143,7 +143,9 @@ def processor_flags() -> List[str]:
 
 
 def missing(why: str, command: str = f"{TOP}/scripts/build --library") -> NoLibrary:
-    """That there is no library, and the command to run where one would help."""
-    can_build = command and Path(command.split(" ")[0]).is_file()
-    what = f": build it by `{command}`" if can_build else ": build one in a checkout of liq by `scripts/build --library`" if command else ""
-    return NoLibrary(70, f"{why}{what}; a Service needs none")
+    """That there is no library, and the command that builds one; none where that wouldn't help."""
+    if command and Path(command.split(" ")[0]).is_file():
+        why += f": build it by `{command}`"
+    elif command:
+        why += ": in a checkout of liq `scripts/build --library` builds one"
+    return NoLibrary(70, f"{why}; a Service needs none")
