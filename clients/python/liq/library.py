@@ -52,7 +52,7 @@ class Written(ctypes.Structure):
 
 
 AT, COUNT, STATUS = ctypes.c_void_p, ctypes.c_size_t, ctypes.c_uint32
-Shape = Tuple[Any, Sequence[Any]]  # what a call gives, and what it takes
+Shape = Tuple[Any, Optional[Sequence[Any]]]  # what a call gives, and what it takes
 ITEMS: Shape = (Answered, (AT, AT, COUNT, AT, COUNT))
 CALLS: Dict[str, Shape] = {
     "abi": (STATUS, ()),
@@ -73,20 +73,23 @@ CALLS: Dict[str, Shape] = {
 
 class Library:
     """The library's calls. Those of `one` keep the interpreter's lock, which is quicker for a short call; those of `many` let it go,
-    so that other threads run meanwhile. Neither looks at what it is given."""
+    so that other threads run meanwhile.
+
+    The calls of `one` that take items take one, as numbers of C, and give nothing: its reply says all, and a structure that is made of two
+    registers, or a look at each argument, would take a third of the time of the call."""
 
     def __init__(self, path: Folder) -> None:
         self.path = Path(path)
-        self.one, self.many = (Bound(kind(str(path))) for kind in (ctypes.PyDLL, ctypes.CDLL))
+        self.one, self.many = Bound(ctypes.PyDLL(str(path)), (None, None)), Bound(ctypes.CDLL(str(path)), ITEMS)
 
 
 class Bound:
-    """The calls by their names."""
+    """The calls by their names. Those of items give and take what is said."""
 
-    def __init__(self, opened: ctypes.CDLL) -> None:
-        for name, (gives, takes) in CALLS.items():
+    def __init__(self, opened: ctypes.CDLL, of_items: Shape) -> None:
+        for name, shape in CALLS.items():
             call = opened[f"liq_{name}"]
-            call.restype, call.argtypes = gives, takes
+            call.restype, call.argtypes = of_items if shape is ITEMS else shape
             setattr(self, name, call)
 
     def __getattr__(self, name: str) -> Any:

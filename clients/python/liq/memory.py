@@ -14,12 +14,11 @@ import hashlib
 import threading
 import weakref
 from array import array
-from contextlib import contextmanager
 from types import TracebackType
-from typing import Any, Iterable, Iterator, List, Optional, Sequence, Tuple, Type
+from typing import Any, Iterable, List, Optional, Sequence, Tuple, Type
 
 from .batch import COMMANDS, QUERIES, BatchStopped, Given, Why, address_of
-from .client import ACCOUNTS, AMOUNTS, Calls, Row
+from .client import ACCOUNTS, AMOUNTS, NO_HINTS, Calls, Row
 from .ends import Folder, NoJournal
 from .journal import BYTES_MOST, LIMITS, RECORD_BYTES, RECORDS_MOST, DamagedFile, Disk, Journal, holds_journal
 from .library import ACCEPTED, BAD, DEPOSITS, ITEM_BYTES, NO_MEMORY, OK, SHORT, TOUCHED, TROVES, WALLETS
@@ -33,6 +32,7 @@ ROWS_AT_ONCE = 2**16
 TEXT_AT_ONCE = 2**16
 ACCOUNTS_AT_ONCE = 2**10
 SAVE_NAME = b"LIQSNAP1"
+NO_WORDS = hint_words(NO_HINTS)
 ONE = ctypes.c_size_t(1)
 
 
@@ -46,6 +46,32 @@ class Busy(Exception):
 
 class BadSave(ValueError):
     """The bytes are not what `save` gave: they were damaged or cut short, or something else made them."""
+
+
+class Held:
+    """A place with a market, and the lock that each call takes. `with` takes it and gives the place."""
+
+    def __init__(self) -> None:
+        self.place, self.lock = Place(), threading.Lock()
+        self.at: Optional[ctypes.c_void_p] = ctypes.c_void_p(ctypes.addressof(self.place))
+
+    def __enter__(self) -> ctypes.c_void_p:
+        if not self.lock.acquire(False):
+            raise Busy(Busy.__doc__)
+        if self.at is None:
+            self.lock.release()
+            raise MarketClosed("the market was closed")
+        return self.at
+
+    def __exit__(self, *_: Any) -> None:
+        self.lock.release()
+
+    def let_go(self, calls: Library) -> None:
+        """Frees the market, of which nobody has more than this. In a call of another thread it is left as it is."""
+        if self.lock.acquire(False):
+            self.at = None
+            calls.one.close(ctypes.byref(self.place))
+            self.lock.release()
 
 
 class Market(Queries):
@@ -63,18 +89,16 @@ class Market(Queries):
 
     def __init__(self, library: Optional[Folder] = None, rotating: Optional[int] = ROTATING) -> None:
         self._set_up(load_library(library), rotating)
-        must(self._calls.one.open(self._at))
+        must(self._calls.one.open(self._held.at))
 
     def _set_up(self, calls: Library, rotating: Optional[int]) -> None:
         """A place, without a market yet."""
         check_numbers(() if rotating is None else (rotating,), ACCOUNTS)
         self.rotating, self._calls = rotating, calls
-        self._place, self._lock = Place(), threading.Lock()
-        self._at: Optional[ctypes.c_void_p] = ctypes.c_void_p(ctypes.addressof(self._place))
-        self._sent, self._reply = bytearray(ITEM_BYTES), bytearray(ITEM_BYTES)
-        self._sent_at, self._reply_at = (ctypes.c_void_p(address_of(it)) for it in (self._sent, self._reply))
-        self._next, self._preview, self._ask = calls.one.next, calls.one.preview, calls.one.ask
-        self._end = weakref.finalize(self, let_go, calls, self._place, self._lock)
+        self._held, self._sent, self._reply = Held(), bytearray(ITEM_BYTES), bytearray(ITEM_BYTES)
+        sent_at, reply_at = (ctypes.c_void_p(address_of(it)) for it in (self._sent, self._reply))
+        self._item = self._held.at, sent_at, ONE, reply_at, ONE  # what each call of one item takes
+        self._end = weakref.finalize(self, self._held.let_go, calls)
         self._end.atexit = False  # at the end of the process a thread may still be in a call
 
     @classmethod
@@ -83,36 +107,20 @@ class Market(Queries):
         made._set_up(calls, rotating)
         return made
 
-    @contextmanager
-    def _used(self) -> Iterator[ctypes.c_void_p]:
-        """Its place, for one call."""
-        if not self._lock.acquire(False):
-            raise Busy(Busy.__doc__)
-        try:
-            if self._at is None:
-                raise MarketClosed("the market was closed")
-            yield self._at
-        finally:
-            self._lock.release()
-
     # ---- its life
 
     def close(self) -> None:
         """Frees it; nothing where it is closed already."""
-        if not self._lock.acquire(False):
-            raise Busy(Busy.__doc__)
-        try:
-            if self._at is not None:
-                self._at = None
+        if not self.closed:
+            with self._held as at:
+                self._held.at = None
                 self._end.detach()
-                self._calls.one.close(ctypes.byref(self._place))
-        finally:
-            self._lock.release()
+                self._calls.one.close(at)
 
     @property
     def closed(self) -> bool:
         """Whether it was closed."""
-        return self._at is None
+        return self._held.at is None
 
     def __enter__(self) -> "Market":
         return self
@@ -125,8 +133,8 @@ class Market(Queries):
     def fork(self) -> "Market":
         """The same market once more, on its own from then on: with its count of records and its clients' numbers."""
         made = self._empty(self._calls, self.rotating)
-        with self._used() as at:
-            must(self._calls.many.fork(at, made._at))
+        with self._held as at:
+            must(self._calls.many.fork(at, made._held.at))
         return made
 
     __copy__ = fork
@@ -136,7 +144,7 @@ class Market(Queries):
 
     def save(self) -> bytes:
         """The market as bytes, for `load`. Equal markets save equal bytes."""
-        with self._used() as at:
+        with self._held as at:
             saved = bytearray(self._calls.one.save_size(at))
             must(self._calls.many.save(at, address_of(saved), len(saved)))
         return bytes(saved)
@@ -145,7 +153,7 @@ class Market(Queries):
     def load(cls, saved: bytes, library: Optional[Folder] = None, rotating: Optional[int] = ROTATING) -> "Market":
         """The market that was saved. Raises `BadSave`. Nobody knows the history of one that comes in."""
         made, data = cls._empty(load_library(library), rotating), bytearray(saved)
-        status = made._calls.many.load(made._at, address_of(data), len(data))
+        status = made._calls.many.load(made._held.at, address_of(data), len(data))
         if status == BAD:
             raise BadSave("these are not the bytes of a market that was saved")
         must(status)
@@ -197,51 +205,58 @@ class Market(Queries):
         self, call: Any, client: int, number: int, row: Type[Row], verb: str, accounts: Sequence[int],
         amounts: Sequence[int], hints: Sequence[Optional[int]],
     ) -> Row:
-        """What a command is replied by `next` or `preview`. Raises its refusal, or MemoryError."""
-        form = FORMS[verb]
-        check_numbers(accounts, ACCOUNTS)
-        check_numbers(amounts, AMOUNTS)
+        """What a command is replied by `next` or `preview`. Raises its refusal, or MemoryError. Much of it is written out, for it is
+        all that a typed call costs beside the rules."""
+        kind, pack_into, read, accepted = FORMS[verb]
+        for account in accounts:
+            if type(account) is not int or not 0 <= account < ACCOUNTS:
+                check_numbers((account,), ACCOUNTS)
+        for amount in amounts:
+            if type(amount) is not int or not 0 <= amount < AMOUNTS:
+                check_numbers((amount,), AMOUNTS)
         if hints:
-            hints = hint_words(hints)
-        if not self._lock.acquire(False):
+            hints = NO_WORDS if hints is NO_HINTS else hint_words(hints)
+        held, sent, reply = self._held, self._sent, self._reply
+        if not held.lock.acquire(False):
             raise Busy(Busy.__doc__)
         try:
-            at = self._at
-            if at is None:
+            if held.at is None:
                 raise MarketClosed("the market was closed")
-            form.pack_into(self._sent, 0, form.kind, client, number, *accounts, *amounts, *hints)
-            call(at, self._sent_at, ONE, self._reply_at, ONE)
-            told = form.read(self._reply)
-            if told[0] != form.accepted:
-                raise fault_in(self._reply)
+            pack_into(sent, 0, kind, client, number, *accounts, *amounts, *hints)
+            reply[0] = 0
+            call(*self._item)
+            told = read(reply)
+            if told[0] != accepted:
+                raise fault_in(reply)
         finally:
-            self._lock.release()
-        return row(*told[2:])
+            held.lock.release()
+        return tuple.__new__(row, told[2:])  # as row(*told[2:]), in half the time
 
-    def _rotate(self, at: ctypes.c_void_p) -> None:
-        """Rotates, as who rotates."""
+    def _rotate(self) -> None:
+        """Rotates, as who rotates. In a call that has the lock."""
         form = FORMS["rotate"]
         form.pack_into(self._sent, 0, form.kind, self.rotating, 0)
-        self._next(at, self._sent_at, ONE, self._reply_at, ONE)
+        self._calls.one.next(*self._item)
         if form.read(self._reply)[0] != form.accepted:
             raise fault_in(self._reply)
 
     # ---- queries
 
-    def _told(self, at: ctypes.c_void_p, query: str, account: int = 0) -> Optional[Sequence[int]]:
-        """The numbers that are told; None where there is no such trove or deposit."""
-        asked = ASKED[query]
-        pack_query(self._sent, 0, asked.topic, account)
-        self._ask(at, self._sent_at, ONE, self._reply_at, ONE)
-        told = asked.read(self._reply)
-        if told[0] != asked.told:
+    def _told(self, query: str, account: int = 0) -> Optional[Sequence[int]]:
+        """The numbers that are told; None where there is no such trove or deposit. In a call that has the lock."""
+        topic, read, _, wanted = ASKED[query]
+        pack_query(self._sent, 0, topic, account)
+        self._reply[0] = 0
+        self._calls.one.ask(*self._item)
+        told = read(self._reply)
+        if told[0] != wanted:
             raise fault_in(self._reply)
         return told[2:] if told[1] else None
 
     def _row(self, query: str, *accounts: int) -> Optional[Sequence[int]]:
         check_numbers(accounts, ACCOUNTS)
-        with self._used() as at:
-            return self._told(at, query, *accounts)
+        with self._held:
+            return self._told(query, *accounts)
 
     def _rows(self, query: str, accounts: Iterable[int]) -> List[Optional[Sequence[int]]]:
         asked, wanted = ASKED[query], list(accounts)
@@ -266,10 +281,10 @@ class Market(Queries):
         as `do`, another market or `liq run` may take them. Where the market is full it rotates: see `rotating`."""
         given = Given(commands, COMMANDS, is_written=True)
         done, why = 0, None
-        with self._used() as at:
+        with self._held as at:
             while why is None and done < given.count:
                 try:
-                    part = min(given.count - done, self._make_room(at))
+                    part = min(given.count - done, self._make_room())
                 except (Refusal, MemoryError) as fault:
                     why = fault
                 else:
@@ -288,17 +303,17 @@ class Market(Queries):
         return self._batch(self._calls.many.ask, Given(queries, QUERIES))
 
     def _batch(self, call: Any, given: Given) -> Any:
-        with self._used() as at:
+        with self._held as at:
             answered = call(at, *given.part(0, given.count))
         return given.answered(answered.done, given.why(answered.status, answered.done))
 
-    def _make_room(self, at: ctypes.c_void_p) -> int:
-        """How many commands may be accepted before it is full. Where none may it first rotates."""
+    def _make_room(self) -> int:
+        """How many commands may be accepted before it is full. Where none may it first rotates. In a call that has the lock."""
         if self.rotating is None:
             return RECORDS_MOST
-        left = RECORDS_MOST - (self._told(at, "system") or ())[-1]
+        left = RECORDS_MOST - (self._told("system") or ())[-1]
         if left == 0:
-            self._rotate(at)
+            self._rotate()
             left = RECORDS_MOST
         return left
 
@@ -309,7 +324,7 @@ class Market(Queries):
             data += b"\n"
         told, room, taken, status = bytearray(), bytearray(TEXT_AT_ONCE), 0, SHORT
         data_at, room_at = address_of(data), address_of(room)
-        with self._used() as at:
+        with self._held as at:
             while status == SHORT:
                 written = self._calls.many.lines(at, data_at + taken, len(data) - taken, room_at, len(room))
                 told += room[: written.written]
@@ -350,7 +365,7 @@ class Market(Queries):
         check_numbers((first,) if most is None else (first, most), AMOUNTS)
         found: List[int] = []
         places = ACCOUNTS_AT_ONCE
-        with self._used() as at:
+        with self._held as at:
             while most is None or len(found) < most:
                 places = places if most is None else min(places, most - len(found))
                 room = array("I", [0]) * places
@@ -369,7 +384,7 @@ class MarketClient(Calls):
 
     def __init__(self, market: Market, client: int) -> None:
         check_numbers((client,), ACCOUNTS)
-        self.market, self.client = market, client
+        self.market, self.client, self._next = market, client, market._calls.one.next
 
     @property
     def next_number(self) -> int:
@@ -387,12 +402,12 @@ class MarketClient(Calls):
     ) -> Row:
         market = self.market
         try:
-            return market._carry(market._next, self.client, 0, row, verb, accounts, amounts, hints)
+            return market._carry(self._next, self.client, 0, row, verb, accounts, amounts, hints)
         except JournalFull:
             if market.rotating is None:
                 raise
         market.client(market.rotating).rotate()
-        return market._carry(market._next, self.client, 0, row, verb, accounts, amounts, hints)
+        return market._carry(self._next, self.client, 0, row, verb, accounts, amounts, hints)
 
 
 class Preview(Calls):
@@ -406,16 +421,10 @@ class Preview(Calls):
         hints: Sequence[Optional[int]] = (),
     ) -> Row:
         market, number = self.market, self.market.next_number(self.client)
-        return market._carry(market._preview, self.client, number, row, verb, accounts, amounts, hints)
+        return market._carry(market._calls.one.preview, self.client, number, row, verb, accounts, amounts, hints)
 
 
 # ---- beneath
-
-
-def let_go(calls: Library, place: Place, lock: threading.Lock) -> None:
-    """Frees a market that nobody has any more, unless a call is in it."""
-    if lock.acquire(False):
-        calls.one.close(ctypes.byref(place))
 
 
 def save_of(disk: Disk) -> bytes:

@@ -106,7 +106,7 @@ class Life(Cases):
 
     def test_a_market_that_nobody_has_is_freed(self) -> None:
         market = self.begin()
-        at, end = market._place, market._end
+        at, end = market._held.place, market._end
         self.assertNotEqual(at.state, 0)
         del market
         gc.collect()

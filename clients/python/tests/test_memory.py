@@ -5,7 +5,7 @@ import multiprocessing
 import threading
 from typing import List
 
-from liq import BadSave, BatchStopped, Busy, Market, memory
+from liq import BadSave, BatchStopped, Busy, Market
 
 from . import calls, inmemory
 from .inmemory import busy_market, fund
@@ -106,7 +106,7 @@ class Faults(OverStandIn):
                     call()
                 except Busy:
                     found.append(call)
-            memory.let_go(self.library, market._place, market._lock)
+            market._held.let_go(self.library)
 
         self.library.while_many = meanwhile
         self.assertEqual(market.do(fund(3, market.next_number(1)))[::96], bytes([1, 1, 1]))
