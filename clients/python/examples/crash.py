@@ -5,12 +5,13 @@ the owners put their LUSD into the Stability Pool. The same seed gives the same 
 
 usage: python3 crash.py [SEED]
 """
+import contextlib
 import random
 import sys
 import tempfile
 from pathlib import Path
 
-from liq import Refusal, Service, ether, lusd
+from liq import Market, NotBuilt, Refusal, Service, ether, lusd
 from liq.chart import Panel, chart
 
 OWNERS, HOURS, LIQUIDATOR = 300, 240, 1000
@@ -19,35 +20,47 @@ MEMORY = Path("/dev/shm")
 
 def main() -> None:
     chance = random.Random(int(sys.argv[1]) if len(sys.argv) > 1 else 3)
-    # A command waits for the disk twice; files in memory cost nothing, and are gone with the folder.
-    with tempfile.TemporaryDirectory(dir=MEMORY if MEMORY.is_dir() else None) as folder:
-        with Service(folder, create=True) as service:
-            hours = simulate(service, chance)
-            assert service.system().records > 0
+    with begun() as market:
+        hours = simulate(market, chance)
     Path("crash.svg").write_text(draw(hours))
     print(f"{len(hours)} hours, {hours[-1]['troves']} of {OWNERS} troves are left: see crash.svg")
 
 
-def simulate(service: Service, chance: random.Random):
+@contextlib.contextmanager
+def begun():
+    """A market in this process; or, where no library is built, that of a run. What they reply is the same."""
+    try:
+        market = Market()
+    except NotBuilt:
+        # A command waits for the disk twice; files in memory cost nothing, and are gone with the folder.
+        with tempfile.TemporaryDirectory(dir=MEMORY if MEMORY.is_dir() else None) as folder:
+            with Service(folder, create=True) as service:
+                yield service
+    else:
+        with market:
+            yield market
+
+
+def simulate(market, chance: random.Random):
     """A row of the market for each hour."""
-    market = service.client(1)
+    client = market.client(1)
     for owner in range(1, OWNERS + 1):
-        market.fund(owner, ether(10))
+        client.fund(owner, ether(10))
         borrowed = lusd(chance.randint(2500, 6000))
-        market.open(owner, ether(10), borrowed)
+        client.open(owner, ether(10), borrowed)
         if owner % 2 == 0:
-            market.provide(owner, borrowed)
+            client.provide(owner, borrowed)
     price, hours = 1000.0, []
     for hour in range(HOURS):
         price *= chance.gauss(0.9942 if hour < 120 else 1.001, 0.006)
-        market.price(lusd(f"{price:.6f}"))
-        market.advance(60)
+        client.price(lusd(f"{price:.6f}"))
+        client.advance(60)
         try:
-            while market.liquidate_lowest(LIQUIDATOR, 64).count == 64:
+            while client.liquidate_lowest(LIQUIDATOR, 64).count == 64:
                 pass
         except Refusal:
             pass  # no trove may be liquidated
-        system, pools = service.system(), service.pools()
+        system, pools = market.system(), market.pools()
         hours.append({
             "hour": hour,
             "price": price,
