@@ -20,7 +20,7 @@ use Rattle.liq_rules.proofs.Histories.{legal-empty, legal-snoc, state-snoc}
 use Rattle.liq_pairs.specs.Past.{AtCommand}
 use Rattle.liq_pairs.proofs.Keeping.{settled_kept}
 use Rattle.liq_store.specs.Keeping.{IsInOrder, IsInOrderWith}
-use Rattle.liq_store.specs.Memory.{IsAccepted}
+use Rattle.liq_rules.specs.Memory.{IsAccepted}
 use Rattle.liq_store.specs.Stored.{Stored}
 use Rattle.liq_store.proofs.Past.{goes_on, stops, stops_kept, waits}
 use Rattle.liq_types.specs.declared.entries.Entry.{Entry}

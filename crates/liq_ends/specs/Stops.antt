@@ -17,7 +17,7 @@ use Rattle.liq_ends.specs.Output.{last, lines}
 use Rattle.liq_ends.specs.Requests.{IsNext, IsRequest}
 use Rattle.liq_ends.specs.Reading.{ReadsTo}
 use Rattle.liq_lines.specs.Writing.{Writes, WritesPart}
-use Rattle.liq_store.specs.Memory.{TakesMemory}
+use Rattle.liq_rules.specs.Memory.{TakesMemory}
 
 -- Every depositor has its share after these requests from a state, whichever requests led from the opening, under
 -- either limit, to one that is the same in image and count of records: an account's balance and all that it gained are

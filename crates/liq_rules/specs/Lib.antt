@@ -10,6 +10,7 @@ pub mod LimitExamples
 pub mod Liquidation
 pub mod ListChanges
 pub mod Lists
+pub mod Memory
 pub mod Payments
 pub mod Pool
 pub mod Queries

@@ -12,7 +12,7 @@ use Rattle.liq_types.specs.State.{State}
 use Rattle.liq_core.specs.Core.{Core}
 use Rattle.liq_store.specs.Answering.{Answers}
 use Rattle.liq_store.specs.Keeping.{LeavesPairs}
-use Rattle.liq_store.specs.Memory.{IsAccepted}
+use Rattle.liq_rules.specs.Memory.{IsAccepted}
 use Rattle.liq_run.specs.Calls.{IsCommand}
 use Rattle.liq_ends.proofs.Opened.{is_some_of, some_of}
 

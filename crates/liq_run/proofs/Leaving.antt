@@ -15,7 +15,7 @@ use Rattle.liq_pairs.specs.Past.{Fault, NoFault}
 use Rattle.liq_store.specs.declared.answers.StoreWhy.{StoreWhy}
 use Rattle.liq_store.specs.declared.answers.StoreWhy.TheVariants as why
 use Rattle.liq_store.specs.Keeping.{IsInOrder, IsInOrderWith, IsKeptAround}
-use Rattle.liq_store.specs.Memory.{IsAccepted}
+use Rattle.liq_rules.specs.Memory.{IsAccepted}
 use Rattle.liq_store.specs.Opening.{IsNotOpened}
 use Rattle.liq_store.specs.Stored.{Stored}
 use Rattle.liq_ends.specs.declared.halts.Halt.{Halt}

@@ -8,7 +8,7 @@ use Rattle.liq_types.specs.State.{State}
 use Rattle.liq_core.specs.Core.{Core, StandsFor}
 use Rattle.liq_rules.specs.Step.{step}
 use Rattle.liq_store.specs.Keeping.{IsKeptAround}
-use Rattle.liq_store.specs.Memory.{IsAccepted, TakesMemory}
+use Rattle.liq_rules.specs.Memory.{IsAccepted, TakesMemory}
 use Rattle.liq_store.specs.Stored.{Stored}
 use Rattle.liq_ends.specs.declared.halts.Halt.{Halt}
 use Rattle.liq_ends.specs.declared.halts.Halt.TheVariants.{DiskFault, NoMemory, Rotated}

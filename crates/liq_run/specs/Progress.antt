@@ -21,7 +21,7 @@ use Rattle.liq_lines.specs.Lines.{ended, IsWithinLine}
 use Rattle.liq_lines.specs.Reading.{unread, Reads, IsOver}
 use Rattle.liq_lines.specs.Writing.{Writes, WritesPart}
 use Rattle.liq_lines.specs.Saying.{IsBadLine, BeginsWith}
-use Rattle.liq_store.specs.Memory.{IsAccepted, TakesMemory}
+use Rattle.liq_rules.specs.Memory.{IsAccepted, TakesMemory}
 use Rattle.liq_text.specs.Replies.{reply_line}
 
 -- a request, or why a line has none

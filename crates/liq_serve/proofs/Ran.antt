@@ -8,7 +8,7 @@ use Rattle.liq_types.specs.declared.requests.Request.{Request}
 use Rattle.liq_types.specs.State.{State}
 use Rattle.liq_rules.specs.Step.{run}
 use Rattle.liq_lines.specs.Writing.{Writes}
-use Rattle.liq_store.specs.Memory.{TakesMemory}
+use Rattle.liq_rules.specs.Memory.{TakesMemory}
 use Rattle.liq_text.specs.Spelling.{Spells}
 use Rattle.liq_ends.specs.declared.halts.Halt.{Halt}
 use Rattle.liq_ends.specs.declared.halts.Halt.TheVariants.{BadLine, ReadFault, WriteFault, DiskFault, Damaged, DamagedInput, NoMemory, Limit, Rotated}

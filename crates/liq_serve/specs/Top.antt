@@ -22,7 +22,7 @@ use Rattle.liq_scripts.specs.Sessions.{sessions}
 use Rattle.liq_sessions.specs.Generated.{generated}
 use Rattle.liq_store.specs.Causes.{Faults, OneRose, counts_of}
 use Rattle.liq_store.specs.Keeping.{IsKeptAround}
-use Rattle.liq_store.specs.Memory.{TakesMemory}
+use Rattle.liq_rules.specs.Memory.{TakesMemory}
 use Rattle.liq_text.specs.Spelling.{Spells}
 use Rattle.liq_words.specs.declared.words.Word.{Word}
 use Rattle.liq_words.specs.declared.words.Word.TheVariants as word

@@ -26,7 +26,7 @@ use Rattle.liq_pairs.proofs.Keeping.{settled_kept}
 use Rattle.liq_records.specs.Bodies.{read_back}
 use Rattle.liq_store.specs.Calling.{WritesOn}
 use Rattle.liq_store.specs.Keeping.{IsKeptAround}
-use Rattle.liq_store.specs.Memory.{IsAccepted}
+use Rattle.liq_rules.specs.Memory.{IsAccepted}
 use Rattle.liq_store.specs.Rotating.{is_rotation, rotation_of, side_after, start_after}
 use Rattle.liq_store.specs.Stored.{Stored}
 use Rattle.liq_store.specs.Within.{IsWithin, stored}

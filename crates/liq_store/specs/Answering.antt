@@ -10,7 +10,7 @@ use Rattle.liq_journal.specs.declared.answers.LookFault.TheVariants as look
 use Rattle.liq_journal.specs.Bodies.{IsBodyFault, body_at}
 use Rattle.liq_records.specs.declared.answers.AcceptedFault.{AcceptedFault}
 use Rattle.liq_records.specs.declared.answers.AcceptedFault.TheVariants as accepted
-use Rattle.liq_store.specs.Memory.{IsAccepted, TakesMemory}
+use Rattle.liq_rules.specs.Memory.{IsAccepted, TakesMemory}
 
 -- A request in this state, and the protocol after it, of a store that was not stopped: the step's reply; or no memory,
 -- where it may be asked for; or a disk's fault, where an accepted command was to be written. Without a reply there was

@@ -13,7 +13,7 @@ use Rattle.liq_journal.specs.Written.{Open, Written, found_on}
 use Rattle.liq_pairs.specs.Sides.{beside, has_odd, on, other}
 use Rattle.liq_records.specs.Bodies.{read_back}
 use Rattle.liq_store.specs.Keeping.{IsKeptAround, LeavesPairs}
-use Rattle.liq_store.specs.Memory.{IsAccepted}
+use Rattle.liq_rules.specs.Memory.{IsAccepted}
 use Rattle.liq_store.specs.Rotating.{is_rotation, rotation_of, side_after, start_after}
 use Rattle.liq_store.specs.Stored.{Stored, disk_beside, taken_disk}
 

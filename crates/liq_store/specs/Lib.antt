@@ -6,7 +6,6 @@ pub mod Causes
 pub mod Judging
 pub mod Keeping
 pub mod Leaving
-pub mod Memory
 pub mod Opening
 pub mod Past
 pub mod Preparing

@@ -9,7 +9,7 @@ use Rattle.liq_core.specs.Plan.{HasRoom, IsPlan}
 use Rattle.liq_rules.specs.Step.{Refused, Repeated, ruling}
 use Rattle.liq_rules.specs.Verbs.{unhinted}
 use Rattle.liq_journal.specs.Written.{is_rotate}
-use Rattle.liq_store.specs.Memory.{TakesMemory}
+use Rattle.liq_rules.specs.Memory.{TakesMemory}
 use Rattle.liq_store.specs.declared.preparing.Prepared.{Prepared}
 use Rattle.liq_store.specs.declared.preparing.Prepared.TheVariants.{Ready, Again, No, NoMemory}
 

@@ -17,7 +17,7 @@ use Rattle.liq_pairs.proofs.Generations.{never_rotates}
 use Rattle.liq_store.specs.Calling.{WritesOn}
 use Rattle.liq_store.specs.Causes.{OneRose, counts_of}
 use Rattle.liq_store.specs.Keeping.{IsInOrder}
-use Rattle.liq_store.specs.Memory.{IsAccepted, TakesMemory}
+use Rattle.liq_rules.specs.Memory.{IsAccepted, TakesMemory}
 use Rattle.liq_store.specs.Rotating.{is_rotation}
 use Rattle.liq_store.specs.Stored.{Stored}
 use Rattle.liq_store.specs.Within.{IsWithin, stored}
