@@ -28,7 +28,7 @@ use Rattle.liq_stability.specs.Kept.{IsSoundPool, IsSoundDeposit, is_sound_sum}
 use Rattle.liq_rules.proofs.AlikeReads.{sums_by}
 use Rattle.liq_rules.proofs.SoundRules.{Meets, meets, sound_at_home}
 use Rattle.liq_rules.specs.Identities.{IsAtHome}
-use Rattle.liq_soundness.proofs.SoundStart.{started_sound}
+use Rattle.liq_soundness.proofs.SoundStart.{started_with}
 use Rattle.liq_soundness.proofs.SoundTests.{SoundFacts, sound_facts}
 use Rattle.liq_core.specs.Parts.{HasKey, words_by}
 
@@ -81,28 +81,27 @@ both_none a b h = by (a == 0) (b == 0) refl refl where
   by false true e k = grind (arith, nat_tests, e, k, h)
   by false false e k = refl
 
-module _ (i : Image) (h : IsSoundImage i 0) where
-  all : Meets i 0
-  all = meets i 0 h
-
-  home : IsAtHome i
-  home = sound_at_home i 0 h
-
-  facts : SoundFacts (started i)
-  facts = sound_facts (started i) (started_sound i h)
-
-  -- no table has an empty row
+-- no table has an empty row
+module _ (i : Image) (h : HasTables i) where
   pub wallets_again : rows is_used_wallet i.wallets ≡ i.wallets
-  wallets_again = rows_all is_used_wallet i.wallets (rows_used (λ (w : Wallet). is_used_wallet w ≡ true) is_used_wallet (λ w k. k) i.wallets h.tables.used_wallets)
+  wallets_again = rows_all is_used_wallet i.wallets (rows_used (λ (w : Wallet). is_used_wallet w ≡ true) is_used_wallet (λ w k. k) i.wallets h.used_wallets)
 
   pub surplus_again : rows is_used_amount i.surplus_rows ≡ i.surplus_rows
-  surplus_again = rows_all is_used_amount i.surplus_rows (rows_used (λ n. 1 ≤ n) is_used_amount is_some i.surplus_rows h.tables.some_surplus)
+  surplus_again = rows_all is_used_amount i.surplus_rows (rows_used (λ n. 1 ≤ n) is_used_amount is_some i.surplus_rows h.some_surplus)
 
   pub deposits_again : rows is_used_deposit i.deposits ≡ i.deposits
-  deposits_again = rows_all is_used_deposit i.deposits (rows_used (λ (d : Deposit). 1 ≤ d.amount) is_used_deposit (λ d k. is_some d.amount k) i.deposits h.tables.some_deposits)
+  deposits_again = rows_all is_used_deposit i.deposits (rows_used (λ (d : Deposit). 1 ≤ d.amount) is_used_deposit (λ d k. is_some d.amount k) i.deposits h.some_deposits)
 
-  pub clients_again : rows is_used_client i.clients ≡ i.clients
-  clients_again = clients_used i h.tables
+-- beside so many records
+module _ (i : Image) (records : ℕ) (h : IsSoundImage i records) where
+  all : Meets i records
+  all = meets i records h
+
+  home : IsAtHome i
+  home = sound_at_home i records h
+
+  facts : SoundFacts (record (started i) { records = records })
+  facts = sound_facts (record (started i) { records = records }) (started_with i records h)
 
   pub rows_sound : AreSoundRows i.troves (sums_by i)
   rows_sound =
@@ -144,8 +143,8 @@ module _ (i : Image) (h : IsSoundImage i 0) where
   pub pool_sound : IsSoundPool (words_by i) i.finished i.deposits
   pool_sound =
       let sums = and_parts _ (list_all (is_sound_sum (i.epoch, i.scale)) i.finished) all.words in
-      let epoch = and_parts _ (nat_le i.epoch (places_most i.generation 0)) sums.0 in
-      let scale = and_parts _ (nat_le i.scale (places_most i.generation 0)) epoch.0 in
+      let epoch = and_parts _ (nat_le i.epoch (places_most i.generation records)) sums.0 in
+      let scale = and_parts _ (nat_le i.scale (places_most i.generation records)) epoch.0 in
       let sum = and_parts (is_product i.p) (is_sum_beside i.sum i.p) scale.0 in
       let coll_limit = facts.balanced.coll_limit in
       let debt_limit = facts.balanced.debt_limit in

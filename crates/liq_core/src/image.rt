@@ -8,6 +8,7 @@ ghost use Rattle.liq_types.specs.Soundness.{HasTables, IsSoundImage, first_unsou
 ghost use Rattle.liq_types.specs.State.{started};
 ghost use Rattle.liq_order.specs.Listed.{AreDistinct};
 ghost use Rattle.liq_order.specs.Order.{order_by, ranks};
+ghost use Rattle.liq_stability.specs.Kept.{IsSoundPool};
 ghost use Rattle.liq_standing.specs.Books.{pools_of};
 ghost use Rattle.liq_core.specs.Core.{StandsFor};
 ghost use Rattle.liq_core.specs.Parts.{HasKey, words_by};
@@ -35,8 +36,8 @@ pub enum ImageFault {
 
 impl Protocol {
     /// The image: all on which the protocol's future rests, but for the count of its records. A checkpoint holds the
-    /// image with which a generation begins, and [`Protocol::from_image`] always takes that one. It may refuse an image
-    /// taken amid a generation, as `Unsound` 9: without its records the Stability Pool's place may be too far.
+    /// image with which a generation begins, and [`Protocol::from_image`] always takes that one. One that is taken amid a
+    /// generation goes on with [`Protocol::from_image_at`], which takes it beside its records.
     pub fn image(&self) -> Result<Image, NoMemory>
         ensures image { IfOk result (λ image. image ≡ self.now.image) }
         ensures limit { IfOk result (λ image. IsLimit image.limit) }
@@ -95,21 +96,34 @@ impl Protocol {
         ensures stands { IfOk result (λ protocol. StandsFor protocol (started image)) }
         ensures unsound { (rule : ℕ) → (result ≡ Err (fault.Unsound rule)) ↔ (first_unsound image 0 ≡ Some rule) }
     {
-        if let Some(rule) = first_unsound(&image) {
+        Protocol::from_image_at(alloc, image, 0)
+    }
+
+    /// The protocol that goes on from an image amid a generation, of which so many records are counted. `Unsound` comes
+    /// exactly where the image breaks a rule beside these records: one that [`Protocol::image`] and [`Protocol::records`]
+    /// tell of a protocol breaks none.
+    pub fn from_image_at(alloc: Global, image: Image, records: u64) -> Result<Protocol, ImageFault>
+        requires tables { HasTables image }
+        ensures image { IfOk result (λ protocol. protocol.image ≡ image) }
+        ensures records { IfOk result (λ protocol. protocol.records ≡ records) }
+        ensures stands { IfOk result (λ protocol. StandsFor protocol (record (started image) { records = records })) }
+        ensures unsound { (rule : ℕ) → (result ≡ Err (fault.Unsound rule)) ↔ (first_unsound image records ≡ Some rule) }
+    {
+        if let Some(rule) = first_unsound(&image, records) {
             return Err(ImageFault::Unsound { rule });
         }
-        match begun(alloc, &image) {
+        match begun(alloc, &image, records) {
             Ok(protocol) => Ok(protocol),
             Err(_) => Err(ImageFault::NoMemory),
         }
     }
 }
 
-/// The protocol of a sound image.
-fn begun(alloc: Global, image: &Image) -> Result<Protocol, NoMemory>
-    requires { IsSoundImage image.now 0 }
+/// The protocol of an image that is sound beside these records.
+fn begun(alloc: Global, image: &Image, records: u64) -> Result<Protocol, NoMemory>
+    requires { IsSoundImage image.now records }
     ensures image { IfOk result (λ protocol. protocol.image ≡ image.now) }
-    ensures records { IfOk result (λ protocol. protocol.records ≡ 0) }
+    ensures records { IfOk result (λ protocol. protocol.records ≡ records) }
 {
     let rows = entries::troves(alloc, &image.troves)?;
     let order = order_of(alloc, &rows)?;
@@ -135,7 +149,7 @@ fn begun(alloc: Global, image: &Image) -> Result<Protocol, NoMemory>
         },
         generation: image.generation,
         limit: image.limit,
-        records: 0,
+        records,
         brought: image.brought,
         pools: pools_of(image),
         wallets,
@@ -187,9 +201,10 @@ fn ranked(alloc: Global, troves: &[(u32, Trove)]) -> Result<Vec<(i128, u32)>, No
     Ok(pairs)
 }
 
-/// The Stability Pool of a sound image.
+/// The Stability Pool of an image.
 fn pool_of(alloc: Global, image: &Image) -> Result<Stability, NoMemory>
-    requires { IsSoundImage image.now 0 }
+    requires tables { HasTables image.now }
+    requires pool { IsSoundPool (words_by image.now) image.now.finished image.now.deposits }
     ensures words { IfOk result (λ pool. pool.words ≡ words_by image.now) }
     ensures finished { IfOk result (λ pool. pool.finished ≡ image.now.finished) }
     ensures deposits { IfOk result (λ pool. pool.deposits.rows ≡ image.now.deposits) }
@@ -207,27 +222,27 @@ fn pool_of(alloc: Global, image: &Image) -> Result<Stability, NoMemory>
     Stability::from_parts(alloc, words, finished, deposits)
 }
 
-/// The wallets of a sound image.
+/// The wallets of an image.
 fn wallets_of(alloc: Global, image: &Image) -> Result<Wallets, NoMemory>
-    requires { IsSoundImage image.now 0 }
+    requires { HasTables image.now }
     ensures { IfOk result (λ wallets. wallets.rows ≡ image.now.wallets) }
 {
     let rows = entries::wallets(alloc, &image.wallets)?;
     Wallets::from_rows(alloc, rows)
 }
 
-/// What owners may claim in a sound image.
+/// What owners may claim in an image.
 fn surplus_of(alloc: Global, image: &Image) -> Result<Surplus, NoMemory>
-    requires { IsSoundImage image.now 0 }
+    requires { HasTables image.now }
     ensures { IfOk result (λ surplus. surplus.rows ≡ image.now.surplus_rows) }
 {
     let rows = entries::surplus(alloc, &image.surplus_rows)?;
     Surplus::from_rows(alloc, rows)
 }
 
-/// The clients of a sound image.
+/// The clients of an image.
 fn clients_of(alloc: Global, image: &Image) -> Result<Reserved<Client>, NoMemory>
-    requires { IsSoundImage image.now 0 }
+    requires { HasTables image.now }
     ensures { IfOk result (λ clients. clients.rows ≡ image.now.clients) }
 {
     let rows = entries::clients(alloc, &image.clients)?;
