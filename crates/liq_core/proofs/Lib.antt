@@ -5,6 +5,7 @@ pub mod Cutting
 pub mod Depositing
 pub mod Forecasting
 pub mod FromNothing
+pub mod FromTheEnd
 pub mod HintsAside
 pub mod Images
 pub mod KeptReplies

@@ -4,6 +4,7 @@
 //! can write the command down between the two.
 #![tactic(auto)]
 
+mod accounts;
 mod borrowing;
 mod claims;
 mod depositors;
