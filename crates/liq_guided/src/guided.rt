@@ -68,7 +68,11 @@ impl Guided {
         ensures { IfOk result (λ guided. guided ≡ protocol) }
     {
         let mut guide = Guide::new(alloc);
-        guide.follow(&protocol.list(alloc)?)?;
+        // One after the other: of a single change nothing is noted aside.
+        let changes = protocol.list(alloc)?;
+        for change in &changes {
+            guide.follow(&[*change])?;
+        }
         Ok(Guided {
             protocol,
             guide: Some(guide),
