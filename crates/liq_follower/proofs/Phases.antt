@@ -1,5 +1,5 @@
 -- What each phase says of the bytes.
-use Rattle.std.proofs.Common.{◌≡◌, ⊎_elim, ℕ, ◌+◌, ◌-◌, ◌^◌, ◌≤◌, min, List, [], ◌∷◌, ◌++◌, length, take, drop, get_or, Option, Some, None, false, refl, sym, ◌∙◌, ap, subst, arith, length-append, append_assoc}
+use Rattle.std.proofs.Common.{◌≡◌, ◌≢◌, ⊎_elim, ℕ, ◌+◌, ◌-◌, ◌^◌, ◌≤◌, min, List, [], ◌∷◌, ◌++◌, length, take, drop, get_or, Option, Some, None, false, refl, sym, ◌∙◌, ap, subst, arith, length-append, append_assoc}
 use Rattle.std.specs.Prelude.{unwrap_or}
 use Rattle.std.proofs.Common.{length-take}
 use Rattle.std.proofs.Math.Seq.{take-add}
@@ -153,6 +153,24 @@ ends_by bytes f (Some e) is stopped = ends_stopped bytes f e is stopped
 -- how a feed ends behind all bytes of its piece
 pub ends_there : (bytes : List ℕ) (f : Followed) → IsFed bytes f → EndsWith (unwrap_or (stopped_in f.phase) end.All) bytes
 ends_there bytes f is = ends_by bytes f (stopped_in f.phase) is refl
+
+-- it ends for good neither with the piece nor for want of memory
+pub for_good : (phase : Phase) (e : FedEnd) → stopped_in phase ≡ Some e → (e ≢ end.All) × (e ≢ end.NoMemory)
+for_good Start e stopped = absurd (cc (stopped))
+for_good Header e stopped = absurd (cc (stopped))
+for_good Gate e stopped = absurd (cc (stopped))
+for_good Inside e stopped = absurd (cc (stopped))
+for_good Shut e stopped = absurd (cc (stopped))
+for_good (Damaged index) e stopped = ((λ is. cc (stopped, is)), λ is. cc (stopped, is))
+for_good (Rotated generation) e stopped = ((λ is. cc (stopped, is)), λ is. cc (stopped, is))
+
+finds_memory : (o : Option FedEnd) → ((e : FedEnd) → o ≡ Some e → e ≢ end.NoMemory) → unwrap_or o end.All ≢ end.NoMemory
+finds_memory None other is = cc (is)
+finds_memory (Some e) other is = other e refl is
+
+-- and so where the whole piece was taken
+pub memory_there : (phase : Phase) → unwrap_or (stopped_in phase) end.All ≢ end.NoMemory
+memory_there phase = finds_memory (stopped_in phase) (λ e stopped. (for_good phase e stopped).1)
 
 -- two ends that come with the same bytes, where none goes on
 one_end : (bytes : List ℕ) (a b : FedEnd) → AreOver bytes → EndsWith a bytes → EndsWith b bytes → a ≡ b

@@ -4,7 +4,7 @@ use Rattle.liq_follower.specs.declared.answers.FedEnd.{FedEnd}
 use Rattle.liq_follower.specs.declared.answers.FedEnd.TheVariants as end
 use Rattle.liq_follower.specs.Fed.{EndsWith}
 use Rattle.std.proofs.lemmas.List.{take_rest}
-use Rattle.liq_follower.proofs.Phases.{completes_at, ended_stands, ends_stopped, ends_there, fed_on, goes_inside, goes_over, none_over, told_again}
+use Rattle.liq_follower.proofs.Phases.{completes_at, ended_stands, ends_stopped, ends_there, fed_on, for_good, goes_inside, goes_over, memory_there, none_over, told_again}
 use Rattle.liq_follower.proofs.follower.Follower.feed.Goals as goal
 
 -- ---- it is kept
@@ -39,6 +39,15 @@ returns-in-Some-clause-again c bytes is over e ends =
 
 pub returns-in-Some-clause-first : goal.returns-in-Some-clause-first
 returns-in-Some-clause-first c bytes is over = ended_stands _ _ (c.loop-taken.invariant.fed bytes is) over
+
+pub returns-in-Some-clause-all : goal.returns-in-Some-clause-all
+returns-in-Some-clause-all c is = absurd ((for_good _ _ (sym c.stopped.ensures ∙ c.in-Some.is)).0 is)
+
+pub returns-in-Some-clause-memory : goal.returns-in-Some-clause-memory
+returns-in-Some-clause-memory c is = absurd ((for_good _ _ (sym c.stopped.ensures ∙ c.in-Some.is)).1 is)
+
+pub returns-in-Some-clause-right : goal.returns-in-Some-clause-right
+returns-in-Some-clause-right c is = absurd ((for_good _ _ (sym c.stopped.ensures ∙ c.in-Some.is)).1 is)
 
 -- ---- it goes on
 
@@ -92,3 +101,9 @@ returns-clause-again c bytes is over e ends = told_again bytes c.args.piece.now 
 
 pub returns-clause-first : goal.returns-clause-first
 returns-clause-first c bytes is over = ended_stands _ _ (c.loop-taken.invariant.fed bytes is) over
+
+pub returns-clause-memory : goal.returns-clause-memory
+returns-clause-memory c is = absurd (memory_there _ (sym (c.unwrap_or-end.ensures ∙ ap (λ (o : Option FedEnd). unwrap_or o end.All) c.stopped-2.ensures) ∙ is))
+
+pub returns-clause-right : goal.returns-clause-right
+returns-clause-right c is = absurd (memory_there _ (sym (c.unwrap_or-end.ensures ∙ ap (λ (o : Option FedEnd). unwrap_or o end.All) c.stopped-2.ensures) ∙ is))
