@@ -215,8 +215,8 @@ liq_done liq_do(liq_market *m, const liq_command *commands, size_t n, liq_reply 
 liq_done liq_next(liq_market *m, liq_command *commands, size_t n, liq_reply *replies,
                   size_t places);
 
-/* Answers queries; nothing changes. LIQ_BAD: there is no such topic, which the reply behind the
- * answered ones says as of a command. */
+/* Answers queries; nothing changes. LIQ_BAD: there is no such topic (place 0), or an account where it
+ * asks about none (place 4), which the reply behind the answered ones says. */
 liq_done liq_ask(liq_market *m, const liq_query *queries, size_t n, liq_reply *replies,
                  size_t places);
 

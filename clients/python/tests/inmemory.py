@@ -3,6 +3,7 @@ import copy
 import gc
 import hashlib
 import pickle
+import struct
 from typing import Any, List
 
 from liq import BadSave, BatchStopped, Market, MarketClosed, NoJournal, Refusal, ether, lusd, memory, refusals
@@ -304,13 +305,13 @@ class Bytes(Cases):
 
     def test_queries(self) -> None:
         market = busy_market(self.begin())
-        told = market.query(b"".join(topic.to_bytes(4, "little") + (2).to_bytes(4, "little") for topic in range(1, 7)))
+        told = market.query(b"".join(struct.pack("=2I", topic, 0 if topic in (4, 5) else 2) for topic in range(1, 7)))
         self.assertEqual([words(told[at : at + 96]) for at in range(0, len(told), 96)], [
             market.ask(line) for line in ("? wallet 2", "? trove 2", "? deposit 2", "? pools", "? system", "? next_number 2")])
-        for topic in (0, 7, 2**32 - 1):
+        for topic, account, place in ((0, 0, 0), (7, 1, 0), (2**32 - 1, 0, 0), (4, 1, 4), (5, 1, 4)):
             with self.assertRaises(BatchStopped) as stopped:
-                market.query(b"\1\0\0\0\2\0\0\0" + topic.to_bytes(4, "little") + bytes(4))
-            self.assertEqual(stopped.exception.index, 1)
+                market.query(struct.pack("=4I", 1, 2, topic, account))
+            self.assertEqual((stopped.exception.index, stopped.exception.why), (1, place))
 
     def test_previews_of_many(self) -> None:
         market = busy_market(self.begin())

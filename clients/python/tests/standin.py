@@ -188,6 +188,8 @@ class StandIn:
                 return BAD, reply(NO_COMMAND, 0, (0,))
             name = TOPICS[topic - 1]
             accounts = () if name in ("pools", "system") else (account,)
+            if account and not accounts:
+                return BAD, reply(NO_COMMAND, 0, (4,))
             try:
                 return OK, reply(TOLD, topic, tuple(ask(self.markets[self.held(at) or 0], Query(name, accounts))))
             except Refusal as refusal:
