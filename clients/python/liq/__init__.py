@@ -10,7 +10,8 @@ from .service import Service
 from .units import ANY_FEE, ether, lusd, rate, show_ether, show_lusd
 
 __all__ = [
-    "ANY_FEE", "BadLine", "BadSave", "BatchStopped", "Busy", "Client", "Damaged", "DiskFault", "End", "Journal", "Killed",
-    "Limit", "Market", "MarketClosed", "MarketExists", "NoJournal", "NoMemory", "NotBuilt", "ReadFault", "Refusal",
-    "Rotated", "Service", "TooMuch", "Unfit", "Usage", "WriteFault", "ether", "lusd", "rate", "show_ether", "show_lusd",
+    "ANY_FEE", "BadLine", "BadSave", "BatchStopped", "Busy", "Client", "Damaged", "DiskFault", "End", "Journal",
+    "Killed", "Limit", "Market", "MarketClosed", "MarketExists", "NoJournal", "NoMemory", "NotBuilt", "ReadFault",
+    "Refusal", "Rotated", "Service", "TooMuch", "Unfit", "Usage", "WriteFault", "ether", "lusd", "rate", "show_ether",
+    "show_lusd",
 ]

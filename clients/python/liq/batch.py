@@ -7,11 +7,12 @@
     rows = market.query(batch.queries("trove", market.trove_accounts()))
     batch.ratios(batch.columns(rows, "trove"), price)
 
-All columns are whole numbers without a sign, of 64 bits: 5 - 6 is 2^64 - 1, a product may pass 2^64, both without a word, and what is
-2^63 or more is below 0 once it is made a number with a sign. Take floats for sums of your own, or numbers of Python.
+All columns are whole numbers without a sign, of 64 bits: 5 - 6 is 2^64 - 1, a product may pass 2^64, both without a
+word, and what is 2^63 or more is below 0 once it is made a number with a sign. Take floats for sums of your own, or
+numbers of Python.
 
-A row of zeros is no command. It has no kind, its hints name account 0, and its fee bound is 0, which refuses; the calls of this module
-give all that. Without numpy a batch takes bytes, whole commands of 96, and gives bytes.
+A row of zeros is no command. It has no kind, its hints name account 0, and its fee bound is 0, which refuses; the calls
+of this module give all that. Without numpy a batch takes bytes, whole commands of 96, and gives bytes.
 """
 import ctypes
 import functools
@@ -30,7 +31,7 @@ Column = Any  # a number for all, or a sequence of numbers, an array or any othe
 Columns = Any  # an array of rows of one of the types below
 Why = Union[int, str, Exception]
 
-# The types of rows: batch.COMMAND, batch.QUERY and batch.REPLY. What would be a gap is a field too: numpy copies no gaps.
+# The types of rows: batch.COMMAND, batch.QUERY, batch.REPLY. What would be a gap is a field too: numpy copies no gaps.
 TYPES: Dict[str, List[Tuple[Any, ...]]] = {
     "COMMAND": [
         ("kind", "u1"), ("gap", "u1", 3), ("client", ">u4"), ("number", ">u8"), ("account", ">u4"), ("other", ">u4"),
@@ -65,8 +66,8 @@ def __getattr__(name: str) -> Any:
 class BatchStopped(Exception):
     """The items before this index were answered; that one changed nothing, and those behind it were not come to.
 
-    `why` is the place of the byte at which the field begins that fits no command or query; of `lines` the line that is no
-    request; or an exception, as where there is no memory. `replies` has those of the items before it."""
+    `why` is the place of the byte at which the field begins that fits no command or query; of `lines` the line that is
+    no request; or an exception, as where there is no memory. `replies` has those of the items before it."""
 
     def __init__(self, index: int, why: Why, replies: Any = ()) -> None:
         super().__init__(index, why, replies)
@@ -162,16 +163,18 @@ def claim(account: Column, client: Column = 1) -> Columns:
 
 
 def commands(verb: str, client: Column, accounts: Sequence[Column], amounts: Sequence[Column]) -> Columns:
-    """Commands of one verb, with number 0 and without hints, as many as the longest column says. `concatenate` of numpy puts
-    several together, in any order."""
+    """Commands of one verb, with number 0 and without hints, as many as the longest column says. `concatenate` of numpy
+    puts several together, in any order."""
     numpy = need_numpy()
-    words = [numbers(client, ACCOUNTS), *(numbers(it, ACCOUNTS) for it in accounts), *(numbers(it, AMOUNTS) for it in amounts)]
-    made = numpy.zeros(numpy.broadcast_shapes((1,), *(it.shape for it in words)), type_of("COMMAND"))
-    made["kind"], made["client"] = KINDS.index(verb) + 1, words[0]
-    for name, word in zip(("account", "other")[: len(accounts)], words[1:]):
-        made[name] = word
-    for place, word in enumerate(words[1 + len(accounts) :]):
-        made["amounts"][:, place] = word
+    whose = numbers(client, ACCOUNTS)
+    named, given = [numbers(it, ACCOUNTS) for it in accounts], [numbers(it, AMOUNTS) for it in amounts]
+    shape = numpy.broadcast_shapes((1,), *(it.shape for it in (whose, *named, *given)))
+    made = numpy.zeros(shape, type_of("COMMAND"))
+    made["kind"], made["client"] = KINDS.index(verb) + 1, whose
+    for name, account in zip(("account", "other"), named):
+        made[name] = account
+    for place, amount in enumerate(given):
+        made["amounts"][:, place] = amount
     if "h" in VERBS[verb]:
         made["before"] = made["after"] = NO_HINT
     return made
@@ -276,7 +279,7 @@ class Given:
         if items.ndim != 1:
             raise ValueError(f"the {self.kind.what} are no row, but an array of {items.ndim} dimensions")
         if is_written and not items.flags.writeable:
-            raise ValueError(f"numbers are written into the {self.kind.what}, and this array may not be written: copy() it")
+            raise ValueError(f"numbers are written into the {self.kind.what}: copy() this array, which is read-only")
         numpy = need_numpy()
         # A copy of those that lie apart, as a slice's do, or whose bytes are turned, as by numpy's concatenate.
         self.items = numpy.ascontiguousarray(items, wanted)
@@ -335,5 +338,5 @@ def is_array(items: Any) -> bool:
 
 
 def address_of(buffer: Any) -> int:
-    """Where the bytes of a buffer begin, which may be written. Those of an empty one are nowhere: some place stands for it."""
+    """Where a buffer begins that may be written. An empty one is nowhere: some place stands for it."""
     return ctypes.addressof(ctypes.c_char.from_buffer(buffer if len(buffer) else NOTHING))

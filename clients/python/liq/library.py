@@ -27,7 +27,8 @@ PLACES = (  # where the library is looked for: beside the package, as installed,
 
 
 class NoLibrary(NotBuilt):
-    """There is no library, or none that can be used here; its text says which, and what to run. A `Service` needs none."""
+    """There is no library, or none that can be used here; its text says which, and what to run. A `Service` needs
+    none."""
 
     def __str__(self) -> str:
         return self.last
@@ -72,11 +73,11 @@ CALLS: Dict[str, Shape] = {
 
 
 class Library:
-    """The library's calls. Those of `one` keep the interpreter's lock, which is quicker for a short call; those of `many` let it go,
-    so that other threads run meanwhile.
+    """The library's calls. Those of `one` keep the interpreter's lock, which is quicker for a short call; those of
+    `many` let it go, so that other threads run meanwhile.
 
-    The calls of `one` that take items take one, as numbers of C, and give nothing: its reply says all, and a structure that is made of two
-    registers, or a look at each argument, would take a third of the time of the call."""
+    The calls of `one` that take items take one, as numbers of C, and give nothing: its reply says all, and a structure
+    that is made of two registers, or a look at each argument, would take a third of the time of the call."""
 
     def __init__(self, path: Folder) -> None:
         self.path = Path(path)
@@ -97,7 +98,8 @@ class Bound:
 
 
 def find_library(library: Optional[Folder] = None) -> Path:
-    """The library: the one that is named, that of LIQ_LIBRARY, or the first that is there of `PLACES`. Raises `NoLibrary`."""
+    """The library: the one that is named, that of LIQ_LIBRARY, or the first that is there of `PLACES`. Raises
+    `NoLibrary`."""
     named = library or os.environ.get("LIQ_LIBRARY")
     if named:
         path = Path(named).resolve()

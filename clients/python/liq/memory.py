@@ -77,14 +77,15 @@ class Held:
 class Market(Queries):
     """A market in memory, as it opens. `close` frees it, or the end of `with`, or the collector.
 
-    It is for one call at a time: one that another thread makes meanwhile raises `Busy`. Behind `close` each raises `MarketClosed`. A
-    batch, a fork, a save and a load let other threads run; a single call does not, it is too short.
+    It is for one call at a time: one that another thread makes meanwhile raises `Busy`. Behind `close` each raises
+    `MarketClosed`. A batch, a fork, a save and a load let other threads run; a single call does not, it is too short.
 
-    After 1,000,000 accepted commands it is full, as a journal is. Then a typed call, or a batch of `next`, first sends `rotate` as the
-    client `rotating`, whose next number that takes. With None nobody does, and each command is refused: `JournalFull`.
+    After 1,000,000 accepted commands it is full, as a journal is. Then a typed call, or a batch of `next`, first sends
+    `rotate` as the client `rotating`, whose next number that takes. With None nobody does, and each command is refused:
+    `JournalFull`.
 
-    A copy of it, deep or not, is a fork; pickled it is what `save` gives. The forked child of a process without other threads has
-    forks of all its markets; where there were other threads it may call none.
+    A copy of it, deep or not, is a fork; pickled it is what `save` gives. The forked child of a process without other
+    threads has forks of all its markets; where there were other threads it may call none.
     """
 
     def __init__(self, library: Optional[Folder] = None, rotating: Optional[int] = ROTATING) -> None:
@@ -164,11 +165,12 @@ class Market(Queries):
 
     @classmethod
     def of_folder(
-        cls, folder: Folder, most: int = BYTES_MOST, library: Optional[Folder] = None, rotating: Optional[int] = ROTATING
+        cls, folder: Folder, most: int = BYTES_MOST, library: Optional[Folder] = None,
+        rotating: Optional[int] = ROTATING,
     ) -> "Market":
-        """The market that stands on a folder's files, each of at most `most` bytes. Nothing is written there, and no run may have them
-        open: `liq.backup` copies them beside one. Raises `NoJournal`, or `DamagedFile` as `liq.journal` does and where the rules refuse
-        a record."""
+        """The market that stands on a folder's files, each of at most `most` bytes. Nothing is written there, and no
+        run may have them open: `liq.backup` copies them beside one. Raises `NoJournal`, or `DamagedFile` as
+        `liq.journal` does and where the rules refuse a record."""
         if not holds_journal(folder):
             raise NoJournal(folder)
         disk = Journal(folder, most).current
@@ -189,8 +191,8 @@ class Market(Queries):
         for first in range(0, len(disk.commands), ROWS_AT_ONCE):
             begin = disk.begin + first * RECORD_BYTES
             end = min(disk.end, begin + ROWS_AT_ONCE * RECORD_BYTES)
-            replies = self.do(b"".join([disk.data[at + 1 : at + 1 + ITEM_BYTES] for at in range(begin, end, RECORD_BYTES)]))
-            kinds = replies[::ITEM_BYTES]
+            commands = [disk.data[at + 1 : at + 1 + ITEM_BYTES] for at in range(begin, end, RECORD_BYTES)]
+            kinds = self.do(b"".join(commands))[::ITEM_BYTES]
             if kinds.count(ACCEPTED) < len(kinds):
                 refused = next(index for index, kind in enumerate(kinds) if kind != ACCEPTED)
                 raise DamagedFile(disk.path, first + refused + 1, "the rules refuse it")
@@ -205,8 +207,8 @@ class Market(Queries):
         self, call: Any, client: int, number: int, row: Type[Row], verb: str, accounts: Sequence[int],
         amounts: Sequence[int], hints: Sequence[Optional[int]],
     ) -> Row:
-        """What a command is replied by `next` or `preview`. Raises its refusal, or MemoryError. Much of it is written out, for it is
-        all that a typed call costs beside the rules."""
+        """What a command is replied by `next` or `preview`. Raises its refusal, or MemoryError. Much of it is written
+        out, for it is all that a typed call costs beside the rules."""
         kind, pack_into, read, accepted = FORMS[verb]
         for account in accounts:
             if type(account) is not int or not 0 <= account < ACCOUNTS:
@@ -272,13 +274,14 @@ class Market(Queries):
     # ---- batches
 
     def do(self, commands: Any) -> Any:
-        """The replies to many commands, each under the number that it has (`liq.batch`). Refusals are among them, and stop
-        nothing. A repetition is replied as the first time. Raises `BatchStopped` at what is no command."""
+        """The replies to many commands, each under the number that it has (`liq.batch`). Refusals are among them, and
+        stop nothing. A repetition is replied as the first time. Raises `BatchStopped` at what is no command."""
         return self._batch(self._calls.many.do, Given(commands, COMMANDS))
 
     def next(self, commands: Any) -> Any:
-        """The same under each client's next number, which the market puts into the commands: they come with number 0, and go
-        as `do`, another market or `liq run` may take them. Where the market is full it rotates: see `rotating`."""
+        """The same under each client's next number, which the market puts into the commands: they come with number 0,
+        and go as `do`, another market or `liq run` may take them. Where the market is full it rotates: see
+        `rotating`."""
         given = Given(commands, COMMANDS, is_written=True)
         done, why = 0, None
         with self._held as at:
@@ -294,8 +297,8 @@ class Market(Queries):
         return given.answered(done, why)
 
     def preview(self, commands: Any) -> Any:
-        """What each command would be replied now, each as if it were the only one; nothing changes. One with number 0 is looked
-        at under its client's next number."""
+        """What each command would be replied now, each as if it were the only one; nothing changes. One with number 0
+        is looked at under its client's next number."""
         return self._batch(self._calls.many.preview, Given(commands, COMMANDS).numbered(self.next_number))
 
     def query(self, queries: Any) -> Any:
@@ -308,7 +311,8 @@ class Market(Queries):
         return given.answered(answered.done, given.why(answered.status, answered.done))
 
     def _make_room(self) -> int:
-        """How many commands may be accepted before it is full. Where none may it first rotates. In a call that has the lock."""
+        """How many commands may be accepted before it is full; where none may, it first rotates. In a call that has
+        the lock."""
         if self.rotating is None:
             return RECORDS_MOST
         left = RECORDS_MOST - (self._told("system") or ())[-1]
@@ -318,7 +322,8 @@ class Market(Queries):
         return left
 
     def lines(self, text: str) -> List[str]:
-        """The replies to lines, as `liq run` writes them; so nobody rotates. Raises `BatchStopped` at a line that is no request."""
+        """The replies to lines, as `liq run` writes them; so nobody rotates. Raises `BatchStopped` at a line that is no
+        request."""
         data = bytearray(text.encode("ascii"))
         if data and not data.endswith(b"\n"):
             data += b"\n"
@@ -344,8 +349,8 @@ class Market(Queries):
     # ---- lists of accounts
 
     def trove_accounts(self, first: int = 0, most: Optional[int] = None) -> List[int]:
-        """Who has a trove, in the order of the list: from the one of the lowest ratio on, which is liquidated and redeemed
-        first. Those from index `first` on, and at most so many."""
+        """Who has a trove, in the order of the list: from the one of the lowest ratio on, which is liquidated and
+        redeemed first. Those from index `first` on, and at most so many."""
         return self._accounts(TROVES, first, most)
 
     def deposit_accounts(self, first: int = 0, most: Optional[int] = None) -> List[int]:
@@ -380,7 +385,8 @@ class Market(Queries):
 
 
 class MarketClient(Calls):
-    """A client of a market in memory: its commands as typed calls, each under its next number, which the market knows."""
+    """A client of a market in memory: its commands as typed calls, each under its next number, which the market
+    knows."""
 
     def __init__(self, market: Market, client: int) -> None:
         check_numbers((client,), ACCOUNTS)

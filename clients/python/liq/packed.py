@@ -1,4 +1,5 @@
-"""Commands, queries and replies as the library takes and gives them: 96 bytes, 8 bytes and 96 bytes (clients/c/liq.h)."""
+"""Commands, queries and replies as the library takes and gives them: 96 bytes, 8 bytes and 96 bytes
+(clients/c/liq.h)."""
 import struct
 from typing import Any, Callable, Dict, Iterable, Iterator, NamedTuple, Optional, Sequence, Tuple, Type
 
@@ -14,8 +15,8 @@ HEAD = "<HB5x"  # of a reply: kind and verb, topic or code as one number; how ma
 
 
 class Form(NamedTuple):
-    """How a verb's command is packed: kind, client, number, and its words. `read` reads its reply, whose first number is
-    `accepted` where it is one."""
+    """How a verb's command is packed: kind, client, number, and its words. `read` reads its reply, whose first number
+    is `accepted` where it is one."""
 
     kind: int
     pack_into: Callable[..., None]

@@ -1,5 +1,5 @@
-"""The cases of a market, whichever it is: a run of the program, or the engine in this process. Each verb once, with its values by
-name; what is refused; what is not sent."""
+"""The cases of a market, whichever it is: a run of the program, or the engine in this process. Each verb once, with its
+values by name; what is refused; what is not sent."""
 import unittest
 from typing import Any
 
@@ -140,7 +140,8 @@ class Refused(Cases):
         for account in range(50):
             client.fund(account, account + 1)
         self.assertEqual([wallet.coll for wallet in market.wallets(range(50))], list(range(1, 51)))
-        self.assertEqual((market.troves([1, 2]), market.deposits(iter([3])), market.wallets([])), ([None, None], [None], []))
+        self.assertEqual((market.troves([1, 2]), market.deposits(iter([3])), market.wallets([])),
+            ([None, None], [None], []))
         self.assertRaises(ValueError, market.wallets, [1, 2**20])
         self.assertRaises(TypeError, market.troves, [1, 2.0])
 

@@ -1,4 +1,5 @@
-"""The cases of a market in this process, for whoever derives from them: over the built library, or over what stands in for it."""
+"""The cases of a market in this process, for whoever derives from them: over the built library, or over what stands in
+for it."""
 import copy
 import gc
 import hashlib
@@ -98,9 +99,12 @@ class Life(Cases):
         self.assertTrue(market.closed)
         market.close()
         for call in (
-            lambda: client.fund(1, 5), lambda: client.preview.fund(1, 5), lambda: client.next_number, market.fork, market.save,
-            lambda: market.wallet(1), lambda: market.wallets([1]), market.pools, lambda: market.lines("? pools"), market.touched,
-            market.trove_accounts, lambda: market.do(bytes(96)), lambda: market.next(bytearray()), lambda: copy.copy(market),
+            lambda: client.fund(1, 5), lambda: client.preview.fund(1, 5), lambda: client.next_number, market.fork,
+            market.save,
+            lambda: market.wallet(1), lambda: market.wallets([1]), market.pools, lambda: market.lines("? pools"),
+            market.touched,
+            market.trove_accounts, lambda: market.do(bytes(96)), lambda: market.next(bytearray()),
+            lambda: copy.copy(market),
             lambda: pickle.dumps(market), lambda: market.query(b""), lambda: market.preview(b""),
         ):
             self.assertRaises(MarketClosed, call)
@@ -130,9 +134,12 @@ class Calls(Cases):
         market = busy_market(self.begin())
         client, before = market.client(1), market.save()
         for call in (
-            lambda it: it.price(lusd(800)), lambda it: it.fund(1, 5), lambda it: it.close(2), lambda it: it.withdraw(2, 5),
-            lambda it: it.redeem(3, lusd(1900)), lambda it: it.liquidate(9, 4), lambda it: it.take(1, ether(1000)), lambda it: it.rotate(),
-            lambda it: it.adjust(4, borrow=lusd(10)), lambda it: it.liquidate_lowest(9, 64), lambda it: it.gain_to_trove(3),
+            lambda it: it.price(lusd(800)), lambda it: it.fund(1, 5), lambda it: it.close(2),
+            lambda it: it.withdraw(2, 5),
+            lambda it: it.redeem(3, lusd(1900)), lambda it: it.liquidate(9, 4), lambda it: it.take(1, ether(1000)),
+            lambda it: it.rotate(),
+            lambda it: it.adjust(4, borrow=lusd(10)), lambda it: it.liquidate_lowest(9, 64),
+            lambda it: it.gain_to_trove(3),
         ):
             told = self.outcome(lambda: call(client.preview))
             self.assertEqual(market.save(), before)
@@ -184,7 +191,8 @@ class Calls(Cases):
         self.assertEqual(ratios, sorted(ratios))
         order = market.trove_accounts()
         self.assertEqual((market.trove_accounts(2, 3), market.trove_accounts(most=1)), (order[2:5], order[:1]))
-        self.assertEqual((market.trove_accounts(len(order)), market.trove_accounts(2**60), market.trove_accounts(most=0)), ([], [], []))
+        self.assertEqual((market.trove_accounts(len(order)), market.trove_accounts(2**60),
+            market.trove_accounts(most=0)), ([], [], []))
         self.assertEqual((market.deposit_accounts(), market.wallet_accounts()), ([2, 3], list(range(1, 10))))
         self.assertRaises(ValueError, market.trove_accounts, -1)
         for account in range(100, 1400):
@@ -306,8 +314,8 @@ class Bytes(Cases):
     def test_queries(self) -> None:
         market = busy_market(self.begin())
         told = market.query(b"".join(struct.pack("=2I", topic, 0 if topic in (4, 5) else 2) for topic in range(1, 7)))
-        self.assertEqual([words(told[at : at + 96]) for at in range(0, len(told), 96)], [
-            market.ask(line) for line in ("? wallet 2", "? trove 2", "? deposit 2", "? pools", "? system", "? next_number 2")])
+        wanted = [market.ask(f"? {query}") for query in ("wallet 2", "trove 2", "deposit 2", "pools", "system", "next_number 2")]
+        self.assertEqual([words(told[at : at + 96]) for at in range(0, len(told), 96)], wanted)
         for topic, account, place in ((0, 0, 0), (7, 1, 0), (2**32 - 1, 0, 0), (4, 1, 4), (5, 1, 4)):
             with self.assertRaises(BatchStopped) as stopped:
                 market.query(struct.pack("=4I", 1, 2, topic, account))
@@ -354,7 +362,8 @@ class OfFolder(Cases):
         model = market_on(Journal(made.folder).current)
         self.assertEqual(market.save()[8:-32], model.records.to_bytes(8, "big") + checkpoint_bytes(model.checkpoint()))
         self.assertEqual(market.trove_accounts(), [account for _, account in reversed(model.order)])
-        self.assertEqual((market.deposit_accounts(), sorted(market.trove_accounts())), (sorted(model.deposits), sorted(model.troves)))
+        self.assertEqual((market.deposit_accounts(), sorted(market.trove_accounts())),
+            (sorted(model.deposits), sorted(model.troves)))
 
     def test_a_first_generation(self) -> None:
         self.check()
@@ -385,13 +394,15 @@ class OfFolder(Cases):
             Market.of_folder(made.folder)
         self.assertEqual(refused.exception.record, 6)
         made.write()
-        rewrite(disk.path, lambda commands: renumbered([*commands[:7], commands[6]._replace(verb="take", accounts=(77,), amounts=(5,), hints=())]))
+        taken = disk.commands[6]._replace(verb="take", accounts=(77,), amounts=(5,), hints=())
+        rewrite(disk.path, lambda commands: renumbered([*commands[:7], taken]))
         with self.assertRaises(DamagedFile) as refused:
             Market.of_folder(made.folder)
         self.assertEqual(refused.exception.record, 8)
         made.write()
         for change in (
-            lambda found: found._replace(stakes=found.stakes + 1), lambda found: found._replace(generation=9), lambda found: found._replace(version=1),
+            lambda found: found._replace(stakes=found.stakes + 1), lambda found: found._replace(generation=9),
+            lambda found: found._replace(version=1),
         ):
             rewrite_checkpoint(disk.path, change)
             with self.assertRaises(DamagedFile) as refused:

@@ -1,7 +1,8 @@
-"""What stands in for the library where none is built: its calls over liq.model, at the same addresses, by the text of clients/c/liq.h.
+"""What stands in for the library where none is built: its calls over liq.model, at the same addresses, by the text of
+clients/c/liq.h.
 
-It is slow, and tells nothing of the library; with it the package over the library has its cases, and faults that a library of
-plenty of memory never shows: `fails` makes the call that comes after so many items find no memory."""
+It is slow, and tells nothing of the library; with it the package over the library has its cases, and faults that a
+library of plenty of memory never shows: behind `fails` more items there is no memory."""
 import copy
 import ctypes
 import hashlib
@@ -10,8 +11,8 @@ from pathlib import Path
 from typing import Any, Callable, Dict, List, Optional, Tuple
 
 from liq.journal import KINDS, RECORDS_MOST, VERBS, Command, read_checkpoint, read_command
-from liq.library import ABI, ACCEPTED, BAD, LINE_MOST, NO_COMMAND, NO_MARKET, NO_MEMORY, OK, OUT_OF_MEMORY, REFUSED, SHORT, TOLD
-from liq.library import TOPICS, Answered, Place, Written
+from liq.library import ABI, ACCEPTED, BAD, LINE_MOST, NO_COMMAND, NO_MARKET, NO_MEMORY, OK, OUT_OF_MEMORY, REFUSED
+from liq.library import SHORT, TOLD, TOPICS, Answered, Place, Written
 from liq.model import Market, NoRequest, answer, read_request
 from liq.model.disks import checkpoint_bytes
 from liq.model.requests import Query, ask, carry_out, next_number
@@ -109,8 +110,10 @@ class StandIn:
         except Exception:
             return BAD
         records = int.from_bytes(data[8:16], "big")
-        broken = found and first_unsound(found)
-        if found is None or records > RECORDS_MOST or broken and not (broken == 9 and records):  # 9 is under the count of records
+        if found is None or records > RECORDS_MOST:
+            return BAD
+        broken = first_unsound(found)
+        if broken and not (broken == 9 and records):  # the ninth rule depends on the count of records
             return BAD
         market = Market.begun_with(found)
         market.records = records
@@ -118,7 +121,10 @@ class StandIn:
 
     # ---- items
 
-    def items(self, at: Any, begin: Any, count: Any, to: Any, places: Any, size: int, each: Callable[[bytes, int], Tuple[int, bytes]]) -> Answered:
+    def items(
+        self, at: Any, begin: Any, count: Any, to: Any, places: Any, size: int,
+        each: Callable[[bytes, int], Tuple[int, bytes]],
+    ) -> Answered:
         if self.held(at) is None:
             return Answered(0, NO_MARKET)
         for done in range(min(number(count), number(places))):
@@ -156,7 +162,9 @@ class StandIn:
     def do(self, at: Any, begin: Any, count: Any, to: Any, places: Any) -> Answered:
         def each(data: bytes, _: int) -> Tuple[int, bytes]:
             command = command_of(data)
-            return (BAD, reply(NO_COMMAND, 0, (place_of(data),))) if command is None else (OK, self.told(self.held(at) or 0, command))
+            if command is None:
+                return BAD, reply(NO_COMMAND, 0, (place_of(data),))
+            return OK, self.told(self.held(at) or 0, command)
 
         return self.items(at, begin, count, to, places, 96, each)
 

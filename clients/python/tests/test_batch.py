@@ -27,8 +27,10 @@ OWNERS = 20
 class Without(unittest.TestCase):
     """The package without numpy, and before anybody wants it."""
 
-    def run_in(self, text: str, *path: str) -> str:
-        environment = {**os.environ, "PYTHONPATH": os.pathsep.join([*path, str(TOP / "clients/python"), *filter(None, [os.environ.get("PYTHONPATH")])])}
+    def run_in(self, text: str) -> str:
+        """What a Python of its own prints."""
+        places = [str(TOP / "clients/python"), *filter(None, [os.environ.get("PYTHONPATH")])]
+        environment = {**os.environ, "PYTHONPATH": os.pathsep.join(places)}
         done = subprocess.run([sys.executable, "-c", text], env=environment, capture_output=True, text=True)
         self.assertEqual(done.stderr, "")
         return done.stdout.strip()
@@ -51,7 +53,8 @@ try:
 except AttributeError:
     print("no such name")
 """)
-        self.assertEqual(told.split("\n"), ["columns want numpy, which is not there; without it a batch takes bytes"] * 3 + ["no such name"])
+        self.assertEqual(told.split("\n"),
+            ["columns want numpy, which is not there; without it a batch takes bytes"] * 3 + ["no such name"])
 
 
 class Columns:
@@ -70,11 +73,15 @@ class Columns:
             (batch.fund(7, 5), lambda it: it.fund(7, 5)), (batch.take(7, 5), lambda it: it.take(7, 5)),
             (batch.send(2, 3, 5), lambda it: it.send(2, 3, 5)), (batch.open(9, 5, 6), lambda it: it.open(9, 5, 6)),
             (batch.adjust(4, coll_in=5), lambda it: it.adjust(4, coll_in=5)),
-            (batch.adjust(4, 1, 2, 3, 4, 5), lambda it: it.adjust(4, 1, 2, 3, 4, 5)), (batch.close(4), lambda it: it.close(4)),
+            (batch.adjust(4, 1, 2, 3, 4, 5), lambda it: it.adjust(4, 1, 2, 3, 4, 5)),
+            (batch.close(4), lambda it: it.close(4)),
             (batch.provide(4, 5), lambda it: it.provide(4, 5)), (batch.withdraw(2, 5), lambda it: it.withdraw(2, 5)),
-            (batch.gain_to_trove(3), lambda it: it.gain_to_trove(3)), (batch.liquidate(9, 4), lambda it: it.liquidate(9, 4)),
-            (batch.liquidate_lowest(9, 2), lambda it: it.liquidate_lowest(9, 2)), (batch.claim(1), lambda it: it.claim(1)),
-            (batch.redeem(3, lusd(1900)), lambda it: it.redeem(3, lusd(1900))), (batch.commands("rotate", 1, (), ()), lambda it: it.rotate()),
+            (batch.gain_to_trove(3), lambda it: it.gain_to_trove(3)),
+            (batch.liquidate(9, 4), lambda it: it.liquidate(9, 4)),
+            (batch.liquidate_lowest(9, 2), lambda it: it.liquidate_lowest(9, 2)),
+            (batch.claim(1), lambda it: it.claim(1)),
+            (batch.redeem(3, lusd(1900)), lambda it: it.redeem(3, lusd(1900))),
+            (batch.commands("rotate", 1, (), ()), lambda it: it.rotate()),
         ):
             self.assertEqual(len(made), 1)
             fork, other = market.fork(), market.fork()
@@ -84,7 +91,8 @@ class Columns:
                 self.assertEqual(batch.columns(told.reshape(1), list(VERBS)[told["which"] - 1]), row)
                 self.assertIsNone(batch.refusal(told))
             except refusals.Refusal as refusal:
-                self.assertEqual((type(batch.refusal(told)), batch.refusal(told).values), (type(refusal), refusal.values))
+                self.assertEqual((type(batch.refusal(told)), batch.refusal(told).values),
+                    (type(refusal), refusal.values))
             self.assertEqual(fork.save(), other.save())
             self.assertEqual(market.preview(made)[0], market.preview(made.copy())[0])
 
@@ -96,7 +104,8 @@ class Columns:
         self.assertEqual(batch.accepted(replies).tolist(), [at != 3 for at in range(OWNERS)])
         adjusted = batch.columns(replies, "adjust")
         self.assertIsInstance(adjusted, Adjusted)
-        self.assertEqual((len(adjusted.debt), int(adjusted.debt[0])), (OWNERS - 1, lusd(4220) + lusd(500) + lusd("2.5")))
+        self.assertEqual((len(adjusted.debt), int(adjusted.debt[0])),
+            (OWNERS - 1, lusd(4220) + lusd(500) + lusd("2.5")))
         self.assertEqual(len(batch.columns(replies, "open").debt), 0)
         self.assertIsInstance(batch.refusal(replies[3]), refusals.RatioLow)
 
@@ -111,15 +120,19 @@ class Columns:
         wallets = batch.columns(market.query(batch.queries("wallet", range(3))), "wallet")
         self.assertEqual([Wallet(*map(int, row)) for row in zip(*wallets)], market.wallets(range(3)))
         self.assertEqual(batch.columns(market.query(batch.queries("system")), "system").troves.tolist(), [OWNERS])
-        self.assertEqual(market.query(batch.queries("next_number", [1, 2]))["values"][:, 0].tolist(), [2 * OWNERS + 1, 1])
+        self.assertEqual(market.query(batch.queries("next_number", [1, 2]))["values"][:, 0].tolist(),
+            [2 * OWNERS + 1, 1])
 
     def test_copies_are_whole(self) -> None:
         """Whatever numpy makes of an array of commands is one."""
         mask = numpy.arange(20) % 2 == 0
         for change in (
-            lambda it: it.copy(), lambda it: it[mask], lambda it: it[::2], lambda it: it[::-1], lambda it: it.take(range(20)),
-            lambda it: numpy.concatenate([it, it]), lambda it: numpy.sort(it, order="account"), lambda it: numpy.resize(it, 40),
-            lambda it: it.astype(it.dtype.newbyteorder()), lambda it: pickle.loads(pickle.dumps(it)), lambda it: numpy.stack([it])[0],
+            lambda it: it.copy(), lambda it: it[mask], lambda it: it[::2], lambda it: it[::-1],
+            lambda it: it.take(range(20)),
+            lambda it: numpy.concatenate([it, it]), lambda it: numpy.sort(it, order="account"),
+            lambda it: numpy.resize(it, 40),
+            lambda it: it.astype(it.dtype.newbyteorder()), lambda it: pickle.loads(pickle.dumps(it)),
+            lambda it: numpy.stack([it])[0],
         ):
             market, copied = self.begin(), change(batch.fund(range(20), 5))
             self.assertTrue(batch.accepted(market.next(copied)).all())
@@ -130,7 +143,8 @@ class Columns:
 
     def test_what_is_no_column(self) -> None:
         for wrong, kind in (
-            (1.5, TypeError), ([1, 2.0], TypeError), (True, TypeError), (numpy.array([1.0]), TypeError), (numpy.float64(1), TypeError), ("1", TypeError),
+            (1.5, TypeError), ([1, 2.0], TypeError), (True, TypeError), (numpy.array([1.0]), TypeError),
+            (numpy.float64(1), TypeError), ("1", TypeError),
             (-1, ValueError), ([1, -1], ValueError), (numpy.array([-1]), ValueError), (2**64, ValueError),
         ):
             self.assertRaises(kind, batch.fund, 1, wrong)
@@ -175,7 +189,8 @@ class Columns:
             data = command_bytes(command)
             row = numpy.frombuffer(data, batch.COMMAND)[0]
             named = [row[name] for name in ("kind", "client", "number", "account", "other")]
-            self.assertEqual([*map(int, named), *row["amounts"].tolist(), int(row["before"]), int(row["after"])], list(COMMAND.unpack(data)))
+            self.assertEqual([*map(int, named), *row["amounts"].tolist(), int(row["before"]), int(row["after"])],
+                list(COMMAND.unpack(data)))
             self.assertFalse(row["gap"].any() or row["rest"].any())
 
 

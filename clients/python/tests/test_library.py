@@ -4,7 +4,6 @@ import re
 import shutil
 import subprocess
 import unittest
-from pathlib import Path
 from typing import Dict, List
 from unittest import mock
 
@@ -13,7 +12,6 @@ from liq.client import ACCOUNTS
 from liq.journal import KINDS, NO_HINT, RECORDS_MOST, VERBS
 from liq.model.disks import command_bytes
 from liq.model.told import generated
-from liq.packed import FORMS
 from liq.refusals import BY_CODE, OF_OTHER_WORDS
 
 from .market import LIBRARY, TOP, InFolder
@@ -40,12 +38,14 @@ class Missing(InFolder):
         with mock.patch.object(library, "PLACES", ()), mock.patch.dict(os.environ):
             os.environ.pop("LIQ_LIBRARY", None)
             told = self.refused()
-        self.assertEqual(told, f"there is no libliq.so: build it by `{TOP}/scripts/build --library`; a Service needs none")
+        self.assertEqual(told,
+            f"there is no libliq.so: build it by `{TOP}/scripts/build --library`; a Service needs none")
 
     def test_outside_a_checkout(self) -> None:
         with mock.patch.object(library, "TOP", self.folder):
             told = str(library.missing("there is no libliq.so", f"{self.folder}/scripts/build --library"))
-        self.assertEqual(told, "there is no libliq.so: in a checkout of liq `scripts/build --library` builds one; a Service needs none")
+        self.assertEqual(told,
+            "there is no libliq.so: in a checkout of liq `scripts/build --library` builds one; a Service needs none")
 
     def test_the_one_that_is_named(self) -> None:
         self.assertIn(f"there is no library at {self.folder}/x.so", self.refused(LIQ_LIBRARY=f"{self.folder}/x.so"))
@@ -91,7 +91,8 @@ class Header(InFolder):
         self.assertEqual(self.numbers("liq_verb"), {verb: kind for kind, verb in enumerate(KINDS, 1)})
         self.assertEqual(self.numbers("liq_topic"), {topic: at for at, topic in enumerate(library.TOPICS, 1)})
         codes = {name.replace("_", ""): code for name, code in self.numbers("liq_refusal").items()}
-        self.assertEqual(codes, {each.__name__.lower(): code for code, each in BY_CODE.items() if each not in OF_OTHER_WORDS})
+        self.assertEqual(codes,
+            {each.__name__.lower(): code for code, each in BY_CODE.items() if each not in OF_OTHER_WORDS})
 
     def test_statuses_kinds_and_lists(self) -> None:
         names = {"ok": 0, "no_market": 1, "no_memory": 2, "bad": 3, "short": 4}
@@ -103,7 +104,8 @@ class Header(InFolder):
 
     def test_other_constants(self) -> None:
         for name, number in (
-            ("LIQ_ABI", library.ABI), ("LIQ_LINE_MOST", library.LINE_MOST), ("LIQ_ACCOUNTS", ACCOUNTS), ("LIQ_RECORDS_MOST", RECORDS_MOST),
+            ("LIQ_ABI", library.ABI), ("LIQ_LINE_MOST", library.LINE_MOST), ("LIQ_ACCOUNTS", ACCOUNTS),
+            ("LIQ_RECORDS_MOST", RECORDS_MOST),
             ("LIQ_NO_HINT", NO_HINT), ("LIQ_ANY_FEE", ANY_FEE),
         ):
             self.assertEqual(self.defined(name), number)
@@ -111,12 +113,14 @@ class Header(InFolder):
         self.assertIn(f"REPLY_BYTES: usize = {library.LINE_MOST - 1};", code)
 
     def test_its_calls_are_those_of_the_package(self) -> None:
-        declared = set(re.findall(r"^(?:uint32_t|void|liq_done|liq_text_done|size_t) liq_(\w+)\(", HEADER, re.MULTILINE))
+        declared = set(re.findall(r"^(?:uint32_t|void|liq_done|liq_text_done|size_t) liq_(\w+)\(", HEADER,
+            re.MULTILINE))
         self.assertEqual(declared, set(library.CALLS))
 
     @unittest.skipIf(LIBRARY is None or not shutil.which("nm"), "there is no libliq.so, or no nm")
     def test_the_library_shows_them_and_nothing_else(self) -> None:
-        told = subprocess.run(["nm", "-D", "--defined-only", str(LIBRARY)], capture_output=True, text=True, check=True).stdout
+        told = subprocess.run(["nm", "-D", "--defined-only", str(LIBRARY)], capture_output=True, text=True,
+            check=True).stdout
         shown = {line.split()[2].partition("@")[0] for line in told.splitlines() if line.split()[1] != "A"}
         self.assertEqual(shown, {f"liq_{name}" for name in library.CALLS})
 
@@ -136,13 +140,18 @@ class Header(InFolder):
         for it in commands:
             count = VERBS[it.verb].count("h")
             wanted.append(command_bytes(it._replace(hints=(None, None)[:count])).hex())
-        self.assertEqual(self.run_c("static void put(liq_command c) {\n    for (int i = 0; i < 96; i++) printf(\"%02x\", c.bytes[i]);\n"
-                                    "    putchar('\\n');\n}\nint main(void) {\n" + "\n".join(lines) + "\n}\n"), wanted)
+        self.assertEqual(self.run_c("""static void put(liq_command c) {
+    for (int i = 0; i < 96; i++) printf("%02x", c.bytes[i]);
+    putchar('\\n');
+}
+int main(void) {
+""" + "\n".join(lines) + "\n}\n"), wanted)
 
     @unittest.skipUnless(COMPILER, "there is no C compiler")
     def test_what_its_functions_read(self) -> None:
         text = """int main(void) {
-    liq_reply told = {LIQ_TOLD, LIQ_WALLET, 2, {0}, {5, 6}}, refused = {LIQ_REFUSED, LIQ_RATIO_LOW, 2, {0}, {5, 6, 7, 8}};
+    liq_reply told = {LIQ_TOLD, LIQ_WALLET, 2, {0}, {5, 6}};
+    liq_reply refused = {LIQ_REFUSED, LIQ_RATIO_LOW, 2, {0}, {5, 6, 7, 8}};
     for (unsigned i = 0; i < 2; i++) printf("%d %d %d %d\\n", (int)liq_low(&told, i), (int)liq_high(&told, i),
                                             (int)liq_low(&refused, i), (int)liq_high(&refused, i));
     liq_command c = liq_fund(1, 77, 2, 3);

@@ -81,7 +81,8 @@ class Faults(OverStandIn):
         before = market.save()
         client, self.library.fails = market.client(1), 0
         for call in (
-            lambda: client.fund(1, 5), lambda: client.preview.fund(1, 5), market.fork, Market, lambda: market.wallet(1), lambda: market.wallets([1]),
+            lambda: client.fund(1, 5), lambda: client.preview.fund(1, 5), market.fork, Market, lambda: market.wallet(1),
+            lambda: market.wallets([1]),
         ):
             self.assertRaises((MemoryError, BatchStopped), call)
         self.library.fails = -1
@@ -99,7 +100,8 @@ class Faults(OverStandIn):
         def meanwhile() -> None:
             self.library.while_many = None
             for call in (
-                lambda: client.fund(1, 5), lambda: client.preview.fund(1, 5), lambda: market.wallet(1), market.fork, market.save, market.close,
+                lambda: client.fund(1, 5), lambda: client.preview.fund(1, 5), lambda: market.wallet(1), market.fork,
+                market.save, market.close,
                 lambda: market.do(b""), lambda: market.lines("? pools"), market.touched,
             ):
                 try:
