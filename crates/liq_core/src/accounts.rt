@@ -1,6 +1,6 @@
 //! Which accounts have a trove, a deposit or a wallet, a client's next number, and how long a checkpoint is.
 
-ghost use Rattle.std.specs.Prelude.{◌≡◌, IfOk, drop, length};
+ghost use Rattle.std.specs.Prelude.{◌≡◌, ◌<◌, ◌^◌, IfOk, drop, length};
 ghost use Rattle.liq_types.specs.Length.{checkpoint_length};
 ghost use Rattle.liq_types.specs.Ranked.{first_of, from_last};
 ghost use Rattle.liq_types.specs.State.{State};
@@ -47,7 +47,8 @@ impl Protocol {
 
     /// How many bytes a checkpoint of its image has.
     pub fn checkpoint_length(&self) -> u128
-        ensures { result ≡ checkpoint_length self.now.image }
+        ensures length { result ≡ checkpoint_length self.now.image }
+        ensures few { result < 2 ^ 80 }
     {
         let rows = RowCounts {
             wallets: self.wallets.count(),
