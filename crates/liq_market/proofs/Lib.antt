@@ -1,0 +1,4 @@
+pub mod Forking
+pub mod Loading
+pub mod Moves
+pub mod Opening

@@ -1,0 +1,22 @@
+-- What a market answers.
+use Rattle.std.specs.Prelude.{◌≡◌, Result, Ok, Err}
+use Rattle.liq_types.specs.declared.replies.NoMemory.{NoMemory}
+use Rattle.liq_types.specs.declared.replies.Reply.{Reply}
+use Rattle.liq_types.specs.declared.requests.Command.{Command}
+use Rattle.liq_types.specs.declared.requests.Request.{Request}
+use Rattle.liq_types.specs.declared.requests.Request.TheVariants.{Do}
+use Rattle.liq_types.specs.State.{State}
+use Rattle.liq_core.specs.Core.{Core, StandsFor}
+use Rattle.liq_rules.specs.Lists.{PlansList}
+use Rattle.liq_rules.specs.Memory.{TakesMemory}
+use Rattle.liq_rules.specs.Step.{step}
+
+-- The reply of the step, and the state after it. Or all is as before, where memory may be asked for the request.
+abbrev pub Answers : State → Request → Result Reply NoMemory → Core → Type 0
+Answers s request (Ok reply) core = StandsFor core (step s request).0 × ((step s request).1 ≡ reply)
+Answers s request (Err none) core = StandsFor core s × TakesMemory s request
+
+-- The reply that the step would give. Or a list of troves is planned, for which there is no memory.
+abbrev pub Previews : State → Command → Result Reply NoMemory → Type 0
+Previews s c (Ok reply) = (step s (Do c)).1 ≡ reply
+Previews s c (Err none) = PlansList s c
