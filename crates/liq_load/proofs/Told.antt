@@ -35,6 +35,7 @@ unfolding summary
 line_written requests n text end before now counted is ok err = by end ok err where
   line : text ≡ told (counts opening requests) (pool_words (run opening requests).0) (total_debt (run opening requests).0)
   line = is ∙ ap (λ (m : Counts). told m (pool_words (run opening requests).0) (total_debt (run opening requests).0)) counted
+
   by : (end : Result (Unit {0}) Halt) → OnOk end (Writes before text now) → IfErr end (λ halt. (halt ≡ WriteFault) × WritesPart before text now) → WritesLine (summary requests) end before now
   by (Ok done) ok err = subst (λ (t : List ℕ). Writes before t now) line ok
   by (Err halt) ok err = subst (λ (h : Halt). WritesLine (summary requests) (Err h) before now) (sym err.0) (subst (λ (t : List ℕ). WritesPart before t now) line err.1)
