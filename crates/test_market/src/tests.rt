@@ -1,0 +1,8 @@
+//! The tests, and what they share.
+
+mod answers;
+mod checks;
+mod forks;
+mod lists;
+mod runs;
+mod saves;
