@@ -68,9 +68,10 @@ impl Guided {
         ensures { IfOk result (λ guided. guided ≡ protocol) }
     {
         let mut guide = Guide::new(alloc);
-        // One after the other: of a single change nothing is noted aside.
+        // One after the other, since of a single change nothing is noted aside, and from the last one on, since the place before all
+        // others is found at once.
         let changes = protocol.list(alloc)?;
-        for change in &changes {
+        for change in changes.iter().rev() {
             guide.follow(&[*change])?;
         }
         Ok(Guided {
