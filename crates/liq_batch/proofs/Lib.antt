@@ -1,0 +1,4 @@
+pub mod Batching
+pub mod Lining
+pub mod Numbered
+pub mod Ways

@@ -1,0 +1,52 @@
+-- The ways to answer many requests, each by one more.
+use Rattle.std.proofs.Common.{◌≡◌, suc, List, [], ◌∷◌, ◌++◌, length, refl, ap, ◌∙◌}
+use Rattle.std.proofs.lemmas.List.{length-map, map-append}
+use Rattle.liq_types.specs.declared.requests.Request.{Request}
+use Rattle.liq_types.specs.State.{State}
+use Rattle.liq_rules.specs.Step.{run, step}
+use Rattle.liq_rules.proofs.Runs.{run_state, run_replies}
+use Rattle.liq_batch.specs.Batch.{alone, apart}
+use Rattle.liq_batch.specs.Numbering.{numbered, numbered_all, numbered_run, numbered_step}
+use Rattle.liq_batch.proofs.Batching.{GoesBy}
+
+run_count : (s : State) (rs : List Request) → length (run s rs).1 ≡ length rs
+run_count s [] = refl
+run_count s (r ∷ rs) = ap suc (run_count (step s r).0 rs)
+
+pub by_steps : GoesBy run step
+by_steps = record {
+  nothing = λ s. refl;
+  state = λ s rs r. run_state s rs (r ∷ []);
+  replies = λ s rs r. run_replies s rs (r ∷ []);
+  count = run_count;
+}
+
+pub by_themselves : GoesBy apart alone
+by_themselves = record {
+  nothing = λ s. refl;
+  state = λ s rs r. refl;
+  replies = λ s rs r. map-append (λ (request : Request). (step s request).1) rs (r ∷ []);
+  count = λ s rs. length-map rs (λ (request : Request). (step s request).1);
+}
+
+-- the last of some gets its number in the state to which those before it lead
+pub numbered_more : (s : State) (rs : List Request) (r : Request)
+    → numbered_all s (rs ++ r ∷ []) ≡ numbered_all s rs ++ numbered (run s (numbered_all s rs)).0 r ∷ []
+numbered_more s [] r = refl
+numbered_more s (q ∷ rs) r = ap (λ (more : List Request). numbered s q ∷ more) (numbered_more (step s (numbered s q)).0 rs r)
+
+numbered_count : (s : State) (rs : List Request) → length (numbered_all s rs) ≡ length rs
+numbered_count s [] = refl
+numbered_count s (r ∷ rs) = ap suc (numbered_count (step s (numbered s r)).0 rs)
+
+pub by_numbers : GoesBy numbered_run numbered_step
+by_numbers = record {
+  nothing = λ s. refl;
+  state = λ s rs r.
+      ap (λ (all : List Request). (run s all).0) (numbered_more s rs r)
+      ∙ run_state s (numbered_all s rs) (numbered (run s (numbered_all s rs)).0 r ∷ []);
+  replies = λ s rs r.
+      ap (λ (all : List Request). (run s all).1) (numbered_more s rs r)
+      ∙ run_replies s (numbered_all s rs) (numbered (run s (numbered_all s rs)).0 r ∷ []);
+  count = λ s rs. run_count s (numbered_all s rs) ∙ numbered_count s rs;
+}

@@ -1,0 +1,47 @@
+//! What commands would be answered.
+
+ghost use Rattle.liq_types.specs.State.{State};
+ghost use Rattle.liq_core.specs.Core.{StandsFor};
+ghost use Rattle.liq_batch.specs.Batch.{Answered, AnswersItem, command_in, apart, alone, PlansAList};
+
+use crate::batch::{Batch, Command96, Fault};
+use liq_market::Market;
+use liq_replies96::{Reply96, encode};
+use liq_types::{NoMemory, Reply};
+use liq_wire::decode;
+
+/// Gives the reply that each command would have if it came alone, as long as there are places for replies. Nothing changes. It
+/// stops where [`do_all`] would: but memory is wanted only for a command for which a list of troves is planned.
+pub fn preview_all(market: &Market, commands: &[Command96], replies: &mut [Reply96]) -> Batch
+    ensures { (s : State) → StandsFor market.now.core s → Answered command_in apart PlansAList
+        s commands.now result market.now.core replies.old replies.new }
+{
+    let most = commands.len().min(replies.len());
+    for done in 0..most {
+        match preview_one(market, &commands[done]) {
+            Ok(reply) => replies[done] = encode(&reply),
+            Err(fault) => {
+                replies[done] = fault.reply();
+                let fault = Some(fault);
+                return Batch { done, fault };
+            }
+        }
+    }
+    Batch {
+        done: most,
+        fault: None,
+    }
+}
+
+fn preview_one(market: &Market, command: &Command96) -> Result<Reply, Fault>
+    ensures { (s : State) → StandsFor market.now.core s
+        → AnswersItem command_in alone PlansAList s command.now result market.now.core }
+{
+    match decode(&command.bytes) {
+        Ok(command) => match market.preview(&command) {
+            Ok(reply) => Ok(reply),
+            Err(NoMemory) => Err(Fault::NoMemory),
+        },
+        Err(bad) => Err(Fault::Bad(bad.place)),
+    }
+}
