@@ -11,6 +11,7 @@ Calls, refusals and rows are those of a `Service`. Nothing outlasts the process 
 """
 import ctypes
 import hashlib
+import struct
 import threading
 import weakref
 from array import array
@@ -21,11 +22,12 @@ from .batch import COMMANDS, QUERIES, BatchStopped, Given, Why, address_of
 from .client import ACCOUNTS, AMOUNTS, NO_HINTS, Calls, Row
 from .ends import Folder, NoJournal
 from .journal import BYTES_MOST, LIMITS, RECORD_BYTES, RECORDS_MOST, DamagedFile, Disk, Journal, holds_journal
-from .library import ACCEPTED, BAD, DEPOSITS, ITEM_BYTES, NO_MEMORY, OK, SHORT, TOUCHED, TROVES, WALLETS
+from .library import ACCEPTED, BAD, DEPOSITS, ITEM_BYTES, NO_MEMORY, OK, SHORT, TOLD, TOUCHED, TROVES, WALLETS
 from .library import Library, Place, load_library
 from .packed import ASKED, FORMS, check_numbers, fault_in, hint_words, pack_query
 from .queries import Queries
 from .refusals import JournalFull, Refusal
+from .replies import Done
 
 ROTATING = ACCOUNTS - 1  # who rotates, where no other client is named
 ROWS_AT_ONCE = 2**16
@@ -33,6 +35,8 @@ TEXT_AT_ONCE = 2**16
 ACCOUNTS_AT_ONCE = 2**10
 SAVE_NAME = b"LIQSNAP1"
 NO_WORDS = hint_words(NO_HINTS)
+DONE: Any = Done()
+new_tuple = tuple.__new__
 ONE = ctypes.c_size_t(1)
 
 
@@ -203,57 +207,26 @@ class Market(Queries):
         """A client of this market. The market numbers its commands, so there may be several of one number."""
         return MarketClient(self, client)
 
-    def _carry(
-        self, call: Any, client: int, number: int, row: Type[Row], verb: str, accounts: Sequence[int],
-        amounts: Sequence[int], hints: Sequence[Optional[int]],
-    ) -> Row:
-        """What a command is replied by `next` or `preview`. Raises its refusal, or MemoryError. Much of it is written
-        out, for it is all that a typed call costs beside the rules."""
-        kind, pack_into, read, accepted = FORMS[verb]
-        for account in accounts:
-            if type(account) is not int or not 0 <= account < ACCOUNTS:
-                check_numbers((account,), ACCOUNTS)
-        for amount in amounts:
-            if type(amount) is not int or not 0 <= amount < AMOUNTS:
-                check_numbers((amount,), AMOUNTS)
-        if hints:
-            hints = NO_WORDS if hints is NO_HINTS else hint_words(hints)
-        held, sent, reply = self._held, self._sent, self._reply
-        if not held.lock.acquire(False):
-            raise Busy(Busy.__doc__)
-        try:
-            if held.at is None:
-                raise MarketClosed("the market was closed")
-            pack_into(sent, 0, kind, client, number, *accounts, *amounts, *hints)
-            reply[0] = 0
-            call(*self._item)
-            told = read(reply)
-            if told[0] != accepted:
-                raise fault_in(reply)
-        finally:
-            held.lock.release()
-        return tuple.__new__(row, told[2:])  # as row(*told[2:]), in half the time
-
     def _rotate(self) -> None:
         """Rotates, as who rotates. In a call that has the lock."""
         form = FORMS["rotate"]
         form.pack_into(self._sent, 0, form.kind, self.rotating, 0)
+        self._reply[0] = 0
         self._calls.one.next(*self._item)
-        if form.read(self._reply)[0] != form.accepted:
+        if self._reply[0] != ACCEPTED:
             raise fault_in(self._reply)
 
     # ---- queries
 
     def _told(self, query: str, account: int = 0) -> Optional[Sequence[int]]:
         """The numbers that are told; None where there is no such trove or deposit. In a call that has the lock."""
-        topic, read, _, wanted = ASKED[query]
+        topic, read, _ = ASKED[query]
         pack_query(self._sent, 0, topic, account)
         self._reply[0] = 0
         self._calls.one.ask(*self._item)
-        told = read(self._reply)
-        if told[0] != wanted:
+        if self._reply[0] != TOLD:
             raise fault_in(self._reply)
-        return told[2:] if told[1] else None
+        return read(self._reply, 8) if self._reply[2] else None
 
     def _row(self, query: str, *accounts: int) -> Optional[Sequence[int]]:
         check_numbers(accounts, ACCOUNTS)
@@ -268,7 +241,7 @@ class Market(Queries):
             part = array("I", wanted[begin : begin + ROWS_AT_ONCE])
             queries = array("I", [asked.topic, 0]) * len(part)
             queries[1::2] = part
-            rows += [told[2:] if told[1] else None for told in asked.read_all(self.query(queries))]
+            rows += [told[1:] if told[0] else None for told in asked.read_all(self.query(queries))]
         return rows
 
     # ---- batches
@@ -390,7 +363,9 @@ class MarketClient(Calls):
 
     def __init__(self, market: Market, client: int) -> None:
         check_numbers((client,), ACCOUNTS)
-        self.market, self.client, self._next = market, client, market._calls.one.next
+        self.market, self.client = market, client
+        self._call, self._is_numbered = market._calls.one.next, True
+        self._parts = market._held, market._sent, market._reply, market._item
 
     @property
     def next_number(self) -> int:
@@ -406,28 +381,52 @@ class MarketClient(Calls):
         self, row: Type[Row], verb: str, accounts: Sequence[int], amounts: Sequence[int],
         hints: Sequence[Optional[int]] = (),
     ) -> Row:
-        market = self.market
+        # Much of it is written out, for it is all that a typed call costs beside the rules.
+        kind, pack_into, read = FORMS[verb]
+        for account in accounts:
+            if type(account) is not int or not 0 <= account < ACCOUNTS:
+                check_numbers((account,), ACCOUNTS)
+        for amount in amounts:
+            if type(amount) is not int:
+                check_numbers((amount,), AMOUNTS)
+        words = hints and (NO_WORDS if hints is NO_HINTS else hint_words(hints))
+        number = 0 if self._is_numbered else self.next_number
+        held, sent, reply, item = self._parts
+        if not held.lock.acquire(False):
+            raise Busy(Busy.__doc__)
         try:
-            return market._carry(self._next, self.client, 0, row, verb, accounts, amounts, hints)
-        except JournalFull:
-            if market.rotating is None:
-                raise
-        market.client(market.rotating).rotate()
-        return market._carry(self._next, self.client, 0, row, verb, accounts, amounts, hints)
+            if held.at is None:
+                raise MarketClosed("the market was closed")
+            pack_into(sent, 0, kind, self.client, number, *accounts, *amounts, *words)
+            reply[0] = 0
+            self._call(*item)
+            if reply[0] == ACCEPTED and reply[1] == kind:
+                return new_tuple(row, read(reply, 8)) if read else DONE  # as row(*read(reply, 8)), in half the time
+            fault = fault_in(reply)
+        except struct.error:
+            check_numbers(amounts, AMOUNTS)
+            raise
+        finally:
+            held.lock.release()
+        return self._behind(fault, row, verb, accounts, amounts, hints)
+
+    def _behind(self, fault: Exception, *command: Any) -> Any:
+        """What comes of a command behind a refusal: where the market was full it is sent again, behind a rotation."""
+        if not isinstance(fault, JournalFull) or self.market.rotating is None:
+            raise fault
+        self.market.client(self.market.rotating).rotate()
+        return self._send(*command)
 
 
-class Preview(Calls):
+class Preview(MarketClient):
     """What a client's next command would be replied, as typed calls; nothing changes."""
 
     def __init__(self, market: Market, client: int) -> None:
-        self.market, self.client = market, client
+        super().__init__(market, client)
+        self._call, self._is_numbered = market._calls.one.preview, False
 
-    def _send(
-        self, row: Type[Row], verb: str, accounts: Sequence[int], amounts: Sequence[int],
-        hints: Sequence[Optional[int]] = (),
-    ) -> Row:
-        market, number = self.market, self.market.next_number(self.client)
-        return market._carry(market._calls.one.preview, self.client, number, row, verb, accounts, amounts, hints)
+    def _behind(self, fault: Exception, *command: Any) -> Any:
+        raise fault
 
 
 # ---- beneath

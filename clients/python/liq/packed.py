@@ -5,32 +5,30 @@ from typing import Any, Callable, Dict, Iterable, Iterator, NamedTuple, Optional
 
 from .client import ACCOUNTS, spelt
 from .journal import FIELDS, KINDS, NO_HINT, VERBS
-from .library import ACCEPTED, ITEM_BYTES, OUT_OF_MEMORY, REFUSED, TOLD, TOPICS
+from .library import ITEM_BYTES, OUT_OF_MEMORY, REFUSED, TOPICS
 from .refusals import refusal_of
 from .replies import BY_QUERY, BY_VERB
 
 Numbers = Tuple[int, ...]
 FIELD = {"a": (4, "I"), "v": (8, "Q"), "h": (4, "I")}
-HEAD = "<HB5x"  # of a reply: kind and verb, topic or code as one number; how many numbers there are
 
 
 class Form(NamedTuple):
-    """How a verb's command is packed: kind, client, number, and its words. `read` reads its reply, whose first number
-    is `accepted` where it is one."""
+    """How a verb's command is packed: kind, client, number, and its words; and how the numbers of its reply are read,
+    which begin at byte 8, where it has some."""
 
     kind: int
     pack_into: Callable[..., None]
-    read: Callable[[Any], Numbers]
-    accepted: int
+    read: Optional[Callable[[Any, int], Numbers]]
 
 
 class Asked(NamedTuple):
-    """A query's topic; how one reply, and many in a row, are read; and by which number they begin."""
+    """A query's topic; how the numbers of a reply are read, and those of many in a row, each with their count in
+    front."""
 
     topic: int
-    read: Callable[[Any], Numbers]
+    read: Callable[[Any, int], Numbers]
     read_all: Callable[[Any], Iterator[Numbers]]
-    told: int
 
 
 def form_of(verb: str) -> Form:
@@ -39,17 +37,15 @@ def form_of(verb: str) -> Form:
     for letter, (size, field) in FIELD.items():
         used = VERBS[verb].count(letter)
         spelling += field * used + f"{size * (FIELDS[letter] - used)}x"
-    kind = KINDS.index(verb) + 1
-    read = struct.Struct(f"{HEAD}{width(BY_VERB[verb])}Q").unpack_from
-    return Form(kind, struct.Struct(spelling + "24x").pack_into, read, ACCEPTED | kind << 8)
+    count = width(BY_VERB[verb])
+    read = struct.Struct(f"<{count}Q").unpack_from if count else None
+    return Form(KINDS.index(verb) + 1, struct.Struct(spelling + "24x").pack_into, read)
 
 
 def asked_by(topic: int, count: int) -> Asked:
     """The form of a query that so many numbers are told of."""
-    spelling = f"{HEAD}{count}Q"
-    rest = ITEM_BYTES - struct.calcsize(spelling)
-    whole = struct.Struct(f"{spelling}{rest}x")
-    return Asked(topic, struct.Struct(spelling).unpack_from, whole.iter_unpack, TOLD | topic << 8)
+    whole = struct.Struct(f"<2xB5x{count}Q{ITEM_BYTES - 8 - 8 * count}x")
+    return Asked(topic, struct.Struct(f"<{count}Q").unpack_from, whole.iter_unpack)
 
 
 def width(row: Optional[Type[Any]]) -> int:

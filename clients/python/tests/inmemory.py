@@ -229,6 +229,12 @@ class Full(Cases):
         self.assertEqual((market.system().records, market.next_number(memory.ROTATING)), (1, 2))
         self.assertEqual(client.next_number, number + 2)
         self.assertEqual(client.rotate(), NextGeneration(3))
+        for hints in (None, None), (2, None):
+            market = self.full(0)
+            debt = market.trove(4).debt
+            adjusted = market.client(1).adjust(4, borrow=lusd(10), hints=hints)
+            self.assertGreater(adjusted.debt, debt + lusd(10))
+            self.assertEqual(market.trove(4), (adjusted.coll, adjusted.debt, market.trove(4).stake))
 
     def test_nobody_rotates_unasked(self) -> None:
         market = self.full(0, rotating=None)
