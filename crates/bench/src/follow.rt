@@ -1,8 +1,6 @@
-//! The left file of the current folder, followed beside the opening of both.
+//! The left file of the current folder, followed.
 
 use liq_follower::Follower;
-use liq_outside::FileDisk;
-use liq_store::Store;
 use std::alloc::Global;
 use std::fs::{File, Files};
 use std::io;
@@ -22,21 +20,6 @@ fn file<F: Files<File = File>>(files: &F, name: &str) -> io::Result<File> {
         .write(true)
         .create(true)
         .open(files, name)
-}
-
-/// How many records an opening of both disks finds.
-fn opened(alloc: Global, left: FileDisk, right: FileDisk) -> u64 {
-    match Store::open(alloc, left, right) {
-        Ok(store) => store.protocol().records(),
-        Err(_) => 0,
-    }
-}
-
-/// The same of both files.
-fn opened_files<F: Files<File = File>>(files: &F, alloc: Global) -> io::Result<u64> {
-    let left = FileDisk::new(Some(file(files, "left.liq")?));
-    let right = FileDisk::new(Some(file(files, "right.liq")?));
-    Ok(opened(alloc, left, right))
 }
 
 /// Feeds what was read, in pieces of this size.
@@ -68,13 +51,6 @@ fn followed_file<F: Files<File = File>>(files: &F, alloc: Global, size: usize) -
     followed(alloc, &left, size)
 }
 
-/// The records of an opening and how long it took.
-fn opening<R: Clock + Files<File = File>>(rt: &R, alloc: Global) -> io::Result<(u64, Duration)> {
-    let start = Instant::now(rt)?;
-    let records = opened_files(rt, alloc)?;
-    Ok((records, start.elapsed(rt)?))
-}
-
 /// The records of a follower and how long it took.
 fn following<R>(rt: &R, alloc: Global, size: usize) -> io::Result<(u64, Duration)>
 where
@@ -85,22 +61,17 @@ where
     Ok((records, start.elapsed(rt)?))
 }
 
-/// Both begin with nothing and find a journal without records.
+/// It begins with nothing and finds a journal without records.
 pub fn a_few<R: Print + Clock + Files<File = File>>(rt: &R, alloc: Global) -> io::Result<()> {
-    let (opened, _) = opening(rt, alloc)?;
     let (followed, _) = following(rt, alloc, 1)?;
-    println!(rt; "follow: {opened} records opened, {followed} followed")
+    println!(rt; "follow: {followed} followed")
 }
 
-/// How long an opening takes, where the size is 0, or else a follower that is fed in pieces of this size.
+/// How long a follower takes that is fed in pieces of this size.
 pub fn measure<R>(rt: &R, alloc: Global, size: u64) -> io::Result<()>
 where
     R: Print + Clock + Files<File = File>,
 {
-    let (records, time) = if size == 0 {
-        opening(rt, alloc)?
-    } else {
-        following(rt, alloc, size as usize)?
-    };
+    let (records, time) = following(rt, alloc, size as usize)?;
     println!(rt; "{records} records in {} us", time.as_micros())
 }

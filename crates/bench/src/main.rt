@@ -1,13 +1,12 @@
 //! Measures what a word names, so many times as the count behind it says, on this machine: `num CALLS` the numbers' costly
-//! functions, `journal RECORDS` a journal on a file of the current folder, `follow SIZE` a follower that is fed the folder's left file
-//! in pieces of this size, or for 0 the opening of both files, `pool OFFSETS` an offset of the Stability Pool with few and with many
-//! deposits, `image ROUNDS` a checkpoint of many accounts and the protocol that begins with it, `lock TURNS` the lock beside a plain
-//! mutex. With no word it does a little of each and prints what comes of it, which is the same each time.
+//! functions, `follow SIZE` a follower that is fed the left file of the current folder in pieces of this size, `pool OFFSETS` an offset
+//! of the Stability Pool with few and with many deposits, `image ROUNDS` a checkpoint of many accounts and the protocol that begins
+//! with it, `lock TURNS` the lock beside a plain mutex. With no word it does a little of each and prints what comes of it, which is
+//! the same each time. What the built program shows too is measured by the scripts in bench/.
 #![tactic(auto)]
 
 mod follow;
 mod image;
-mod journal;
 mod lock;
 mod num;
 mod pool;
@@ -31,7 +30,6 @@ where
     R: Print + Clock + Files<File = File> + Threads + Wait + Sync,
 {
     num::a_few(rt)?;
-    journal::a_few(rt)?;
     follow::a_few(rt, alloc)?;
     pool::a_few(rt, alloc)?;
     image::a_few(rt, alloc)?;
@@ -46,11 +44,10 @@ where
     match word {
         "num" => num::measure(rt, count),
         "follow" => follow::measure(rt, alloc, count),
-        "journal" => journal::measure(rt, alloc, count),
         "pool" => pool::measure(rt, alloc, count),
         "image" => image::measure(rt, alloc, count),
         "lock" => lock::measure(rt, alloc, count),
-        _ => println!(rt; "num, journal, follow, pool, image or lock, and a count"),
+        _ => println!(rt; "num, follow, pool, image or lock, and a count"),
     }
 }
 

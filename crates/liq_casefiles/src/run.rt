@@ -66,7 +66,8 @@ pub struct Failing {
 #[derive(Clone, Copy)]
 pub enum Asked {
     Source,
-    Sink,
+    /// So many of the last calls, or all where they are no more.
+    Sink(u64),
     Disk(Side, u64, u64),
     /// No call fails, and of the input only the first bytes come in, from so many on to so many.
     Cuts(u64, u64),

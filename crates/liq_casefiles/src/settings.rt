@@ -86,6 +86,7 @@ fn failing<'a>(failing: &'a mut Failing, device: &str) -> Result<&'a mut Vec<u64
 fn sweep(device: &str, calls: &[&str]) -> Result<Asked, Misread> {
     match calls {
         [] => stream_sweep(device),
+        ["last", calls] => last_sweep(device, number(calls)?),
         [first, last] => Ok(Asked::Disk(side_of(device)?, number(first)?, number(last)?)),
         calls => both_sweep(device, calls),
     }
@@ -127,7 +128,15 @@ fn stop(left: &str, right: &str) -> Result<Stop, Misread> {
 fn stream_sweep(stream: &str) -> Result<Asked, Misread> {
     match stream {
         "source" => Ok(Asked::Source),
-        "sink" => Ok(Asked::Sink),
+        "sink" => Ok(Asked::Sink(u64::MAX)),
+        _ => Err(Misread::NotUnderstood),
+    }
+}
+
+/// The sweep over the sink's last so many calls.
+fn last_sweep(stream: &str, calls: u64) -> Result<Asked, Misread> {
+    match stream {
+        "sink" => Ok(Asked::Sink(calls)),
         _ => Err(Misread::NotUnderstood),
     }
 }

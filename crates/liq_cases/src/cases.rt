@@ -1,9 +1,11 @@
 //! The cases of a file.
 
+use crate::disks::Disks;
+use crate::performing::perform;
+use crate::stage::Stage;
 use liq_casefiles::{
     Block, Misread, Run, Told, counted, is_change, number, put_words, set, side_of,
 };
-use liq_caseruns::{Disks, Stage, perform};
 use std::alloc::{AllocError, Global};
 use std::sync::Wait;
 use std::thread::Threads;

@@ -1,9 +1,24 @@
 //! Runs cases: whole runs of liq, written down in readable files. `liq_cases FILE ..` prints a line for each file, with how many cases it
-//! has, and a line for each difference between what a case says and what comes. The form of a case is told in docs/CASES.md.
+//! has, and a line for each difference between what a case says and what comes. The form of a case is told in docs/CASES.md. The last
+//! line is that of a few runs that no file asks for.
 #![tactic(auto)]
 
+mod beside;
 mod cases;
+mod devices;
+mod disks;
+mod facts;
+mod forged;
+mod performing;
+mod runs;
+mod sessions;
+mod sink;
+mod stage;
+mod stops;
+mod sweeps;
+mod waiting;
 
+use beside::tell_beside;
 use cases::tell_file;
 use std::{env, fs, io};
 
@@ -13,5 +28,6 @@ fn main(rt: HostRuntime) -> io::Result<()> {
         let told = tell_file(&rt, rt.alloc(), name, text.as_str())?;
         print!(rt; "{told}")?;
     }
-    Ok(())
+    let told = tell_beside(&rt, rt.alloc())?;
+    print!(rt; "{told}")
 }

@@ -2,7 +2,9 @@
 
 mod again;
 mod checks;
+mod commands;
 mod followed;
 mod full_journal;
+mod reviews;
 mod runs;
 mod stores;

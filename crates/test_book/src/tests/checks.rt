@@ -2,6 +2,11 @@
 
 use std::process::Abort;
 
+/// Stops the test where the number is not the one that is wanted.
+pub fn same(rt: &impl Abort, got: u64, want: u64, what: &str) {
+    assert_eq!(rt; got, want, "{what}");
+}
+
 /// Stops the test where this does not hold.
 pub fn shows(rt: &impl Abort, what: &str, holds: bool) {
     assert!(rt; holds, "{what}");

@@ -1,16 +1,21 @@
 //! As many lines of sessions as are answered.
 
 use crate::tests::checks::{NOWHERE, same};
-use crate::tests::limit::{LINES, repeated};
 use liq_outside::MemorySource;
 use liq_scripts::{Stop, read_scripts};
 use liq_sessions::Script;
 use std::alloc::{AllocError, Global};
 use std::test::Fail;
 
+/// As many lines as there may be.
+const LINES: usize = 1_000_000;
+
 // So many lines of the third session, and the first byte of one more.
 fn long_input(alloc: Global) -> Result<Vec<u8>, AllocError> {
-    let mut bytes = repeated(alloc, b"3 ? pools\n")?;
+    let mut bytes = Vec::new(alloc);
+    for _ in 0..LINES {
+        bytes.extend_from_slice(b"3 ? pools\n")?;
+    }
     bytes.push(b'?')?;
     Ok(bytes)
 }

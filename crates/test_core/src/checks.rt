@@ -1,0 +1,11 @@
+//! What stops a test.
+
+use std::process::Abort;
+
+/// Where nothing is found.
+pub const NOWHERE: u64 = u64::MAX;
+
+/// Stops the test where the number is not the one that is wanted.
+pub fn same(rt: &impl Abort, got: u64, want: u64, what: &str) {
+    assert_eq!(rt; got, want, "{what}");
+}

@@ -1,5 +1,0 @@
-use Rattle.test_text.proofs.Held.{at_start}
-use Rattle.test_text.proofs.tests.full.run_two_over.Goals as goal
-
-pub run_two-requires-clause-origin : goal.run_two-requires-clause-origin
-run_two-requires-clause-origin g c κs within = at_start _ _ _ _ c.args.store (rw c.protocol.ensures at c.protocols_stand.ensures)

@@ -1,7 +1,0 @@
-use Rattle.liq_book.specs.Seats.{IsSeatOf}
-use Rattle.liq_book.proofs.Gathering.{all_with}
-use Rattle.test_text.proofs.tests.seats.call_by_last.Goals as goal
-
-pub returns : goal.returns
-returns g c =
-    all_with (IsSeatOf c.args.service.now) _ _ _ c.put_back.ensures c.part-seats.ensures.others c.call-seat.ensures.own
