@@ -1,0 +1,21 @@
+use Rattle.std.proofs.Common.{◌≡◌, Option, length, sym, subst}
+use Rattle.liq_types.specs.State.{State}
+use Rattle.liq_core.specs.Core.{StandsFor}
+use Rattle.liq_market.specs.Content.{Content}
+use Rattle.liq_batch.specs.declared.batch.Batch.{Batch}
+use Rattle.liq_batch.specs.Numbering.{Numbers}
+use Rattle.liq_c.specs.Statuses.{Ends}
+use Rattle.liq_c.proofs.batches.liq_next.Goals as goal
+
+pub returns : goal.returns
+returns c =
+    let leaves = λ (m after : Content) (batch : Batch). (s : State) → StandsFor m.core s → Numbers s c.args.commands.now c.next_all-batch.new.commands batch after.core c.args.replies.now c.next_all-batch.new.replies in
+    subst (λ (old : Option Content). Ends old c.of.result.inside.held (length c.args.commands.now) c.of-2.result ((c.next_all-batch.new.replies ≡ c.args.replies.now) × (c.next_all-batch.new.commands ≡ c.args.commands.now)) leaves) (sym c.in-Some.ensures.took) (
+      c.next_all-batch.new.market,
+      c.of.ensures,
+      (
+        c.next_all-batch.result,
+        c.of-2.ensures,
+        subst (λ (m : Content). leaves m c.next_all-batch.new.market c.next_all-batch.result) c.deref_mut.ensures.value c.next_all-batch.ensures,
+      ),
+    )

@@ -1,0 +1,45 @@
+-- How a call ends, for C.
+use Rattle.std.specs.Prelude.{◌≡◌, ℕ, nat_lt, Option, Some, None, if◌then◌else◌}
+use Rattle.liq_market.specs.Content.{Content}
+use Rattle.liq_batch.specs.declared.batch.Batch.{Batch}
+use Rattle.liq_batch.specs.declared.batch.Fault.{Fault}
+use Rattle.liq_batch.specs.declared.batch.Fault.TheVariants as faults
+use Rattle.liq_batch.specs.declared.lines.Lines.{Lines}
+use Rattle.liq_batch.specs.declared.lines.LineFault.{LineFault}
+use Rattle.liq_batch.specs.declared.lines.LineFault.TheVariants as line_faults
+use Rattle.liq_c.specs.declared.statuses.Done.{Done}
+use Rattle.liq_c.specs.declared.statuses.TextDone.{TextDone}
+use Rattle.liq_c.specs.declared.statuses.TheConstants.{OK, NO_MARKET, NO_MEMORY, BAD, SHORT}
+
+-- of so many items, where there is no fault
+abbrev pub status_of : (done items : ℕ) → Option Fault → ℕ
+status_of done items None = if nat_lt done items then SHORT else OK
+status_of done items (Some (faults.Bad place)) = BAD
+status_of done items (Some faults.NoMemory) = NO_MEMORY
+
+abbrev pub told : Batch → ℕ → Done
+told batch items = record { done = batch.done; status = status_of batch.done items batch.fault }
+
+abbrev pub line_status : Option LineFault → ℕ
+line_status None = OK
+line_status (Some line_faults.Short) = SHORT
+line_status (Some line_faults.Bad) = BAD
+line_status (Some line_faults.NoMemory) = NO_MEMORY
+
+abbrev pub told_text : Lines → TextDone
+told_text lines = record { taken = lines.taken; written = lines.written; status = line_status lines.fault }
+
+-- A call that answers a batch of so many items. Without a market it does nothing; else it tells how the batch ended, and the
+-- batch leaves the market that is then in the place.
+abbrev pub Ends : (old new : Option Content) → (items : ℕ) → Done → Type 0 → (Content → Content → Batch → Type 0) → Type 0
+Ends None new items result Unwritten Leaves =
+    (result ≡ record { done = 0; status = NO_MARKET }) × (new ≡ None) × Unwritten
+Ends (Some m) new items result Unwritten Leaves =
+    (after : Content) × (new ≡ Some after) × ((batch : Batch) × (result ≡ told batch items) × Leaves m after batch)
+
+-- the same of a text
+abbrev pub EndsText : (old new : Option Content) → TextDone → Type 0 → (Content → Content → Lines → Type 0) → Type 0
+EndsText None new result Unwritten Leaves =
+    (result ≡ record { taken = 0; written = 0; status = NO_MARKET }) × (new ≡ None) × Unwritten
+EndsText (Some m) new result Unwritten Leaves =
+    (after : Content) × (new ≡ Some after) × ((lines : Lines) × (result ≡ told_text lines) × Leaves m after lines)
