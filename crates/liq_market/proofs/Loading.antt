@@ -10,5 +10,8 @@ none_of (Some rule) never = absurd (never rule refl)
 
 -- an image that was read from the checkpoint of a save
 module _ (bytes : List ℕ) (records : ℕ) (checkpoint : List ℕ) (image : Image) where
-  pub save_is : HasCheckpoint image → records < 2 ^ 64 → bytes ≡ sealed (told_with records checkpoint) → checkpoint ≡ spelling image → IsSave bytes image records
-  save_is form fits is read = record { form = form; count = fits; spelled = is ∙ ap (λ (l : List ℕ). sealed (told_with records l)) read }
+  pub save_is :
+      HasCheckpoint image → records < 2 ^ 64 → bytes ≡ sealed (told_with records checkpoint)
+      → checkpoint ≡ spelling image → IsSave bytes image records
+  save_is form fits is read =
+      record { form = form; count = fits; spelled = is ∙ ap (λ (l : List ℕ). sealed (told_with records l)) read }

@@ -1,5 +1,6 @@
 -- A save taken apart.
-use Rattle.std.proofs.Common.{◌≡◌, ℕ, ◌+◌, ◌-◌, ◌<◌, ◌≤◌, ◌^◌, List, [], ◌∷◌, ◌++◌, length, take, drop, Ok, refl, sym, ap, ◌∙◌, append_assoc, arith}
+use Rattle.std.proofs.Common.{◌≡◌, ℕ, ◌+◌, ◌-◌, ◌<◌, ◌≤◌, ◌^◌, List, [], ◌∷◌, ◌++◌, length, take, drop}
+use Rattle.std.proofs.Common.{Ok, refl, sym, ap, ◌∙◌, append_assoc, arith}
 use Rattle.std.proofs.lemmas.Bool.{le-ltb}
 use Rattle.std.proofs.lemmas.List.{append-nil, drop_at, length-append, length-drop, take-append-drop, take_at}
 use Rattle.byteorder.specs.Endian.{big_bytes, big_number}
@@ -16,7 +17,9 @@ pub length-digest : (told : List ℕ) → length (digest told) ≡ 32
 unfolding digest
 length-digest told = length-sha256 told
 
-pub sealed_is : (bytes : List ℕ) (n : ℕ) (told sum : List ℕ) → told ≡ take n bytes → sum ≡ drop n bytes → sum ≡ digest told → bytes ≡ sealed told
+pub sealed_is :
+    (bytes : List ℕ) (n : ℕ) (told sum : List ℕ) → told ≡ take n bytes → sum ≡ drop n bytes → sum ≡ digest told
+    → bytes ≡ sealed told
 sealed_is bytes n told sum front back is =
     sym (take-append-drop n bytes) ∙ (λ i. sym front i ++ sym back i) ∙ ap (λ (l : List ℕ). told ++ l) is
 
@@ -53,18 +56,23 @@ number_front at fits long =
 
 -- ---- the name, the records and the checkpoint
 
-pub told_put : (records : ℕ) (checkpoint : List ℕ) → (name ++ big_bytes 8 records) ++ checkpoint ≡ told_with records checkpoint
+pub told_put :
+    (records : ℕ) (checkpoint : List ℕ)
+    → (name ++ big_bytes 8 records) ++ checkpoint ≡ told_with records checkpoint
 unfolding told_with
 told_put records checkpoint = append_assoc name (big_bytes 8 records) checkpoint
 
-pub told_is : (told front rest : List ℕ) → IsBytes told → 16 ≤ length told → front ≡ take 8 told → rest ≡ drop 8 told → front ≡ name → told ≡ told_with (big_number 8 rest) (drop 8 rest)
+pub told_is :
+    (told front rest : List ℕ) → IsBytes told → 16 ≤ length told → front ≡ take 8 told → rest ≡ drop 8 told
+    → front ≡ name → told ≡ told_with (big_number 8 rest) (drop 8 rest)
 unfolding told_with
 told_is told front rest fits long front_is rest_is named =
     let behind = length-drop 8 told in
     let number = number_front (drop 8 told) (IsBytes-drop 8 told fits) (omega (arith, behind, long)) in
     sym (take-append-drop 8 told)
     ∙ ap (λ (l : List ℕ). l ++ drop 8 told) (sym front_is ∙ named)
-    ∙ ap (λ (l : List ℕ). name ++ l) (number ∙ ap (λ (l : List ℕ). big_bytes 8 (big_number 8 l) ++ drop 8 l) (sym rest_is))
+    ∙ ap (λ (l : List ℕ). name ++ l) number
+    ∙ ap (λ (l : List ℕ). name ++ big_bytes 8 (big_number 8 l) ++ drop 8 l) (sym rest_is)
 
 pub record Parts (told : List ℕ) (records : ℕ) (checkpoint : List ℕ) : Type 0 where
   pub long : 16 ≤ length told
@@ -72,7 +80,9 @@ pub record Parts (told : List ℕ) (records : ℕ) (checkpoint : List ℕ) : Typ
   pub count : big_number 8 (drop 8 told) ≡ records
   pub rest : drop 8 (drop 8 told) ≡ checkpoint
 
-pub parts_of : (told : List ℕ) (records : ℕ) (checkpoint : List ℕ) → records < 2 ^ 64 → told ≡ told_with records checkpoint → Parts told records checkpoint
+pub parts_of :
+    (told : List ℕ) (records : ℕ) (checkpoint : List ℕ) → records < 2 ^ 64 → told ≡ told_with records checkpoint
+    → Parts told records checkpoint
 unfolding told_with
 parts_of told records checkpoint small is =
     let number = length-bytes_high_first 8 records in

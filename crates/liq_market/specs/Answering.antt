@@ -1,7 +1,8 @@
 -- What a market answers.
-use Rattle.std.specs.Prelude.{◌≡◌, Result, Ok, Err}
+use Rattle.std.specs.Prelude.{◌≡◌, ℕ, Result, Ok, Err}
 use Rattle.liq_types.specs.declared.replies.NoMemory.{NoMemory}
 use Rattle.liq_types.specs.declared.replies.Reply.{Reply}
+use Rattle.liq_types.specs.declared.requests.Call.{Call}
 use Rattle.liq_types.specs.declared.requests.Command.{Command}
 use Rattle.liq_types.specs.declared.requests.Request.{Request}
 use Rattle.liq_types.specs.declared.requests.Request.TheVariants.{Do}
@@ -11,7 +12,12 @@ use Rattle.liq_rules.specs.Lists.{PlansList}
 use Rattle.liq_rules.specs.Memory.{TakesMemory}
 use Rattle.liq_rules.specs.Step.{step}
 
--- The reply of the step, and the state after it. Or all is as before, where memory may be asked for the request.
+-- a call as a command of a client, under this number
+abbrev pub numbered : ℕ → ℕ → Call → Request
+numbered client number call = Do (record { client = client; number = number; call = call })
+
+-- The reply of the step, and the state after it. Or all is as before, where memory may be asked for the
+-- request.
 abbrev pub Answers : State → Request → Result Reply NoMemory → Core → Type 0
 Answers s request (Ok reply) core = StandsFor core (step s request).0 × ((step s request).1 ≡ reply)
 Answers s request (Err none) core = StandsFor core s × TakesMemory s request

@@ -3,7 +3,8 @@ use Rattle.std.specs.Prelude.{ℕ, List}
 use Rattle.std.specs.Map.{keys_of}
 use Rattle.liq_types.specs.Ranked.{from_last}
 use Rattle.liq_market.specs.declared.lists.AccountList.{AccountList}
-use Rattle.liq_market.specs.declared.lists.AccountList.TheVariants.{Troves, Deposits, Wallets, Touched}
+use Rattle.liq_market.specs.declared.lists.AccountList.TheVariants.{Troves, Deposits}
+use Rattle.liq_market.specs.declared.lists.AccountList.TheVariants.{Wallets, Touched}
 use Rattle.liq_market.specs.Content.{Content}
 
 abbrev pub accounts_in : AccountList → Content → List ℕ

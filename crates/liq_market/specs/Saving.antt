@@ -37,10 +37,12 @@ pub record IsSave (bytes : List ℕ) (i : Image) (records : ℕ) : Type 0 where
 
 -- ---- loading
 
--- of the save of an image beside its records: the market of a sound one, else the first rule that it breaks
+-- Of the save of an image beside its records: the market of a sound one, else the first rule that it
+-- breaks.
 abbrev pub LoadsAs : Image → ℕ → Result Content LoadFault → Type 0
 LoadsAs i records (Ok market) =
-    (market.core.image ≡ i) × (market.core.records ≡ records) × (market.touched ≡ []) × (first_unsound i records ≡ None)
+    (market.core.image ≡ i) × (market.core.records ≡ records) × (market.touched ≡ [])
+    × (first_unsound i records ≡ None)
 LoadsAs i records (Err Damaged) = ⊥
 LoadsAs i records (Err (Unsound rule)) = first_unsound i records ≡ Some rule
 LoadsAs i records (Err NoMemory) = Unit {0}

@@ -1,5 +1,6 @@
 -- Whom a command touches.
-use Rattle.std.specs.Prelude.{ℕ, ◌==◌, ◌++◌, Bool, not, List, filter, filter_map, Option, Some, None, if◌then◌else◌}
+use Rattle.std.specs.Prelude.{ℕ, ◌==◌, ◌++◌, Bool, not, if◌then◌else◌, List, filter, filter_map}
+use Rattle.std.specs.Prelude.{Option, Some, None}
 use Rattle.std.specs.List.{list_any}
 use Rattle.liq_types.specs.declared.events.ListChange.{ListChange}
 use Rattle.liq_types.specs.declared.events.ListChange.TheVariants.{Put, Gone, Words}
@@ -29,5 +30,6 @@ touched call changes = accounts call ++ others (accounts call) changes
 
 -- whom the last accepted command touched, after a request
 abbrev pub touched_after : State → Request → List ℕ → List ℕ
-touched_after s (Do c) before = if is_allowed (ruling s c) then touched c.call (call_changes s c.call) else before
+touched_after s (Do c) before =
+    if is_allowed (ruling s c) then touched c.call (call_changes s c.call) else before
 touched_after s (Ask q) before = before

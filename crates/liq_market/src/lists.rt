@@ -17,8 +17,8 @@ pub enum AccountList {
     Deposits,
     /// Those whose wallets hold anything, ascending.
     Wallets,
-    /// Those that the last command touched of those that were accepted: whom its call names, in the order of its words, and then
-    /// the others whose troves it moved in their order or closed.
+    /// Those that the last command touched of those that were accepted: whom its call names, in the
+    /// order of its words, and then the others whose troves it moved in their order or closed.
     Touched,
 }
 

@@ -1,6 +1,7 @@
 //! A market in memory.
 
-ghost use Rattle.std.specs.Prelude.{◌≡◌, ◌↔◌, ◌⊎◌, ℕ, [], drop, length, IfOk, OnOk, OnErr, Err, Some};
+ghost use Rattle.std.specs.Prelude.{◌≡◌, ◌↔◌, ◌⊎◌, ℕ, [], drop, length, Err, Some};
+ghost use Rattle.std.specs.Prelude.{IfOk, OnOk, OnErr};
 ghost use Rattle.liq_types.specs.declared.image.Image.{Image as image};
 ghost use Rattle.liq_types.specs.declared.requests.Request.TheVariants.{Do, Ask};
 ghost use Rattle.liq_types.specs.Soundness.{HasTables, first_unsound};
@@ -11,7 +12,7 @@ ghost use Rattle.liq_core.specs.declared.image.ImageFault.TheVariants as unloade
 ghost use Rattle.liq_core.specs.Entries.{laid};
 ghost use Rattle.liq_market.specs.declared.lists.AccountList.TheVariants.{Deposits, Wallets};
 ghost use Rattle.liq_market.specs.declared.load_fault.LoadFault.TheVariants.{Unsound};
-ghost use Rattle.liq_market.specs.Answering.{Answers, Previews};
+ghost use Rattle.liq_market.specs.Answering.{Answers, Previews, numbered};
 ghost use Rattle.liq_market.specs.Content.{IsSame};
 ghost use Rattle.liq_market.specs.Lists.{accounts_in};
 ghost use Rattle.liq_market.specs.Saving.{IsSave, IsUnsoundSave, LoadsAs, saved};
@@ -70,8 +71,8 @@ impl Market {
         }
     }
 
-    /// Answers a request by the rules. `NoMemory` comes only for a command that the rules allow or for which a list of troves is
-    /// planned; then nothing changes.
+    /// Answers a request by the rules. `NoMemory` comes only for a command that the rules allow or for
+    /// which a list of troves is planned; then nothing changes.
     pub fn answer(&mut self, request: &Request) -> Result<Reply, NoMemory>
         ensures answered { (s : State) → StandsFor self.old.core s
             → Answers s request.now result self.new.core }
@@ -90,9 +91,9 @@ impl Market {
         ensures number { (s : State) → StandsFor self.old.core s
             → result.0 ≡ next_number s client }
         ensures answered { (s : State) → StandsFor self.old.core s
-            → Answers s (Do (record { client = client; number = result.0; call = call.now })) result.1 self.new.core }
-        ensures touched { (s : State) → StandsFor self.old.core s
-            → OnOk result.1 (self.new.touched ≡ touched_after s (Do (record { client = client; number = result.0; call = call.now })) self.old.touched) }
+            → Answers s (numbered client result.0 call.now) result.1 self.new.core }
+        ensures touched { (s : State) → StandsFor self.old.core s → OnOk result.1 (self.new.touched
+            ≡ touched_after s (numbered client result.0 call.now) self.old.touched) }
         ensures err { OnErr result.1 (IsSame self.old self.new) }
     {
         let number = self.guided.protocol().next_number(client);
@@ -111,7 +112,8 @@ impl Market {
         self.guided.query(query)
     }
 
-    /// The reply that a command would have now, which is not carried out. Only a list of troves that is planned may find no memory.
+    /// The reply that a command would have now, which is not carried out. Only a list of troves that is
+    /// planned may find no memory.
     pub fn preview(&self, command: &Command) -> Result<Reply, NoMemory>
         ensures { (s : State) → StandsFor self.now.core s → Previews s command.now result }
     {
@@ -123,8 +125,8 @@ impl Market {
         }
     }
 
-    /// Another market with the same image, the same records and the same list. From then on each goes its own way. The fork has
-    /// touched nobody yet.
+    /// Another market with the same image, the same records and the same list. From then on each goes its
+    /// own way. The fork has touched nobody yet.
     pub fn fork(&self, alloc: Global) -> Result<Market, NoMemory>
         ensures same { IfOk result (λ fork. SameContent self.now.core fork.core) }
         ensures untouched { IfOk result (λ fork. fork.touched ≡ []) }
@@ -152,10 +154,11 @@ impl Market {
         AROUND + protocol.checkpoint_length()
     }
 
-    /// Its save: bytes that [`Market::load`] makes the same market of. Markets with the same image and the same records have the
-    /// same bytes.
+    /// Its save: bytes that [`Market::load`] makes the same market of. Markets with the same image and the
+    /// same records have the same bytes.
     pub fn save(&self, alloc: Global) -> Result<Vec<u8>, NoMemory>
-        ensures { IfOk result (λ bytes. bytes.items ≡ saved self.now.core.image self.now.core.records) }
+        ensures { IfOk result (λ bytes. bytes.items
+            ≡ saved self.now.core.image self.now.core.records) }
     {
         let protocol = self.guided.protocol();
         protocols_are_sound(protocol);
@@ -167,7 +170,8 @@ impl Market {
     /// The market of a save. What is loaded may have no history: any sound image has a save.
     pub fn load(alloc: Global, bytes: &[u8]) -> Result<Market, LoadFault>
         ensures found { IfOk result (λ m. IsSave bytes.now m.core.image m.core.records) }
-        ensures save { (i : image) (records : ℕ) → IsSave bytes.now i records → LoadsAs i records result }
+        ensures save { (i : image) (records : ℕ) → IsSave bytes.now i records
+            → LoadsAs i records result }
         ensures unsound { (rule : ℕ) → result ≡ Err (Unsound rule) → IsUnsoundSave bytes.now rule }
     {
         let Some((records, checkpoint)) = opened(bytes) else {
@@ -185,8 +189,9 @@ impl Market {
         }
     }
 
-    /// Writes the accounts of a list into places, but not the first `passed` of them: as many as there are places for. The other
-    /// places stay. Tells how many accounts the list has. Deposits and wallets may find no memory, and nothing is written then.
+    /// Writes the accounts of a list into places, but not the first `passed` of them: as many as there are
+    /// places for. The other places stay. Tells how many accounts the list has. Deposits and wallets may
+    /// find no memory, and nothing is written then.
     pub fn accounts(
         &self,
         list: AccountList,
@@ -194,8 +199,10 @@ impl Market {
         places: &mut [u32],
     ) -> Result<u64, NoMemory>
         ensures count { IfOk result (λ count. count ≡ length (accounts_in list self.now)) }
-        ensures written { OnOk result (places.new ≡ laid (drop passed (accounts_in list self.now)) places.old) }
-        ensures err { OnErr result ((places.new ≡ places.old) × ((list ≡ Deposits) ⊎ (list ≡ Wallets))) }
+        ensures written { OnOk result (places.new
+            ≡ laid (drop passed (accounts_in list self.now)) places.old) }
+        ensures stays { OnErr result (places.new ≡ places.old) }
+        ensures err { OnErr result ((list ≡ Deposits) ⊎ (list ≡ Wallets)) }
     {
         let protocol = self.guided.protocol();
         match list {
@@ -225,7 +232,8 @@ impl Market {
         ensures image { IfOk result (λ m. m.core.image ≡ image) }
         ensures records { IfOk result (λ m. m.core.records ≡ records) }
         ensures untouched { IfOk result (λ m. m.touched ≡ []) }
-        ensures unsound { (rule : ℕ) → (result ≡ Err (unloaded.Unsound rule)) ↔ (first_unsound image records ≡ Some rule) }
+        ensures unsound { (rule : ℕ) → (result ≡ Err (unloaded.Unsound rule))
+            ↔ (first_unsound image records ≡ Some rule) }
     {
         let protocol = match Protocol::from_image_at(alloc, image, records) {
             Ok(protocol) => protocol,

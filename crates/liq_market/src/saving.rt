@@ -1,7 +1,8 @@
-//! The bytes of a save: a name, the count of the records, the image as a checkpoint spells it, and the SHA-256 of all that is before
-//! it.
+//! The bytes of a save: a name, the count of the records, the image as a checkpoint spells it, and the
+//! SHA-256 of all that is before it.
 
 ghost use Rattle.std.specs.Prelude.{◌≡◌, ◌<◌, ◌^◌, ℕ, List, IfOk, IfSome, IsSomeAnd};
+ghost use Rattle.std.specs.Str.{bytes_eq};
 ghost use Rattle.liq_market.specs.Saving.{digest, sealed, told_with};
 
 use byteorder::{BigEndian, ByteOrder};
@@ -50,16 +51,24 @@ pub(crate) fn opened(bytes: &[u8]) -> Option<(u64, &[u8])>
 /// What stands in front of a digest that is its own.
 fn unsealed(bytes: &[u8]) -> Option<&[u8]>
     ensures found { IfSome result (λ told. bytes.now ≡ sealed told.now) }
-    ensures only { (told : List ℕ) → bytes.now ≡ sealed told → IsSomeAnd result (λ r. r.now ≡ told) }
+    ensures only { (told : List ℕ) → bytes.now ≡ sealed told
+        → IsSomeAnd result (λ r. r.now ≡ told) }
 {
     if bytes.len() < DIGEST {
         return None;
     }
     let (told, digest) = bytes.split_at(bytes.len() - DIGEST);
-    if digest != digest_of(told).as_slice() {
+    if !is_digest(told, digest) {
         return None;
     }
     Some(told)
+}
+
+/// Whether these bytes are the digest of what is told.
+fn is_digest(told: &[u8], bytes: &[u8]) -> bool
+    ensures { result ≡ bytes_eq bytes.now (digest told.now) }
+{
+    bytes == digest_of(told).as_slice()
 }
 
 /// The records, and the checkpoint behind them, of what begins with the name of a save.

@@ -52,7 +52,8 @@ fn accounts(alloc: Global, call: &Call) -> Result<Vec<u32>, NoMemory>
 /// Adds the account that a change moves, where it moves one that is not among the first ones.
 fn add_moved(all: &mut Vec<u32>, named: usize, change: &ListChange) -> Result<(), NoMemory>
     requires { named ≤ length all.old.items }
-    ensures { OnOk result (all.new.items ≡ all.old.items ++ others (take named all.old.items) (change.now ∷ [])) }
+    ensures { OnOk result (all.new.items
+        ≡ all.old.items ++ others (take named all.old.items) (change.now ∷ [])) }
 {
     let Some(account) = moved(change) else {
         return Ok(());

@@ -23,15 +23,19 @@ returns-then-told-lt-FRONT-clause-only c records checkpoint small is =
 
 pub returns-then-ne-clause-only : goal.returns-then-ne-clause-only
 returns-then-ne-clause-only c records checkpoint small is =
-    let same = c.split_at.ensures.front ∙ (parts_of c.args.told.now records checkpoint small is).named ∙ sym c.as_slice.ensures in
-    clash (bytes_eq c.split_at.result.0.now c.as_slice.result.now) ((bytes_eq-Decides _ _).1 same) (sym c.ne.ensures ∙ c.if-ne.true)
+    let named = (parts_of c.args.told.now records checkpoint small is).named in
+    let same = c.split_at.ensures.front ∙ named ∙ sym c.as_slice.ensures in
+    let test = bytes_eq c.split_at.result.0.now c.as_slice.result.now in
+    clash test ((bytes_eq-Decides _ _).1 same) (sym c.ne.ensures ∙ c.if-ne.true)
 
 pub returns-clause-found : goal.returns-clause-found
 returns-clause-found c =
     let rest = c.split_at.result.1.now in
-    let named = (bytes_eq-Decides _ _).0 (of_not (bytes_eq c.split_at.result.0.now c.as_slice.result.now) (sym c.ne.ensures ∙ c.if-ne.false)) ∙ c.as_slice.ensures in
+    let test = bytes_eq c.split_at.result.0.now c.as_slice.result.now in
+    let named = (bytes_eq-Decides _ _).0 (of_not test (sym c.ne.ensures ∙ c.if-ne.false)) ∙ c.as_slice.ensures in
     let long = c.if-told-lt-FRONT.false in
-    told_is c.args.told.now c.split_at.result.0.now rest (λ i. omega (arith, c.type_inv.told i)) (omega (arith, long)) c.split_at.ensures.front c.split_at.ensures.back named
+    told_is c.args.told.now c.split_at.result.0.now rest (λ i. omega (arith, c.type_inv.told i)) (omega (arith, long))
+    c.split_at.ensures.front c.split_at.ensures.back named
     ∙ (λ i. told_with (sym c.read_u64.ensures i) (sym (take_rest rest 8) i))
 
 pub returns-clause-only : goal.returns-clause-only

@@ -6,7 +6,8 @@ pub loop-change-preserved : goal.loop-change-preserved
 loop-change-preserved c =
     record {
       all =
-          moves_on (accounts c.args.call.now) c.loop-change.all.items c.add_moved.new.all.items c.len-named.result c.args.changes.now c.loop-change.change-index _
+          moves_on (accounts c.args.call.now) c.loop-change.all.items c.add_moved.new.all.items c.len-named.result
+          c.args.changes.now c.loop-change.change-index _
           c.loop-change-test.true c.loop-change.invariant.all c.loop-change.invariant.named c.in_ok-add_moved.ensures;
       named = c.loop-change.invariant.named;
     }

@@ -8,9 +8,13 @@ pub returns-in-Ok-clause-same : goal.returns-in-Ok-clause-same
 returns-in-Ok-clause-same c =
     let old = c.protocol-protocol.result.now in
     let new = c.protocol.result.now in
-    let old_is : old ≡ c.args.self.now.core = c.protocol-protocol.ensures ∙ ap (λ (m : Content). m.core) c.self.view_is in
+    let old_is : old ≡ c.args.self.now.core =
+    c.protocol-protocol.ensures ∙ ap (λ (m : Content). m.core) c.self.view_is in
     let new_is : new ≡ c.in-Ok.fork.core = c.protocol.ensures ∙ ap (λ (m : Content). m.core) c.fork.view_is in
-    let image : new.image ≡ old.image = ap (λ (k : Core). k.image) new_is ∙ c.in-Ok.ensures.image ∙ c.in_ok-image.ensures.image in
-    let records : new.records ≡ old.records = ap (λ (k : Core). k.records) new_is ∙ c.in-Ok.ensures.records ∙ c.records.ensures in
-    let same = same_content old new image records c.protocols_stand.ensures c.lists_stand.ensures c.lists_stand-in-Ok.ensures in
+    let image : new.image ≡ old.image =
+    ap (λ (k : Core). k.image) new_is ∙ c.in-Ok.ensures.image ∙ c.in_ok-image.ensures.image in
+    let records : new.records ≡ old.records =
+    ap (λ (k : Core). k.records) new_is ∙ c.in-Ok.ensures.records ∙ c.records.ensures in
+    let same = same_content old new image records c.protocols_stand.ensures
+    c.lists_stand.ensures c.lists_stand-in-Ok.ensures in
     subst (λ (k : Core). SameContent k c.in-Ok.fork.core) old_is (subst (λ (k : Core). SameContent old k) new_is same)

@@ -19,7 +19,8 @@ pub returns-in-Ok-at-clause-save : goal.returns-in-Ok-at-clause-save
 returns-in-Ok-at-clause-save c i records save =
     let parts = c.in-Some.ensures.only records (spelling i) save.count save.spelled in
     let image = the (c.in-Ok.ensures.only i save.form parts.1) in
-    let rules = none_of (first_unsound c.in-Ok.image c.in-Some.records) (λ rule e. never (sym c.in-Ok-at.is ∙ (c.at.ensures.unsound rule).1 e)) in (
+    let rules = none_of (first_unsound c.in-Ok.image c.in-Some.records)
+    (λ rule e. never (sym c.in-Ok-at.is ∙ (c.at.ensures.unsound rule).1 e)) in (
       c.in-Ok-at.ensures.image ∙ sym image,
       c.in-Ok-at.ensures.records ∙ parts.0,
       c.in-Ok-at.ensures.untouched,
@@ -30,17 +31,20 @@ pub returns-in-Err-Unsound-clause-save : goal.returns-in-Err-Unsound-clause-save
 returns-in-Err-Unsound-clause-save c i records save =
     let parts = c.in-Some.ensures.only records (spelling i) save.count save.spelled in
     let image = the (c.in-Ok.ensures.only i save.form parts.1) in
-    let broken = (c.in-Err-Unsound.ensures.unsound c.in-Err-Unsound.rule).0 (λ k. Err (c.in-Err-Unsound.field-0-is k)) in
+    let broken = (c.in-Err-Unsound.ensures.unsound c.in-Err-Unsound.rule).0
+    (λ k. Err (c.in-Err-Unsound.field-0-is k)) in
     (λ k. first_unsound (image k) (sym parts.0 k)) ∙ broken
 
 pub returns-in-Err-Unsound-clause-unsound : goal.returns-in-Err-Unsound-clause-unsound
 returns-in-Err-Unsound-clause-unsound c rule same =
-    let broken = (c.in-Err-Unsound.ensures.unsound c.in-Err-Unsound.rule).0 (λ k. Err (c.in-Err-Unsound.field-0-is k)) in
+    let broken = (c.in-Err-Unsound.ensures.unsound c.in-Err-Unsound.rule).0
+    (λ k. Err (c.in-Err-Unsound.field-0-is k)) in
     record {
       image = c.in-Ok.image;
       records = c.in-Some.records;
       save =
-          save_is c.args.bytes.now c.in-Some.records c.in-Some.checkpoint.now c.in-Ok.image c.in-Ok.ensures.found.0 c.in-Some.ensures.fits
+          save_is c.args.bytes.now c.in-Some.records c.in-Some.checkpoint.now c.in-Ok.image
+          c.in-Ok.ensures.found.0 c.in-Some.ensures.fits
           c.in-Some.ensures.found c.in-Ok.ensures.found.1;
       broken = broken ∙ ap Some (the_rule same);
     }

@@ -14,7 +14,8 @@ pub returns : goal.returns
 returns c =
     let core = c.args.self.now.core in
     let told = told_with core.records (spelling core.image) in
-    let is : c.protocol-protocol.result.now ≡ core = c.protocol-protocol.ensures ∙ ap (λ (m : Content). m.core) c.self.view_is in
+    let is : c.protocol-protocol.result.now ≡ core =
+    c.protocol-protocol.ensures ∙ ap (λ (m : Content). m.core) c.self.view_is in
     let tables = subst (λ (k : Core). HasTables k.image) is c.protocols_are_sound.ensures.tables in
     let all = length-append told (digest told) in
     let sum = length-digest told in
