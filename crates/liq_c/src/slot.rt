@@ -9,6 +9,7 @@ use crate::loose::Loose;
 use crate::marks::OPEN;
 use liq_market::Market;
 use std::alloc::Global;
+use std::marker::Send;
 
 /// Where it is all zero, no market is in it.
 #[repr(C)]
@@ -26,6 +27,13 @@ impl Drop for Slot {
         drop(self.into_market());
     }
 }
+
+// C may hand a place to another thread. That its type allows it is proved for this call.
+fn goes_to_another_thread(slot: &Slot) {
+    wants_send(slot);
+}
+
+fn wants_send<T: Send>(_: &T) {}
 
 impl Slot {
     /// A place without a market.
