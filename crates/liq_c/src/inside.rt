@@ -2,7 +2,7 @@
 
 ghost use Rattle.std.specs.Prelude.{◌≡◌, true, Option, Some, None};
 ghost use Rattle.std.specs.Coded.{coded_option};
-ghost use Rattle.libc.specs.Heap.{chunk};
+ghost use Rattle.std_heap.specs.contracts.GlobalAllocator.TheImpl.{ghosts};
 ghost use Rattle.liq_market.specs.Content.{Content};
 ghost use Rattle.liq_market.specs.contracts.market.Market.{the_row as market};
 ghost use Rattle.liq_c.specs.Held.{holds, is_full};
@@ -22,7 +22,7 @@ pub struct Inside {
 }
 
 impl Model for Inside {
-    ghost also_owns = { λ l. holds chunk market l.at l.held };
+    ghost also_owns = { λ l. holds (ghosts.dealloc_token l.alloc) market l.at l.held };
 }
 
 // It may go from thread to thread, as the box may.

@@ -9,10 +9,10 @@ use denote.Struct.Struct.{exits_of}
 use denote.Struct.Owning.{shape, fields, to}
 use Rattle.std_alloc.proofs.SendSync.{lies, quiet}
 use Rattle.std.proofs.MapsCrossing.{crosses as maps}
-use Rattle.std.proofs.Crossing.{crosses}
+use Rattle.std.proofs.Crossing.{crosses, frees}
 use Rattle.std_heap.specs.declared.Global.{Global}
 use Rattle.std_heap.specs.contracts.Global.{the_field as GF}
-use Rattle.libc.specs.Heap.{chunk, chunk-Keyless}
+use Rattle.std_heap.specs.contracts.GlobalAllocator.TheImpl.{ghosts}
 use Rattle.liq_c.specs.Held.{holds}
 use Rattle.liq_guided.specs.contracts.guided.Guided.{the_row as UR}
 use Rattle.liq_market.specs.contracts.market.Market.{the_row as CR}
@@ -30,9 +30,9 @@ us = search (sendable, crosses, maps) depth 60 fits 30000 steps 20000000
 cs : IsSend CR
 cs = search (sendable, crosses, gs, us) depth 20
 
-heap : (a : Global) (p : Ptr) (m : Option CR.Denot) → Keyless (holds chunk CR p m)
+heap : (a : Global) (p : Ptr) (m : Option CR.Denot) → Keyless (holds (ghosts.dealloc_token a) CR p m)
 heap a p None = tt
-heap a p (Some x) = (lies CR cs p x, chunk-Keyless (raw (lone CR.mir)) p)
+heap a p (Some x) = (lies CR cs p x, frees.frees a (raw (lone CR.mir)) p)
 
 pub send : IsSend the_row
 send = owning_send the_type (ps, (gs, tt)) (λ d. heap d.alloc d.at d.held)
