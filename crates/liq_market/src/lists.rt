@@ -19,6 +19,7 @@ pub enum AccountList {
     Wallets,
     /// Those that the last command touched of those that were accepted: whom its call names, in the
     /// order of its words, and then the others whose troves it moved in their order or closed.
+    /// An account that the call names twice stands there twice.
     Touched,
 }
 

@@ -86,7 +86,8 @@ impl Market {
         }
     }
 
-    /// Answers a call under its client's next number, and tells which number that is.
+    /// Answers a call under its client's next number, and tells which number that is. Behind 2^64 - 1 there is no next one: a
+    /// client that has come so far is told the reply of its last command again, and the call is not carried out.
     pub fn answer_next(&mut self, client: u32, call: &Call) -> (u64, Result<Reply, NoMemory>)
         ensures number { (s : State) → StandsFor self.old.core s
             → result.0 ≡ next_number s client }
