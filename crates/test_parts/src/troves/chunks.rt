@@ -152,14 +152,17 @@ fn few(rt: HostRuntime) {
     agree(&rt, &chunks, &[(5, 1), (9, 1), (i64::MAX, 0)]);
 }
 
-// Moves one of the entries to the end. Two chunks beside each other have more than 32 entries together then.
+// Moves one of the entries to the end. Two chunks beside each other have more than 32 entries together then, and each has at
+// most 64.
 fn to_end<R: Abort>(rt: &R, chunks: &mut Chunks, list: &mut [Entry], at: usize, key: i64) {
     if let Some(entry) = list.get_mut(at) {
         chunks.remove(*entry);
         entry.0 = key;
         put(rt, chunks, *entry);
     }
-    shows(rt, "few chunks", chunks.chunks() / 2 <= list.len() / 33);
+    let count = chunks.chunks();
+    let fits = list.len() / 64 <= count && count / 2 <= list.len() / 33;
+    shows(rt, "few chunks", fits);
 }
 
 // Entries that move to the end, drawn one after another: those that stay grow few in their chunks.
