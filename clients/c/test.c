@@ -3,8 +3,8 @@
  *     cc -std=c11 -O2 -Wall -Wextra -Werror test.c libliq.a -o test -pthread \
  *        -Wl,--wrap=malloc,--wrap=realloc,--wrap=free && ./test
  *
- * The library's memory is counted on the way to malloc, and is refused there at a chosen call. It ends with "ok", or says at
- * which line something is not as it should be, and ends with 1. */
+ * The library's memory is counted on the way to malloc, and is refused there at a chosen call. It
+ * ends with "ok", or says at which line something is not as it should be, and ends with 1. */
 #include "liq.h"
 
 #include <malloc.h>
@@ -14,12 +14,12 @@
 #include <stdlib.h>
 #include <string.h>
 
-#define CHECK(holds)                                                                \
-    do {                                                                            \
-        if (!(holds)) {                                                             \
-            fprintf(stderr, "%s:%d: not so: %s\n", __FILE__, __LINE__, #holds);     \
-            exit(1);                                                                \
-        }                                                                           \
+#define CHECK(holds)                                                                               \
+    do {                                                                                           \
+        if (!(holds)) {                                                                            \
+            fprintf(stderr, "%s:%d: not so: %s\n", __FILE__, __LINE__, #holds);                    \
+            exit(1);                                                                               \
+        }                                                                                          \
     } while (0)
 
 /* ---- memory, counted and refused */
@@ -28,8 +28,8 @@ void *__real_malloc(size_t n);
 void *__real_realloc(void *p, size_t n);
 void __real_free(void *p);
 
-static atomic_long in_use;    /* bytes */
-static atomic_long calls;     /* to malloc and realloc */
+static atomic_long in_use;              /* bytes */
+static atomic_long calls;               /* to malloc and realloc */
 static _Thread_local long refused = -1; /* the call that is refused, counted from 0; -1: none */
 
 static int refuses(void) {
@@ -38,27 +38,32 @@ static int refuses(void) {
 }
 
 void *__wrap_malloc(size_t n) {
-    if (refuses()) return NULL;
+    if (refuses())
+        return NULL;
     void *p = __real_malloc(n);
-    if (p) in_use += (long)malloc_usable_size(p);
+    if (p)
+        in_use += (long)malloc_usable_size(p);
     return p;
 }
 
 void *__wrap_realloc(void *p, size_t n) {
-    if (refuses()) return NULL;
+    if (refuses())
+        return NULL;
     long had = p ? (long)malloc_usable_size(p) : 0;
     void *q = __real_realloc(p, n);
-    if (q) in_use += (long)malloc_usable_size(q) - had;
+    if (q)
+        in_use += (long)malloc_usable_size(q) - had;
     return q;
 }
 
 void __wrap_free(void *p) {
-    if (p) in_use -= (long)malloc_usable_size(p);
+    if (p)
+        in_use -= (long)malloc_usable_size(p);
     __real_free(p);
 }
 
-/* An array of exactly so many bytes, each of them 0xA5, so that valgrind sees what is written behind it, and the test what is
- * written where nothing should be. */
+/* An array of exactly so many bytes, each of them 0xA5, so that valgrind sees what is written
+ * behind it, and the test what is written where nothing should be. */
 static void *exact(size_t bytes) {
     void *p = __real_malloc(bytes ? bytes : 1);
     CHECK(p);
@@ -69,7 +74,8 @@ static void *exact(size_t bytes) {
 static int is_blank(const void *at, size_t bytes) {
     const uint8_t *b = at;
     for (size_t i = 0; i < bytes; i++)
-        if (b[i] != 0xA5) return 0;
+        if (b[i] != 0xA5)
+            return 0;
     return 1;
 }
 
@@ -81,7 +87,8 @@ static void opens(liq_market *m) { CHECK(liq_open(m) == LIQ_OK); }
 static void accepted_at(int line, liq_market *m, liq_command c) {
     liq_reply r;
     liq_done d = liq_next(m, &c, 1, &r, 1);
-    if (d.done == 1 && d.status == LIQ_OK && r.kind == LIQ_ACCEPTED) return;
+    if (d.done == 1 && d.status == LIQ_OK && r.kind == LIQ_ACCEPTED)
+        return;
     fprintf(stderr, "%s:%d: not accepted: kind %d, %d\n", __FILE__, line, r.kind, r.which);
     exit(1);
 }
@@ -91,7 +98,8 @@ static void accepted_at(int line, liq_market *m, liq_command c) {
 static void fill(liq_market *m) {
     for (uint32_t a = 1; a <= 3; a++) {
         accepted(m, liq_fund(1, 0, a, 20000000000u));
-        accepted(m, liq_open_trove(1, 0, a, 10000000000u, 2000000000u + (uint64_t)a * 1000000000u, LIQ_ANY_FEE));
+        accepted(m, liq_open_trove(1, 0, a, 10000000000u, 2000000000u + (uint64_t)a * 1000000000u,
+                                   LIQ_ANY_FEE));
     }
     accepted(m, liq_provide(2, 0, 1, 1000000000u));
     accepted(m, liq_fund(3, 0, 9, 5));
@@ -110,7 +118,9 @@ static struct bytes saved(liq_market *m) {
     return s;
 }
 
-static int same(struct bytes a, struct bytes b) { return a.n == b.n && memcmp(a.at, b.at, a.n) == 0; }
+static int same(struct bytes a, struct bytes b) {
+    return a.n == b.n && memcmp(a.at, b.at, a.n) == 0;
+}
 
 /* The market is as it was when it was saved. */
 static void is_still(liq_market *m, struct bytes was) {
@@ -128,7 +138,8 @@ static uint64_t told(liq_market *m, uint32_t topic, uint32_t account, unsigned i
     liq_query q = {topic, account};
     liq_reply r;
     liq_done d = liq_ask(m, &q, 1, &r, 1);
-    CHECK(d.done == 1 && d.status == LIQ_OK && r.kind == LIQ_TOLD && r.which == topic && i < r.count);
+    CHECK(d.done == 1 && d.status == LIQ_OK && r.kind == LIQ_TOLD && r.which == topic &&
+          i < r.count);
     return liq_low(&r, i);
 }
 
@@ -160,7 +171,8 @@ static void an_empty_place(void) {
     CHECK(liq_save_size(&m) == 0);
     CHECK(liq_save(&m, out, sizeof out) == LIQ_NO_MARKET);
     CHECK(liq_fork(&m, &other) == LIQ_NO_MARKET);
-    CHECK(is_blank(&r, sizeof r) && is_blank(out, sizeof out) && is_blank(accounts, sizeof accounts));
+    CHECK(is_blank(&r, sizeof r) && is_blank(out, sizeof out) &&
+          is_blank(accounts, sizeof accounts));
     CHECK(memcmp(&c, &before, sizeof c) == 0);
     CHECK(is_empty(&m) && is_empty(&other));
     liq_close(&m);
@@ -190,14 +202,17 @@ static void commands(void) {
     CHECK(d.done == 5 && d.status == LIQ_BAD);
     CHECK(r[0].kind == LIQ_ACCEPTED && r[0].which == LIQ_FUND && r[0].count == 0);
     CHECK(r[1].kind == LIQ_REFUSED && r[1].which == LIQ_SHORT_COLLATERAL && r[1].count == 2);
-    CHECK(liq_low(&r[1], 0) == 30000000000u && liq_high(&r[1], 0) == 0 && liq_low(&r[1], 1) == 20000000000u);
+    CHECK(liq_low(&r[1], 0) == 30000000000u && liq_high(&r[1], 0) == 0 &&
+          liq_low(&r[1], 1) == 20000000000u);
     CHECK(r[2].kind == LIQ_ACCEPTED && memcmp(&r[2], &r[3], sizeof *r) == 0);
-    CHECK(r[4].kind == LIQ_ACCEPTED && r[4].which == LIQ_OPEN && r[4].count == 2 && r[4].values[1] == 20000000);
+    CHECK(r[4].kind == LIQ_ACCEPTED && r[4].which == LIQ_OPEN && r[4].count == 2 &&
+          r[4].values[1] == 20000000);
     CHECK(r[5].kind == LIQ_NO_COMMAND && r[5].which == 0 && r[5].count == 1 && r[5].values[0] == 0);
     for (int i = 0; i < 6; i++) {
         uint8_t none[5] = {0};
         CHECK(memcmp(r[i].zero, none, 5) == 0);
-        for (unsigned k = r[i].kind == LIQ_REFUSED ? 2u * r[i].count : r[i].count; k < 11; k++) CHECK(r[i].values[k] == 0);
+        for (unsigned k = r[i].kind == LIQ_REFUSED ? 2u * r[i].count : r[i].count; k < 11; k++)
+            CHECK(r[i].values[k] == 0);
     }
     CHECK(told(&m, LIQ_WALLET, 8, 0) == 1 && told(&m, LIQ_NEXT_NUMBER, 1, 0) == 4);
     CHECK(told(&m, LIQ_TROVE, 7, 0) == 10000000000u);
@@ -220,7 +235,8 @@ static void commands(void) {
     c[1] = liq_fund(1, 7, 8, 1);
     memset(r, 0xA5, 6 * sizeof *r);
     d = liq_do(&m, c, 2, r, 2);
-    CHECK(d.done == 0 && d.status == LIQ_BAD && r[0].values[0] == 72 && is_blank(r + 1, 5 * sizeof *r));
+    CHECK(d.done == 0 && d.status == LIQ_BAD && r[0].values[0] == 72 &&
+          is_blank(r + 1, 5 * sizeof *r));
     CHECK(told(&m, LIQ_NEXT_NUMBER, 1, 0) == 7);
     __real_free(c);
     __real_free(r);
@@ -240,7 +256,8 @@ static void numbers(void) {
     liq_reply *r = exact(4 * sizeof *r), *s = exact(4 * sizeof *s);
     liq_done d = liq_next(&m, c, 4, r, 4);
     CHECK(d.done == 4 && d.status == LIQ_OK);
-    CHECK(liq_number_of(&c[0]) == 1 && liq_number_of(&c[1]) == 2 && liq_number_of(&c[2]) == 1 && liq_number_of(&c[3]) == 2);
+    CHECK(liq_number_of(&c[0]) == 1 && liq_number_of(&c[1]) == 2 && liq_number_of(&c[2]) == 1 &&
+          liq_number_of(&c[3]) == 2);
     liq_command plain = liq_fund(1, 2, 7, 5);
     CHECK(memcmp(&c[3], &plain, sizeof plain) == 0);
     d = liq_do(&again, c, 4, s, 4); /* what they are now brings another market to the same */
@@ -267,19 +284,23 @@ static void queries(void) {
     opens(&m);
     fill(&m);
     struct bytes was = saved(&m);
-    liq_query q[9] = {{LIQ_WALLET, 1}, {LIQ_TROVE, 2}, {LIQ_DEPOSIT, 1}, {LIQ_POOLS, 0}, {LIQ_SYSTEM, 0}, {LIQ_NEXT_NUMBER, 1}, {LIQ_TROVE, 99}, {LIQ_DEPOSIT, 99}, {7, 0}};
+    liq_query q[9] = {{LIQ_WALLET, 1}, {LIQ_TROVE, 2},    {LIQ_DEPOSIT, 1},
+                      {LIQ_POOLS, 0},  {LIQ_SYSTEM, 0},   {LIQ_NEXT_NUMBER, 1},
+                      {LIQ_TROVE, 99}, {LIQ_DEPOSIT, 99}, {7, 0}};
     static const uint8_t counts[8] = {2, 3, 2, 10, 10, 1, 0, 0};
     liq_reply *r = exact(9 * sizeof *r);
     liq_done d = liq_ask(&m, q, 9, r, 9);
     CHECK(d.done == 8 && d.status == LIQ_BAD);
-    for (int i = 0; i < 8; i++) CHECK(r[i].kind == LIQ_TOLD && r[i].which == q[i].topic && r[i].count == counts[i]);
+    for (int i = 0; i < 8; i++)
+        CHECK(r[i].kind == LIQ_TOLD && r[i].which == q[i].topic && r[i].count == counts[i]);
     CHECK(r[8].kind == LIQ_NO_COMMAND && r[8].count == 1 && r[8].values[0] == 0);
     CHECK(r[5].values[0] == 7 && r[4].values[5] == 3 && r[4].values[9] == 8);
     liq_query over = {LIQ_POOLS, 3}, far = {LIQ_WALLET, LIQ_ACCOUNTS};
     d = liq_ask(&m, &over, 1, r, 1);
     CHECK(d.done == 0 && d.status == LIQ_BAD && r[0].values[0] == 4);
     d = liq_ask(&m, &far, 1, r, 1);
-    CHECK(d.done == 1 && r[0].kind == LIQ_REFUSED && r[0].which == LIQ_ACCOUNT_RANGE && liq_low(r, 0) == LIQ_ACCOUNTS);
+    CHECK(d.done == 1 && r[0].kind == LIQ_REFUSED && r[0].which == LIQ_ACCOUNT_RANGE &&
+          liq_low(r, 0) == LIQ_ACCOUNTS);
     d = liq_ask(&m, q, 2, r, 1);
     CHECK(d.done == 1 && d.status == LIQ_SHORT);
     is_still(&m, was);
@@ -294,7 +315,11 @@ static void previews(void) {
     fill(&m);
     struct bytes was = saved(&m);
     liq_command c[5] = {
-        liq_price(5, 1, 400000000u), liq_open_trove(5, 1, 3, 1, 1, 1), liq_redeem(5, 1, 1, 500000000u, LIQ_ANY_FEE), liq_withdraw(5, 1, 1, 400000000u), liq_call(0, 1, 1),
+        liq_price(5, 1, 400000000u),
+        liq_open_trove(5, 1, 3, 1, 1, 1),
+        liq_redeem(5, 1, 1, 500000000u, LIQ_ANY_FEE),
+        liq_withdraw(5, 1, 1, 400000000u),
+        liq_call(0, 1, 1),
     };
     liq_reply *r = exact(5 * sizeof *r);
     liq_done d = liq_preview(&m, c, 5, r, 5);
@@ -306,7 +331,8 @@ static void previews(void) {
         d = liq_do(&fork, c + i, 1, &one, 1);
         CHECK(d.done == 1 && memcmp(&one, r + i, sizeof one) == 0);
     }
-    CHECK(r[0].kind == LIQ_ACCEPTED && r[1].kind == LIQ_REFUSED && r[3].kind == LIQ_ACCEPTED && r[3].count == 2);
+    CHECK(r[0].kind == LIQ_ACCEPTED && r[1].kind == LIQ_REFUSED && r[3].kind == LIQ_ACCEPTED &&
+          r[3].count == 2);
     __real_free(was.at);
     __real_free(r);
     liq_close(&m);
@@ -321,10 +347,14 @@ static void texts(void) {
     liq_market m = {0};
     opens(&m);
     uint8_t *out = exact(1000);
-    liq_text_done t = lines(&m, "1 1 fund 7 50\n? wallet 7\n1 1 fund 7 50\n1 2 take 7 60\n? trove 7\n? wal", out, 1000);
+    liq_text_done t = lines(
+        &m, "1 1 fund 7 50\n? wallet 7\n1 1 fund 7 50\n1 2 take 7 60\n? trove 7\n? wal", out, 1000);
     const char *want = "ok\n50 0\nok\nno 14 60 50\nnone\n";
-    CHECK(t.status == LIQ_OK && t.taken == strlen("1 1 fund 7 50\n? wallet 7\n1 1 fund 7 50\n1 2 take 7 60\n? trove 7\n"));
-    CHECK(t.written == strlen(want) && memcmp(out, want, t.written) == 0 && is_blank(out + t.written, 1000 - t.written));
+    CHECK(t.status == LIQ_OK &&
+          t.taken ==
+              strlen("1 1 fund 7 50\n? wallet 7\n1 1 fund 7 50\n1 2 take 7 60\n? trove 7\n"));
+    CHECK(t.written == strlen(want) && memcmp(out, want, t.written) == 0 &&
+          is_blank(out + t.written, 1000 - t.written));
     /* Lines that are none: behind them nothing is read. */
     memset(out, 0xA5, 1000);
     t = lines(&m, "? wallet 7\n\n1 2 fund 7 1\n", out, 1000);
@@ -336,7 +366,8 @@ static void texts(void) {
     t = lines(&m, "1 2 fund 7 1\n1 3 fund 7 1\n", out, LIQ_LINE_MOST);
     CHECK(t.status == LIQ_SHORT && t.taken == 13 && t.written == 3 && is_blank(out + 3, 997));
     t = lines(&m, "1 3 fund 7 1\n", out, LIQ_LINE_MOST - 1);
-    CHECK(t.status == LIQ_SHORT && t.taken == 0 && t.written == 0 && told(&m, LIQ_WALLET, 7, 0) == 51);
+    CHECK(t.status == LIQ_SHORT && t.taken == 0 && t.written == 0 &&
+          told(&m, LIQ_WALLET, 7, 0) == 51);
     t = lines(&m, "1 3 fund 7 1", out, 0);
     CHECK(t.status == LIQ_OK && t.taken == 0 && t.written == 0);
     t = liq_lines(&m, NULL, 0, NULL, 0);
@@ -375,7 +406,8 @@ static void saves(void) {
     uint8_t *room = exact(was.n + 9);
     CHECK(liq_save(&m, room, was.n - 1) == LIQ_SHORT && is_blank(room, was.n + 9));
     CHECK(liq_save(&m, NULL, 0) == LIQ_SHORT);
-    CHECK(liq_save(&m, room, was.n + 9) == LIQ_OK && memcmp(room, was.at, was.n) == 0 && is_blank(room + was.n, 9));
+    CHECK(liq_save(&m, room, was.n + 9) == LIQ_OK && memcmp(room, was.at, was.n) == 0 &&
+          is_blank(room + was.n, 9));
     CHECK(liq_load(&again, was.at, was.n) == LIQ_OK);
     is_still(&again, was);
     for (size_t i = 0; i < was.n; i++) { /* each byte damaged, and each length cut off */
@@ -401,7 +433,8 @@ static void accounts(void) {
     fill(&m);
     uint32_t *a = exact(4 * sizeof *a);
     liq_done d = liq_accounts(&m, LIQ_TROVES, 0, a, 4);
-    CHECK(d.done == 3 && d.status == LIQ_OK && a[0] == 3 && a[1] == 2 && a[2] == 1 && is_blank(a + 3, sizeof *a));
+    CHECK(d.done == 3 && d.status == LIQ_OK && a[0] == 3 && a[1] == 2 && a[2] == 1 &&
+          is_blank(a + 3, sizeof *a));
     memset(a, 0xA5, 4 * sizeof *a);
     d = liq_accounts(&m, LIQ_TROVES, 1, a, 1);
     CHECK(d.done == 1 && d.status == LIQ_SHORT && a[0] == 2 && is_blank(a + 1, 3 * sizeof *a));
@@ -429,14 +462,16 @@ static void accounts(void) {
     liq_close(&m);
 }
 
-/* Each allocation of a call is refused in turn. Then the call says so, all is as it was, and once more it is done. */
+/* Each allocation of a call is refused in turn. Then the call says so, all is as it was, and once
+ * more it is done. */
 static void memory(void) {
     liq_market m = {0}, other = {0}, full = {0};
     for (long k = 0;; k++) {
         refused = k;
         uint32_t status = liq_open(&m);
         refused = -1;
-        if (status == LIQ_OK) break;
+        if (status == LIQ_OK)
+            break;
         CHECK(status == LIQ_NO_MEMORY && is_empty(&m));
     }
     fill(&m);
@@ -449,7 +484,8 @@ static void memory(void) {
         uint32_t status = liq_fork(&m, &full);
         refused = -1;
         is_still(&m, was);
-        if (status == LIQ_OK) break;
+        if (status == LIQ_OK)
+            break;
         CHECK(status == LIQ_NO_MEMORY);
         is_still(&full, fresh);
     }
@@ -459,18 +495,22 @@ static void memory(void) {
         refused = k;
         uint32_t status = liq_save(&m, room, was.n);
         refused = -1;
-        if (status == LIQ_OK) break;
+        if (status == LIQ_OK)
+            break;
         CHECK(status == LIQ_NO_MEMORY && is_blank(room, was.n));
     }
     for (long k = 0;; k++) {
         refused = k;
         uint32_t status = liq_load(&other, was.at, was.n);
         refused = -1;
-        if (status == LIQ_OK) break;
+        if (status == LIQ_OK)
+            break;
         CHECK(status == LIQ_NO_MEMORY && is_empty(&other));
     }
     is_still(&other, was);
-    liq_command c[3] = {liq_fund(4, 1, 500, 20000000000u), liq_open_trove(4, 2, 500, 10000000000u, 3000000000u, LIQ_ANY_FEE), liq_provide(4, 3, 500, 1000000000u)};
+    liq_command c[3] = {liq_fund(4, 1, 500, 20000000000u),
+                        liq_open_trove(4, 2, 500, 10000000000u, 3000000000u, LIQ_ANY_FEE),
+                        liq_provide(4, 3, 500, 1000000000u)};
     liq_reply r[3];
     fails = 0;
     for (int i = 0; i < 3; i++) {
@@ -480,8 +520,10 @@ static void memory(void) {
             refused = k;
             liq_done d = liq_do(&m, c + i, 3 - i, r, 1);
             refused = -1;
-            if (d.done == 1) break;
-            CHECK(d.done == 0 && d.status == LIQ_NO_MEMORY && r[0].kind == LIQ_OUT_OF_MEMORY && r[0].count == 0 && is_blank(r + 1, 2 * sizeof *r));
+            if (d.done == 1)
+                break;
+            CHECK(d.done == 0 && d.status == LIQ_NO_MEMORY && r[0].kind == LIQ_OUT_OF_MEMORY &&
+                  r[0].count == 0 && is_blank(r + 1, 2 * sizeof *r));
             is_still(&m, before);
         }
         CHECK(r[0].kind == LIQ_ACCEPTED);
@@ -494,8 +536,10 @@ static void memory(void) {
         refused = k;
         liq_text_done t = lines(&m, "4 4 fund 600 5\n", out, sizeof out);
         refused = -1;
-        if (t.status == LIQ_OK) break;
-        CHECK(t.status == LIQ_NO_MEMORY && t.taken == 0 && t.written == 0 && is_blank(out, sizeof out));
+        if (t.status == LIQ_OK)
+            break;
+        CHECK(t.status == LIQ_NO_MEMORY && t.taken == 0 && t.written == 0 &&
+              is_blank(out, sizeof out));
     }
     CHECK(memcmp(out, "ok\n", 3) == 0);
     uint32_t a[3];
@@ -505,7 +549,8 @@ static void memory(void) {
             refused = k;
             liq_done d = liq_accounts(&m, which, 0, a, 3);
             refused = -1;
-            if (d.status != LIQ_NO_MEMORY) break;
+            if (d.status != LIQ_NO_MEMORY)
+                break;
             CHECK(d.done == 0 && is_blank(a, sizeof a));
         }
     __real_free(was.at);
@@ -523,7 +568,8 @@ static void leaks(void) {
     for (int round = 0; round < 1000; round++) {
         opens(&m);
         opens(&m); /* over a full place */
-        if (round % 8 == 0) fill(&m);
+        if (round % 8 == 0)
+            fill(&m);
         CHECK(liq_fork(&m, &other) == LIQ_OK);
         struct bytes s = saved(&m);
         CHECK(liq_load(&other, s.at, s.n) == LIQ_OK);
@@ -550,7 +596,8 @@ static void *run(void *at) {
     fill(&m);
     for (int i = 0; i < 2000; i++) {
         accepted(&m, liq_fund(1, 0, (uint32_t)(i % 50), 1));
-        if (i % 100 == 0) accepted(&m, liq_advance(2, 0, 1));
+        if (i % 100 == 0)
+            accepted(&m, liq_advance(2, 0, 1));
     }
     *(liq_market *)at = m;
     return NULL;
@@ -560,8 +607,10 @@ static void threads(void) {
     enum { COUNT = 8 };
     pthread_t t[COUNT];
     liq_market m[COUNT];
-    for (int i = 0; i < COUNT; i++) CHECK(pthread_create(&t[i], NULL, run, &m[i]) == 0);
-    for (int i = 0; i < COUNT; i++) CHECK(pthread_join(t[i], NULL) == 0);
+    for (int i = 0; i < COUNT; i++)
+        CHECK(pthread_create(&t[i], NULL, run, &m[i]) == 0);
+    for (int i = 0; i < COUNT; i++)
+        CHECK(pthread_join(t[i], NULL) == 0);
     struct bytes was = saved(&m[0]);
     for (int i = 0; i < COUNT; i++) { /* closed on another thread than the one that opened it */
         is_still(&m[i], was);
