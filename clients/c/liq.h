@@ -10,8 +10,8 @@
  *
  * WHO OWNS WHAT. The caller owns all memory but the market itself: places, commands, replies,
  * texts, saved bytes. liq_open, liq_fork and liq_load put a market into a place, and what was in
- * it is freed; liq_close empties a place. Nothing else frees. A call that fails costs the caller
- * nothing: each place is as it was, and so is each market.
+ * it is freed; liq_close empties a place. Nothing else frees. A call that puts a market in and fails
+ * leaves each place as it was; what a batch or a text did not come to changes nothing.
  *
  * WHO MAY CALL. A market is for one call at a time, and goes from one thread to another only where
  * a lock, a join or a start lies between the calls. Different markets have nothing in common: one
@@ -21,7 +21,9 @@
  * WHAT THE CALLER OWES, for nothing checks it:
  *   - a place is all zero, or as the last call left it. It may be moved, but of two copies one is
  *     used from then on, and the other is not even closed;
- *   - each pointer is to as many items as its count says, and no two arguments overlap;
+ *   - each pointer is to as many items as its count says, aligned as C aligns them, and no two
+ *     arguments overlap;
+ *   - a call has room on its stack: the least that a thread can have is too little;
  *   - malloc, realloc and free are of one allocator;
  *   - no call from a signal handler, nor in the forked child of a process that has threads.
  * (NULL, 0) is a fine array of nothing, and liq_fork into the same place is LIQ_BAD: see the end.

@@ -294,8 +294,11 @@ class Given:
             raise ValueError(f"not whole {self.kind.what} of {self.kind.size} bytes side by side")
         if view.readonly and is_written:
             raise ValueError(f"numbers are written into the {self.kind.what}: give a bytearray")
-        self.items = bytearray(view) if view.readonly else items
-        self.count, self.items_at = view.nbytes // self.kind.size, address_of(self.items)
+        # Queries are words: what does not begin at one is copied.
+        is_copied = view.readonly or self.kind is QUERIES and address_of(items) % 4 > 0
+        self.items = bytearray(view) if is_copied else items
+        self.lock = locked(self.items)
+        self.count, self.items_at = view.nbytes // self.kind.size, ctypes.addressof(self.lock)
         self.replies = bytearray(ITEM_BYTES * self.count)
         self.replies_at = address_of(self.replies)
 
@@ -308,7 +311,8 @@ class Given:
             if number == 0 and client < ACCOUNTS:
                 known[client] = known.get(client) or next_number(client)
                 WHOSE.pack_into(copied, at, client, known[client])
-        self.items, self.items_at = copied, address_of(copied)
+        self.items, self.lock = copied, locked(copied)
+        self.items_at = ctypes.addressof(self.lock)
         return self
 
     def part(self, done: int, count: int) -> Tuple[int, int, int, int]:
@@ -337,6 +341,12 @@ def is_array(items: Any) -> bool:
     return "numpy" in sys.modules and isinstance(items, sys.modules["numpy"].ndarray)
 
 
+def locked(buffer: Any) -> ctypes.c_char:
+    """The first byte of a buffer that may be written, of which no size changes and nothing is freed as long as this is
+    kept: a call lets other threads run. An empty one is nowhere: some place stands for it."""
+    return ctypes.c_char.from_buffer(buffer if len(buffer) else NOTHING)
+
+
 def address_of(buffer: Any) -> int:
-    """Where a buffer begins that may be written. An empty one is nowhere: some place stands for it."""
-    return ctypes.addressof(ctypes.c_char.from_buffer(buffer if len(buffer) else NOTHING))
+    """Where a buffer begins that may be written, and that nobody else has."""
+    return ctypes.addressof(locked(buffer))

@@ -157,7 +157,7 @@ class Market(Queries):
     @classmethod
     def load(cls, saved: bytes, library: Optional[Folder] = None, rotating: Optional[int] = ROTATING) -> "Market":
         """The market that was saved. Raises `BadSave`. Nobody knows the history of one that comes in."""
-        made, data = cls._empty(load_library(library), rotating), bytearray(saved)
+        made, data = cls._empty(load_library(library), rotating), bytearray(memoryview(saved))
         status = made._calls.many.load(made._held.at, address_of(data), len(data))
         if status == BAD:
             raise BadSave("these are not the bytes of a market that was saved")
@@ -308,9 +308,11 @@ class Market(Queries):
                 told += room[: written.written]
                 taken, status = taken + written.taken, written.status
         replies = told.decode("ascii").splitlines()
+        if status == NO_MEMORY:
+            raise BatchStopped(len(replies), MemoryError(), replies)
         if status != OK:
             line = bytes(data[taken : data.index(b"\n", taken)]).decode("ascii")
-            raise BatchStopped(len(replies), MemoryError() if status == NO_MEMORY else line, replies)
+            raise BatchStopped(len(replies), line, replies)
         return replies
 
     def ask(self, line: str) -> List[str]:
