@@ -29,7 +29,7 @@ from .queries import Queries
 from .refusals import JournalFull, Refusal
 from .replies import Done
 
-ROTATING = ACCOUNTS - 1  # who rotates, where no other client is named
+ROTATING = 0  # who rotates, where no other client is named
 ROWS_AT_ONCE = 2**16
 TEXT_AT_ONCE = 2**16
 ACCOUNTS_AT_ONCE = 2**10
