@@ -133,26 +133,33 @@ class Threads(OverLibrary):
     """Several threads, and several processes."""
 
     def test_a_batch_lets_others_run(self) -> None:
-        """A second thread finds its own market free and this one busy, as long as the batch goes on."""
-        market, other, seen = self.begin(), self.begin(), []
-        begun, commands = threading.Event(), fund(400_000)
+        """A second thread finds its own market free and this one busy, as long as a batch goes on. On a busy machine it
+        may come too late, so it has several."""
+        market, other, seen, rounds = self.begin(), self.begin(), [], 0
+        commands = bytes(fund(200_000))
 
         def batch() -> None:
-            begun.set()
-            market.next(commands)
+            given = bytearray(commands)
+            while True:
+                try:
+                    market.next(given)
+                    return
+                except Busy:
+                    pass  # the other thread was in it
 
-        thread = threading.Thread(target=batch)
-        thread.start()
-        begun.wait()
-        while thread.is_alive():
-            other.client(1).fund(1, 1)
-            try:
-                market.wallet(1)
-            except Busy:
-                seen.append(1)
-        thread.join()
+        while not seen and rounds < 20:
+            rounds += 1
+            thread = threading.Thread(target=batch)
+            thread.start()
+            while thread.is_alive():
+                other.client(1).fund(1, 1)
+                try:
+                    market.wallet(1)
+                except Busy:
+                    seen.append(1)
+            thread.join()
         self.assertTrue(seen)
-        self.assertEqual(market.wallet(1).coll, 400_000 * 5)
+        self.assertEqual(market.wallet(1).coll, rounds * 200_000 * 5)
 
     def test_a_pool_of_processes(self) -> None:
         market = busy_market(self.begin())
