@@ -1,5 +1,6 @@
 -- Numbers in two words each, and words in front of noughts.
-use Rattle.std.proofs.Common.{◌≡◌, ℕ, zero, suc, ◌+◌, ◌*◌, ◌/◌, ◌%◌, ◌^◌, List, [], ◌∷◌, ◌++◌, length, take, drop, get_or, refl, ap, sym, ◌∙◌, arith}
+use Rattle.std.proofs.Common.{◌≡◌, ℕ, zero, suc, ◌+◌, ◌*◌, ◌/◌, ◌%◌, ◌^◌, List, [], ◌∷◌, ◌++◌, length, take, drop}
+use Rattle.std.proofs.Common.{get_or, refl, ap, sym, ◌∙◌, arith}
 use Rattle.std.specs.List.{flat_map}
 use Rattle.std.proofs.Math.Nat.{mod-add-div}
 use Rattle.std.proofs.Math.Seq.{take-append_seam, take-nil}
@@ -8,7 +9,8 @@ use Rattle.liq_replies96.specs.Replies.{halves}
 -- the front of a list, by how long it is
 pub same_front : {A : Type 0} (xs ys us vs : List A) → length xs ≡ length ys → xs ++ us ≡ ys ++ vs → xs ≡ ys
 same_front {A = A} xs ys us vs long same =
-    sym (take-append_seam xs us) ∙ ap (λ (n : ℕ). take n (xs ++ us)) long ∙ ap (take (length ys)) same ∙ take-append_seam ys vs
+    sym (take-append_seam xs us) ∙ ap (λ (n : ℕ). take n (xs ++ us)) long
+    ∙ ap (take (length ys)) same ∙ take-append_seam ys vs
 
 -- a number by its halves
 same_number : (m n : ℕ) → m % 2 ^ 64 ≡ n % 2 ^ 64 → m / 2 ^ 64 ≡ n / 2 ^ 64 → m ≡ n
@@ -19,7 +21,8 @@ same_halves [] [] long same = refl
 same_halves [] (y ∷ ys) long same = absurd (omega (arith, long))
 same_halves (x ∷ xs) [] long same = absurd (omega (arith, long))
 same_halves (x ∷ xs) (y ∷ ys) long same =
-    let first = same_number x y (ap (λ (words : List ℕ). get_or words 0 0) same) (ap (λ (words : List ℕ). get_or words 1 0) same) in
+    let low = ap (λ (words : List ℕ). get_or words 0 0) same in
+    let first = same_number x y low (ap (λ (words : List ℕ). get_or words 1 0) same) in
     let rest = same_halves xs ys (omega (arith, long)) (ap (λ (words : List ℕ). drop 2 words) same) in
     λ i. first i ∷ rest i
 

@@ -1,5 +1,6 @@
 -- The numbers of a refusal, in two words each.
-use Rattle.std.proofs.Common.{◌≡◌, ℕ, suc, ◌-◌, ◌*◌, ◌≤◌, List, [], ◌∷◌, length, take, drop, get_or, refl, ap, sym, ◌∙◌, arith}
+use Rattle.std.proofs.Common.{◌≡◌, ℕ, suc, ◌-◌, ◌*◌, ◌≤◌, List, [], ◌∷◌, length, take, drop, get_or, refl, ap, sym, ◌∙◌}
+use Rattle.std.proofs.Common.{arith}
 use Rattle.std.specs.List.{flat_map}
 use Rattle.std.proofs.lemmas.List.{length-take-le}
 use Rattle.liq_types.specs.declared.replies.Refusal.{Refusal}
@@ -21,7 +22,8 @@ six (a ∷ b ∷ c ∷ d ∷ e ∷ []) h = absurd (omega (arith, h))
 six (a ∷ b ∷ c ∷ d ∷ e ∷ f ∷ []) h = refl
 six (a ∷ b ∷ c ∷ d ∷ e ∷ f ∷ g ∷ ns) h = absurd (omega (arith, h))
 
-of_parts : (r : Refusal) (code : ℕ) (values : List ℕ) (k : ℕ) → k ≤ length values → code ∷ take k values ≡ refusal_numbers r
+of_parts : (r : Refusal) (code : ℕ) (values : List ℕ) (k : ℕ)
+    → k ≤ length values → code ∷ take k values ≡ refusal_numbers r
     → made 3 code k (take (2 * k) (flat_map halves values)) ≡ reply96 (No r)
 unfolding reply96
 of_parts r code values k low is =
@@ -32,8 +34,10 @@ of_parts r code values k low is =
     λ i. made 3 (first i) (count i) (words i)
 
 -- Behind its code stand up to five values.
-pub refused : (r : Refusal) (ns : List ℕ) (count : ℕ) → length ns ≡ 6 → 1 ≤ count → count ≤ 6 → take count ns ≡ refusal_numbers r
+pub refused : (r : Refusal) (ns : List ℕ) (count : ℕ)
+    → length ns ≡ 6 → 1 ≤ count → count ≤ 6 → take count ns ≡ refusal_numbers r
     → made 3 (get_or ns 0 0) (count - 1) (take (2 * (count - 1)) (flat_map halves (five ns))) ≡ reply96 (No r)
 refused r ns count long some few is =
     let one : suc (count - 1) ≡ count = omega (arith, some) in
-    of_parts r (get_or ns 0 0) (five ns) (count - 1) (omega (arith, few)) (ap (λ (k : ℕ). take k (get_or ns 0 0 ∷ five ns)) one ∙ ap (take count) (six ns long) ∙ is)
+    of_parts r (get_or ns 0 0) (five ns) (count - 1) (omega (arith, few))
+    (ap (λ (k : ℕ). take k (get_or ns 0 0 ∷ five ns)) one ∙ ap (take count) (six ns long) ∙ is)

@@ -63,7 +63,8 @@ refusal_by code ns =
     else if code == 40 then refusals.NoDeposit (get_or ns 0 0)
     else if code == 41 then refusals.TroveUnder (get_or ns 0 0) (get_or ns 1 0) (get_or ns 2 0)
     else if code == 42 then refusals.NoGain (get_or ns 0 0)
-    else if code == 50 then refusals.NotLiquidatable (get_or ns 0 0) (get_or ns 1 0) (get_or ns 2 0) (get_or ns 3 0) (get_or ns 4 0)
+    else if code == 50
+    then refusals.NotLiquidatable (get_or ns 0 0) (get_or ns 1 0) (get_or ns 2 0) (get_or ns 3 0) (get_or ns 4 0)
     else if code == 51 then refusals.PoolTooSmall (get_or ns 0 0) (get_or ns 1 0)
     else if code == 52 then refusals.SumLimit (get_or ns 0 0)
     else if code == 60 then refusals.Bootstrap (get_or ns 0 0) (get_or ns 1 0)
@@ -113,18 +114,28 @@ pub one : (a b : Reply) → reply96 a ≡ reply96 b → shown a ≡ shown b
 unfolding reply96
 one (Said d) (Said e) same =
     let kind = ap (λ (r : Reply96). r.which) same in
-    let values = same_front (shown_values d) (shown_values e) _ _ (ap (λ (r : Reply96). r.count) same) (ap (λ (r : Reply96). r.values) same) in
+    let values = same_front (shown_values d) (shown_values e) _ _
+    (ap (λ (r : Reply96). r.count) same) (ap (λ (r : Reply96). r.values) same) in
     λ i. Said (record { kind = kind i; values = values i })
 one (Told info) (Told other) same =
-    let numbers = same_front (info_numbers info) (info_numbers other) _ _ (ap (λ (r : Reply96). r.count) same) (ap (λ (r : Reply96). r.values) same) in
-    let is : info ≡ other = sym (info_back info) ∙ (λ i. info_by ((ap (λ (r : Reply96). r.which) same) i) (numbers i)) ∙ info_back other in
+    let numbers = same_front (info_numbers info) (info_numbers other) _ _
+    (ap (λ (r : Reply96). r.count) same) (ap (λ (r : Reply96). r.values) same) in
+    let is : info ≡ other =
+    sym (info_back info)
+    ∙ (λ i. info_by ((ap (λ (r : Reply96). r.which) same) i) (numbers i)) ∙ info_back other in
     λ i. Told (is i)
 one (No refusal) (No other) same =
     let few = ap (λ (r : Reply96). r.count) same in
-    let words = same_front (flat_map halves (drop 1 (refusal_numbers refusal))) (flat_map halves (drop 1 (refusal_numbers other))) _ _
-    (length-halves (drop 1 (refusal_numbers refusal)) ∙ ap (λ (n : ℕ). 2 * n) few ∙ sym (length-halves (drop 1 (refusal_numbers other)))) (ap (λ (r : Reply96). r.values) same) in
+    let words =
+    same_front
+    (flat_map halves (drop 1 (refusal_numbers refusal))) (flat_map halves (drop 1 (refusal_numbers other))) _ _
+    (length-halves (drop 1 (refusal_numbers refusal))
+    ∙ ap (λ (n : ℕ). 2 * n) few ∙ sym (length-halves (drop 1 (refusal_numbers other))))
+    (ap (λ (r : Reply96). r.values) same) in
     let values = same_halves (drop 1 (refusal_numbers refusal)) (drop 1 (refusal_numbers other)) few words in
-    let is : refusal ≡ other = sym (refusal_back refusal) ∙ (λ i. refusal_by ((ap (λ (r : Reply96). r.which) same) i) (values i)) ∙ refusal_back other in
+    let is : refusal ≡ other =
+    sym (refusal_back refusal)
+    ∙ (λ i. refusal_by ((ap (λ (r : Reply96). r.which) same) i) (values i)) ∙ refusal_back other in
     λ i. No (is i)
 one (Said d) (Told info) same = absurd (omega (arith, ap (λ (r : Reply96). r.kind) same))
 one (Said d) (No refusal) same = absurd (omega (arith, ap (λ (r : Reply96). r.kind) same))

@@ -21,8 +21,8 @@ pub const NO_MEMORY: u8 = 5;
 pub struct Reply96 {
     /// What kind of reply: [`ACCEPTED`], [`TOLD`], [`REFUSED`], [`BAD`] or [`NO_MEMORY`].
     pub kind: u8,
-    /// The place of the command's verb in the list of verbs or of what a query asks in the list of queries, from 1, or the
-    /// refusal's code; else 0.
+    /// The place of the command's verb in the list of verbs or of what a query asks in the list of queries,
+    /// from 1, or the refusal's code; else 0.
     pub which: u8,
     /// How many numbers there are: none where there is no trove or deposit.
     pub count: u8,
