@@ -21,7 +21,7 @@ ghost use Rattle.liq_market.specs.Touching.{touched_after};
 use crate::lists::{AccountList, deposit_accounts, lay, wallet_accounts};
 use crate::load_fault::LoadFault;
 use crate::saving::{AROUND, opened, save_of};
-use crate::touching::touched;
+use crate::touching::{NAMED_MOST, note};
 use liq_checkpoint::{ImageBytes, decode, encode};
 use liq_core::laws::{lists_stand, protocols_are_sound, protocols_stand};
 use liq_core::{ImageFault, PlanFault, Protocol, Turn};
@@ -142,7 +142,9 @@ impl Market {
                 lists_stand(fork.guided.protocol());
                 Ok(fork)
             }
-            Err(_) => Err(NoMemory),
+            Err(ImageFault::NoMemory) => Err(NoMemory),
+            // The image of a sound market breaks no rule.
+            Err(ImageFault::Unsound { .. }) => unreachable!(),
         }
     }
 
@@ -158,8 +160,8 @@ impl Market {
     /// Its save: bytes that [`Market::load`] makes the same market of. Markets with the same image and the
     /// same records have the same bytes.
     pub fn save(&self, alloc: Global) -> Result<Vec<u8>, NoMemory>
-        ensures { IfOk result (λ bytes. bytes.items
-            ≡ saved self.now.core.image self.now.core.records) }
+        ensures { IfOk result (λ bytes.
+            IsSave bytes.items self.now.core.image self.now.core.records) }
     {
         let protocol = self.guided.protocol();
         protocols_are_sound(protocol);
@@ -268,11 +270,12 @@ impl Market {
             Err(PlanFault::No(refusal)) => return Ok(Reply::No(refusal)),
             Err(PlanFault::NoMemory) => return Err(NoMemory),
         };
-        let touched = touched(self.alloc, &command.call, planned.list_changes())?;
+        self.touched
+            .reserve(NAMED_MOST + planned.list_changes().len())?;
         self.guided.reserve(&planned)?;
+        note(&mut self.touched, &command.call, planned.list_changes());
         let mut steps = Steps::<L>::new(blank);
         let done = self.guided.apply(planned, &Hint::NONE, &mut steps);
-        self.touched = touched;
         Ok(Reply::Said(done))
     }
 }

@@ -1,9 +1,11 @@
 //! The bytes of a save: a name, the count of the records, the image as a checkpoint spells it, and the
 //! SHA-256 of all that is before it.
 
-ghost use Rattle.std.specs.Prelude.{◌≡◌, ◌<◌, ◌^◌, ℕ, List, IfOk, IfSome, IsSomeAnd};
+ghost use Rattle.std.specs.Prelude.{◌≡◌, ◌<◌, ◌^◌, ℕ, List, length, Ok, IfOk, IfSome, IsSomeAnd};
 ghost use Rattle.std.specs.Str.{bytes_eq};
-ghost use Rattle.liq_market.specs.Saving.{digest, sealed, told_with};
+ghost use Rattle.liq_types.specs.declared.image.Image.{Image as image};
+ghost use Rattle.liq_checkpoint.specs.Reading.{image_at};
+ghost use Rattle.liq_market.specs.Saving.{IsSave, digest, sealed, told_with};
 
 use byteorder::{BigEndian, ByteOrder};
 use liq_types::NoMemory;
@@ -22,9 +24,10 @@ const DIGEST: usize = 32;
 /// How many bytes a save has beside its checkpoint.
 pub(crate) const AROUND: u128 = 48;
 
-/// The save of so many records and this checkpoint.
+/// The save of so many records and the image that this checkpoint is read as.
 pub(crate) fn save_of(alloc: Global, records: u64, checkpoint: &[u8]) -> Result<Vec<u8>, NoMemory>
-    ensures { IfOk result (λ bytes. bytes.items ≡ sealed (told_with records checkpoint.now)) }
+    ensures { IfOk result (λ bytes. (i : image)
+        → image_at (length checkpoint.now) checkpoint.now ≡ Ok i → IsSave bytes.items i records) }
 {
     let mut count = [0; 8];
     BigEndian::write_u64(&mut count, records);

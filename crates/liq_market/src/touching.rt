@@ -1,38 +1,42 @@
 //! Whom a command touches.
 
-ghost use Rattle.std.specs.Prelude.{◌≡◌, ◌≤◌, ◌++◌, ◌∷◌, [], IfOk, OnOk, length, take};
+ghost use Rattle.std.specs.Prelude.{◌≡◌, ◌+◌, ◌<◌, ◌≤◌, ◌++◌, ◌∷◌, [], length, take};
+ghost use Rattle.std.specs.Prelude.{vec_capacity, vec_len};
 ghost use Rattle.liq_rules.specs.Step.{accounts};
 ghost use Rattle.liq_market.specs.Touching.{moved, others, touched};
 
-use liq_types::{Call, ListChange, NoMemory};
-use std::alloc::Global;
+use liq_types::{Call, ListChange};
 
-/// Whom a call touches that changes the list so.
-pub(crate) fn touched(
-    alloc: Global,
-    call: &Call,
-    changes: &[ListChange],
-) -> Result<Vec<u32>, NoMemory>
-    ensures { IfOk result (λ all. all.items ≡ touched call.now changes.now) }
+/// The most accounts that a call names.
+pub(crate) const NAMED_MOST: usize = 2;
+
+/// Writes down whom a call touches that changes the list so, in place of those who stand there. There
+/// is room for them.
+pub(crate) fn note(all: &mut Vec<u32>, call: &Call, changes: &[ListChange])
+    requires { NAMED_MOST + length changes.now ≤ vec_capacity all.old }
+    ensures { all.new.items ≡ touched call.now changes.now }
 {
-    let mut all = accounts(alloc, call)?;
+    all.clear();
+    note_named(all, call);
     let named = all.len();
     for change in changes {
-        add_moved(&mut all, named, change)?;
+        note_moved(all, named, change);
     }
-    Ok(all)
 }
 
-/// The accounts that a call names, in the order of its words.
-fn accounts(alloc: Global, call: &Call) -> Result<Vec<u32>, NoMemory>
-    ensures { IfOk result (λ named. named.items ≡ accounts call.now) }
+/// Adds the accounts that a call names, in the order of its words.
+fn note_named(all: &mut Vec<u32>, call: &Call)
+    requires none { vec_len all.old ≡ 0 }
+    requires room { NAMED_MOST ≤ vec_capacity all.old }
+    ensures named { all.new.items ≡ all.old.items ++ accounts call.now }
+    ensures few { vec_len all.new ≤ NAMED_MOST }
+    ensures capacity { vec_capacity all.new ≡ vec_capacity all.old }
 {
-    let mut named = Vec::new(alloc);
     match *call {
         Call::Price(_) | Call::Advance(_) | Call::Rotate => {}
         Call::Send(first, second, _) | Call::Liquidate(first, second) => {
-            add(&mut named, first)?;
-            add(&mut named, second)?;
+            all.push_reserved(first);
+            all.push_reserved(second);
         }
         Call::Fund(account, _)
         | Call::Take(account, _)
@@ -44,33 +48,27 @@ fn accounts(alloc: Global, call: &Call) -> Result<Vec<u32>, NoMemory>
         | Call::GainToTrove(account, _)
         | Call::LiquidateLowest(account, _)
         | Call::Redeem(account, ..)
-        | Call::Claim(account) => add(&mut named, account)?,
+        | Call::Claim(account) => all.push_reserved(account),
     }
-    Ok(named)
 }
 
 /// Adds the account that a change moves, where it moves one that is not among the first ones.
-fn add_moved(all: &mut Vec<u32>, named: usize, change: &ListChange) -> Result<(), NoMemory>
-    requires { named ≤ length all.old.items }
-    ensures { OnOk result (all.new.items
-        ≡ all.old.items ++ others (take named all.old.items) (change.now ∷ [])) }
+fn note_moved(all: &mut Vec<u32>, named: usize, change: &ListChange)
+    requires named { named ≤ vec_len all.old }
+    requires room { vec_len all.old < vec_capacity all.old }
+    ensures moved { all.new.items
+        ≡ all.old.items ++ others (take named all.old.items) (change.now ∷ []) }
+    ensures few { vec_len all.new ≤ vec_len all.old + 1 }
+    ensures kept { vec_len all.old ≤ vec_len all.new }
+    ensures capacity { vec_capacity all.new ≡ vec_capacity all.old }
 {
     let Some(account) = moved(change) else {
-        return Ok(());
+        return;
     };
     if all[..named].contains(&account) {
-        return Ok(());
+        return;
     }
-    add(all, account)
-}
-
-fn add(accounts: &mut Vec<u32>, account: u32) -> Result<(), NoMemory>
-    ensures { OnOk result (accounts.new.items ≡ accounts.old.items ++ account ∷ []) }
-{
-    match accounts.push(account) {
-        Ok(()) => Ok(()),
-        Err(_) => Err(NoMemory),
-    }
+    all.push_reserved(account);
 }
 
 /// The account whose place a change changes.

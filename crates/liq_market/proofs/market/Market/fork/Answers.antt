@@ -1,4 +1,5 @@
-use Rattle.std.proofs.Common.{◌≡◌, ap, subst, ◌∙◌}
+use Rattle.std.proofs.Common.{◌≡◌, ℕ, Some, None, Err, ap, sym, subst, ◌∙◌}
+use Rattle.liq_types.specs.Soundness.{first_unsound}
 use Rattle.liq_core.specs.Core.{Core, SameContent}
 use Rattle.liq_market.specs.Content.{Content}
 use Rattle.liq_market.proofs.Forking.{same_content}
@@ -18,3 +19,14 @@ returns-in-Ok-clause-same c =
     let same = same_content old new image records c.protocols_stand.ensures
     c.lists_stand.ensures c.lists_stand-in-Ok.ensures in
     subst (λ (k : Core). SameContent k c.in-Ok.fork.core) old_is (subst (λ (k : Core). SameContent old k) new_is same)
+
+clash : {rule : ℕ} → Some rule ≡ None → ⊥
+clash e = cc
+
+pub unreachable-requires : goal.unreachable-requires
+unreachable-requires c =
+    let broken = (c.in-Err-Unsound.ensures.unsound c.in-Err-Unsound.field-0-0).0
+    (λ k. Err (c.in-Err-Unsound.field-0-is k)) in
+    let sound = (λ k. first_unsound (c.in_ok-image.ensures.image k) (c.records.ensures k))
+    ∙ c.protocols_are_sound.ensures.rules in
+    clash (sym broken ∙ sound)
