@@ -1,6 +1,6 @@
 //! Lines of text.
 
-ghost use Rattle.std.specs.Prelude.{◌≡◌, ◌≤◌, length, OnOk};
+ghost use Rattle.std.specs.Prelude.{◌≡◌, ◌≤◌, length, OnOk, Some};
 ghost use Rattle.std.specs.Vec.{vec_capacity};
 ghost use Rattle.liq_types.specs.State.{State};
 ghost use Rattle.liq_core.specs.Core.{StandsFor};
@@ -38,38 +38,23 @@ pub struct Lines {
     pub fault: Option<LineFault>,
 }
 
-/// Answers the lines of a text, each by a line, as long as [`LINE_MOST`] bytes are left in `out`. It stops at the first line
-/// that spells no request or for which there is no memory. What stands behind the last line end is left.
+/// Answers the lines of a text, each by a line, as long as [`LINE_MOST`] bytes are left in `out`. It stops at the first
+/// line that spells no request or for which there is no memory. What stands behind the last line end is left.
 pub fn answer_lines(alloc: Global, market: &mut Market, text: &[u8], out: &mut [u8]) -> Lines
     ensures { (s : State) → StandsFor market.old.core s
-        → AnsweredText s text.now result market.new.core out.old out.new }
+        → AnsweredText s text.now result market.old market.new out.old out.new }
 {
     let mut taken = 0;
     let mut written = 0;
     let Ok(mut reply) = Vec::with_capacity(alloc, LINE_MOST) else {
-        let fault = Some(LineFault::NoMemory);
-        return Lines {
-            taken,
-            written,
-            fault,
-        };
+        return stopped(taken, written, LineFault::NoMemory);
     };
     while let Some(size) = line_end_in(&text[taken..]) {
         if out.len() - written < LINE_MOST {
-            let fault = Some(LineFault::Short);
-            return Lines {
-                taken,
-                written,
-                fault,
-            };
+            return stopped(taken, written, LineFault::Short);
         }
         if let Err(fault) = answer_line(market, &text[taken..taken + size], &mut reply) {
-            let fault = Some(fault);
-            return Lines {
-                taken,
-                written,
-                fault,
-            };
+            return stopped(taken, written, fault);
         }
         out[written..written + reply.len()].copy_from_slice(&reply);
         written += reply.len();
@@ -83,11 +68,22 @@ pub fn answer_lines(alloc: Global, market: &mut Market, text: &[u8], out: &mut [
     }
 }
 
+fn stopped(taken: usize, written: usize, fault: LineFault) -> Lines
+    ensures { result ≡ record { taken = taken; written = written; fault = Some fault } }
+{
+    let fault = Some(fault);
+    Lines {
+        taken,
+        written,
+        fault,
+    }
+}
+
 /// Writes the reply line to the request on a line.
 fn answer_line(market: &mut Market, line: &[u8], reply: &mut Vec<u8>) -> Result<(), LineFault>
     requires { LINE_MOST ≤ vec_capacity reply.old }
     ensures answered { (s : State) → StandsFor market.old.core s
-        → AnswersLine s line.now result reply.new.items market.new.core }
+        → AnswersLine s line.now result reply.new.items market.old market.new }
     ensures short { OnOk result (length reply.new.items ≤ LINE_MOST) }
     ensures capacity { LINE_MOST ≤ vec_capacity reply.new }
 {

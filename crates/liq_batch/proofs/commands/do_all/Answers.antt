@@ -1,20 +1,24 @@
-use Rattle.std.proofs.Common.{arith}
-use Rattle.liq_rules.specs.Step.{run, step}
-use Rattle.liq_rules.specs.Memory.{TakesMemory}
-use Rattle.liq_batch.specs.Batch.{command_in}
+use Rattle.liq_batch.specs.Batch.{doing}
 use Rattle.liq_batch.proofs.Batching.{more, over, stopped}
-use Rattle.liq_batch.proofs.Ways.{by_steps}
+use Rattle.liq_batch.proofs.Ways.{by_doing}
 use Rattle.liq_batch.proofs.commands.do_all.Goals as goal
-
-pub returns-in-Err : goal.returns-in-Err
-returns-in-Err c = λ s h.
-    stopped command_in run step TakesMemory by_steps s c.args.commands.now c.loop-done.done c.loop-done.market.core c.do_one.new.market.core c.args.replies.now c.loop-done.replies c.in-Err.fault c.reply.result _
-    (omega (arith, c.loop-done-test.true, c.min-most.ensures)) (omega (arith, c.loop-done-test.true, c.min-most.ensures)) c.reply.ensures (c.loop-done.invariant s h) (λ t k. c.in-Err.ensures t k)
 
 pub loop-done-preserved : goal.loop-done-preserved
 loop-done-preserved c = λ s h.
-    more command_in run step TakesMemory by_steps s c.args.commands.now c.loop-done.done c.loop-done.market.core c.do_one.new.market.core c.args.replies.now c.loop-done.replies c.in-Ok.reply c.encode.result _
-    (omega (arith, c.loop-done-test.true, c.min-most.ensures)) (omega (arith, c.loop-done-test.true, c.min-most.ensures)) c.encode.ensures (c.loop-done.invariant s h) (λ t k. c.in-Ok.ensures t k)
+    more doing by_doing s c.args.commands.now c.loop-done.done c.min-most.result c.args.market.now c.loop-done.market
+    c.args.replies.now c.loop-done.replies c.min-most.ensures (c.loop-done.invariant s h)
+    c.do_one.new.market c.in-Ok.reply c.encode.result _ c.loop-done-test.true c.encode.ensures
+    (λ t k. c.in-Ok.ensures t k)
+
+pub returns-in-Err : goal.returns-in-Err
+returns-in-Err c = λ s h.
+    stopped doing by_doing s c.args.commands.now c.loop-done.done c.min-most.result c.args.market.now c.loop-done.market
+    c.args.replies.now c.loop-done.replies c.min-most.ensures (c.loop-done.invariant s h)
+    c.do_one.new.market c.in-Err.fault _ c.stopped.result c.stopped.new.replies c.loop-done-test.true
+    c.stopped.ensures.batch c.stopped.ensures.reply (λ t k. c.in-Err.ensures t k)
 
 pub returns : goal.returns
-returns c = λ s h. over command_in run step TakesMemory by_steps s c.args.commands.now c.loop-done.done c.min-most.result c.loop-done.market.core c.args.replies.now c.loop-done.replies c.loop-done.auto.done-end c.loop-done-test.false c.min-most.ensures (c.loop-done.invariant s h)
+returns c = λ s h.
+    over doing by_doing s c.args.commands.now c.loop-done.done c.min-most.result c.args.market.now c.loop-done.market
+    c.args.replies.now c.loop-done.replies c.min-most.ensures (c.loop-done.invariant s h)
+    c.over.result c.loop-done.auto.done-end c.loop-done-test.false c.over.ensures

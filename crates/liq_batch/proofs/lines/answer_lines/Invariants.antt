@@ -8,7 +8,8 @@ use Rattle.liq_batch.proofs.lines.answer_lines.Given as goal
 
 abbrev pub invariant-loop-size : goal.invariant-loop-size
 invariant-loop-size l = record {
-  so_far : (s : State) → StandsFor l.fn.market.core s → TextSoFar s l.text l.taken l.written l.market.core l.fn.out l.out;
+  so_far : (s : State) → StandsFor l.fn.market.core s
+      → TextSoFar s l.text l.taken l.written l.fn.market l.market l.fn.out l.out;
   taken : l.taken ≤ length l.text;
   written : l.written ≤ length l.out;
   room : LINE_MOST ≤ vec_capacity l.reply;
