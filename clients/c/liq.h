@@ -249,8 +249,9 @@ uint32_t liq_save(liq_market *m, uint8_t *bytes, size_t n);
 uint32_t liq_load(liq_market *m, const uint8_t *bytes, size_t n);
 
 /* Writes the accounts of one of liq_list, from index `from` on; `done` says how many. LIQ_SHORT:
- * there are more behind them. LIQ_BAD: there is no such list. A fork and a market that was loaded
- * have touched nobody. */
+ * there are more behind them. LIQ_BAD: there is no such list. A market that was opened, forked or
+ * loaded has touched nobody. Each call walks the list up to `from`, so many small pages are slow:
+ * LIQ_SYSTEM tells how many troves there are, and one call takes them all. */
 liq_done liq_accounts(liq_market *m, uint32_t which, size_t from, uint32_t *accounts,
                       size_t places);
 

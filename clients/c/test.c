@@ -14,6 +14,9 @@
 #include <stdlib.h>
 #include <string.h>
 
+_Static_assert(sizeof(liq_done) == 16, "as the library has it: a count, a status, a gap");
+_Static_assert(sizeof(liq_text_done) == 24, "as the library has it: two counts, a status, a gap");
+
 #define CHECK(holds)                                                                               \
     do {                                                                                           \
         if (!(holds)) {                                                                            \

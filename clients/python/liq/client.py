@@ -23,16 +23,17 @@ class Calls:
 
     An accepted command gives a named tuple of its values (`replies`); a refused one raises its refusal (`refusals`)
     and leaves its number to the next. Amounts are whole numbers: ether in gwei, LUSD and prices in millionths;
-    `units` makes them of decimal text. Hints are two accounts or None; liq finds the place by itself. An account or a
-    hint of 2^20 or more, or an amount of 2^64 or more, is a `ValueError`, what is no whole number a `TypeError`: then
-    nothing is sent.
+    `units` makes them of decimal text. Hints are two, each an account or None; liq finds the place by itself. An account
+    or a hint of 2^20 or more, an amount of 2^64 or more, or one hint alone, is a `ValueError`, what is no whole number a
+    `TypeError`: then nothing is sent.
     """
 
     def _send(
         self, row: Type[Row], verb: str, accounts: Sequence[int], amounts: Sequence[int],
-        hints: Sequence[Optional[int]] = (),
+        hints: Optional[Sequence[Optional[int]]] = None,
     ) -> Row:
-        """Sends a command, and gives what it was replied as such a row. Raises its refusal."""
+        """Sends a command, and gives what it was replied as such a row. Raises its refusal. Without hints: the verb has
+        none."""
         raise NotImplementedError
 
     # ---- the price and time
@@ -154,12 +155,12 @@ class Client(Calls):
 
     def _send(
         self, row: Type[Row], verb: str, accounts: Sequence[int], amounts: Sequence[int],
-        hints: Sequence[Optional[int]] = (),
+        hints: Optional[Sequence[Optional[int]]] = None,
     ) -> Row:
         if self._unanswered is not None:
             raise RuntimeError(f"a command has no reply yet, resend() it first: {self._unanswered[0]}")
         call = verb + spelt(accounts, ACCOUNTS) + spelt(amounts, AMOUNTS)
-        for hint in hints:
+        for hint in () if hints is None else pair(hints):
             call += " -" if hint is None else spelt((hint,), ACCOUNTS)
         try:
             return self._ask(f"{self.client} {self.next_number} {call}", row)
@@ -177,6 +178,13 @@ class Client(Calls):
             raise read_refusal(words)
         self.next_number += 1
         return row(*[int(word) for word in words[1:]])
+
+
+def pair(hints: Sequence[Optional[int]]) -> Hints:
+    """Two hints. More or fewer are an error here, for liq would end at such a line."""
+    if len(hints) != 2:
+        raise ValueError(f"{len(hints)} hints, and not two: {hints!r}")
+    return hints[0], hints[1]
 
 
 def spelt(numbers: Sequence[int], limit: int) -> str:

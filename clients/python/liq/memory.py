@@ -27,7 +27,7 @@ from .library import Library, Place, load_library
 from .packed import ASKED, FORMS, check_numbers, fault_in, hint_words, pack_query
 from .queries import Queries
 from .refusals import JournalFull, Refusal
-from .replies import Done
+from .replies import Done, System
 
 ROTATING = 0  # who rotates, where no other client is named
 ROWS_AT_ONCE = 2**16
@@ -325,7 +325,8 @@ class Market(Queries):
 
     def trove_accounts(self, first: int = 0, most: Optional[int] = None) -> List[int]:
         """Who has a trove, in the order of the list: from the one of the lowest ratio on, which is liquidated and
-        redeemed first. Those from index `first` on, and at most so many."""
+        redeemed first. Those from index `first` on, and at most so many: all in one call take one walk along the list,
+        and each page walks to its `first` again."""
         return self._accounts(TROVES, first, most)
 
     def deposit_accounts(self, first: int = 0, most: Optional[int] = None) -> List[int]:
@@ -344,8 +345,10 @@ class Market(Queries):
     def _accounts(self, which: int, first: int, most: Optional[int]) -> List[int]:
         check_numbers((first,) if most is None else (first, most), AMOUNTS)
         found: List[int] = []
-        places = ACCOUNTS_AT_ONCE
         with self._held as at:
+            # Each call walks the list of troves to where it begins, so they come in one.
+            troves = System(*self._told("system") or ()).troves
+            places = max(troves, 1) if which == TROVES else ACCOUNTS_AT_ONCE
             while most is None or len(found) < most:
                 places = places if most is None else min(places, most - len(found))
                 room = array("I", [0]) * places
@@ -381,7 +384,7 @@ class MarketClient(Calls):
 
     def _send(
         self, row: Type[Row], verb: str, accounts: Sequence[int], amounts: Sequence[int],
-        hints: Sequence[Optional[int]] = (),
+        hints: Optional[Sequence[Optional[int]]] = None,
     ) -> Row:
         # Much of it is written out, for it is all that a typed call costs beside the rules.
         kind, pack_into, read = FORMS[verb]
@@ -391,7 +394,7 @@ class MarketClient(Calls):
         for amount in amounts:
             if type(amount) is not int:
                 check_numbers((amount,), AMOUNTS)
-        words = hints and (NO_WORDS if hints is NO_HINTS else hint_words(hints))
+        words = () if hints is None else NO_WORDS if hints is NO_HINTS else hint_words(hints)
         number = 0 if self._is_numbered else self.next_number
         held, sent, reply, item = self._parts
         if not held.lock.acquire(False):

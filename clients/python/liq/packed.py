@@ -3,7 +3,7 @@
 import struct
 from typing import Any, Callable, Dict, Iterable, Iterator, NamedTuple, Optional, Sequence, Tuple, Type
 
-from .client import ACCOUNTS, spelt
+from .client import ACCOUNTS, pair, spelt
 from .journal import FIELDS, KINDS, NO_HINT, VERBS
 from .library import ITEM_BYTES, OUT_OF_MEMORY, REFUSED, TOPICS
 from .refusals import refusal_of
@@ -78,6 +78,6 @@ def check_numbers(numbers: Iterable[int], limit: int) -> None:
 
 def hint_words(hints: Sequence[Optional[int]]) -> Tuple[int, int]:
     """Two hints as they are packed."""
-    before, after = hints
+    before, after = pair(hints)
     check_numbers([hint for hint in hints if hint is not None], ACCOUNTS)
     return NO_HINT if before is None else before, NO_HINT if after is None else after

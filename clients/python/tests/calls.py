@@ -123,6 +123,9 @@ class Refused(Cases):
         self.assertRaises(ValueError, client.fund, 1, 2**64)
         self.assertRaises(ValueError, client.open, 1, 10**10, 4 * 10**9, hints=(2**20, None))
         self.assertRaises(TypeError, client.open, 1, 10**10, 4 * 10**9, hints=("1", None))
+        for hints in (), (1,), (1, 2, 3):
+            self.assertRaises(ValueError, client.open, 1, 10**10, 4 * 10**9, hints=hints)
+            self.assertRaises(ValueError, client.gain_to_trove, 1, hints=hints)
         client.fund(1, 10**18)
         client.fund(2**20 - 1, 1)
         for ask in (market.wallet, market.trove, market.deposit, market.next_number, market.client):

@@ -119,7 +119,8 @@ module _ {X : Type 0} (way : Way X) (goes : GoesOn way) (s : State) (items : Lis
     over batch below above ends =
         let all : done ≡ most = omega (arith, below, above) in
         let whole =
-        subst (λ (k : ℕ). Answered way s items (record { done = k; fault = None }) before now old new) all (over_at all) in
+        subst (λ (k : ℕ). Answered way s items (record { done = k; fault = None }) before now old new) all
+        (over_at all) in
         subst (λ (b : Batch). Answered way s items b before now old new) (sym ends) whole
 
     -- the next item has a fault
@@ -145,7 +146,8 @@ module _ {X : Type 0} (way : Way X) (goes : GoesOn way) (s : State) (items : Lis
           ends = (
             omega (arith, low, is),
             λ e.
-                subst (λ (x : X). HasFault way t x fault) (get_or_default items done d e (omega (arith, low, is))) got.0,
+                subst (λ (x : X). HasFault way t x fault)
+                (get_or_default items done d e (omega (arith, low, is))) got.0,
           );
         }
 

@@ -85,7 +85,8 @@ module _ (s : State) (given : List Command96) where
         }) in
         subst (λ (b : Batch). Numbers s given left b before now old new) (sym ends) whole
 
-    pub numbered_stopped : (after : Content) (fault : Fault) (item d : Command96) (batch : Batch) (places : List Reply96)
+    pub numbered_stopped : (after : Content) (fault : Fault) (item d : Command96)
+        (batch : Batch) (places : List Reply96)
         → done < most → done < length left
         → batch ≡ record { done = done; fault = Some fault } → places ≡ set new done (said fault)
         → ((t : State) → StandsFor now.core t → AnswersItem numbering t (get_or left done d) (Err fault) now after)

@@ -53,8 +53,8 @@ query_in q =
 
 -- ---- ways to answer items
 
--- Which request an item is; where requests lead, and the replies to them; whom the last command touched
--- that was accepted, behind them; and for which requests memory may be missing.
+-- Which request an item is; where requests lead, and the replies to them; whom the last command
+-- touched that was accepted, behind them; and for which requests memory may be missing.
 pub record Way (X : Type 0) : Type 1 where
   pub read : X → Result Request ℕ
   pub go : State → List Request → State × List Reply
@@ -127,8 +127,8 @@ last (Some fault) = said fault ∷ []
 abbrev pub Writes : {A : Type 0} → List A → List A → List A → Type 0
 Writes old written new = new ≡ written ++ drop (length written) old
 
--- Why a batch ended with so many answered, in the state to which these lead: the next item has a fault,
--- or there is no next one, or no place for its reply.
+-- Why a batch ended with so many answered, in the state to which these lead: the next item has a
+-- fault, or there is no next one, or no place for its reply.
 abbrev pub Ends : {X : Type 0} → Way X → State → List X → (places done : ℕ) → Option Fault → Type 0
 Ends way s items places done None = done ≡ min (length items) places
 Ends way s items places done (Some fault) =

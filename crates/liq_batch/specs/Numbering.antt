@@ -46,8 +46,8 @@ numbered_in s (Ok request) = Ok (numbered s request)
 numbered_in s (Err place) = Err place
 
 -- A batch whose commands have their numbers where they are answered. The others are as they were.
-pub record Numbers (s : State) (given left : List Command96) (batch : Batch) (before after : Content)
-    (old new : List Reply96) : Type 0 where
+pub record Numbers (s : State) (given left : List Command96) (batch : Batch)
+    (before after : Content) (old new : List Reply96) : Type 0 where
   pub answered : Answered numbering s given batch before after old new
   pub numbers : map command_in (take batch.done left) ≡ map Ok (numbered_all s answered.requests)
   pub others : drop batch.done left ≡ drop batch.done given

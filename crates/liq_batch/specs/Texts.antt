@@ -49,8 +49,8 @@ EndsText s rest room taken (Some Bad) =
 EndsText s rest room taken (Some NoMemory) =
     (taken ≡ 0) ⊎ ((line : List ℕ) × BeginsWithLine line rest × HasLineFault s line NoMemory)
 
--- The text begins with lines that spell requests, and their replies stand in lines of their own. The
--- market is where the requests lead, and tells whom they touched.
+-- The text begins with lines that spell requests, and their replies stand in lines of their own.
+-- The market is where the requests lead, and tells whom they touched.
 pub record AnsweredText (s : State) (text : List ℕ) (lines : Lines) (before after : Content)
     (old new : List ℕ) : Type 0 where
   pub asked : List (List ℕ)

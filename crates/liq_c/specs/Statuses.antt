@@ -27,19 +27,27 @@ line_status (Some line_faults.Bad) = BAD
 line_status (Some line_faults.NoMemory) = NO_MEMORY
 
 abbrev pub told_text : Lines → TextDone
-told_text lines = record { taken = lines.taken; written = lines.written; status = line_status lines.fault }
+told_text lines = record {
+  taken = lines.taken;
+  written = lines.written;
+  status = line_status lines.fault;
+}
 
--- A call that answers a batch of so many items. Without a market it does nothing; else it tells how the batch ended, and the
--- batch leaves the market that is then in the place.
-abbrev pub Ends : (old new : Option Content) → (items : ℕ) → Done → Type 0 → (Content → Content → Batch → Type 0) → Type 0
+-- A call that answers a batch of so many items. Without a market it does nothing; else it tells how the
+-- batch ended, and the batch leaves the market that is then in the place.
+abbrev pub Ends : (old new : Option Content) → (items : ℕ) → Done → Type 0
+    → (Content → Content → Batch → Type 0) → Type 0
 Ends None new items result Unwritten Leaves =
     (result ≡ record { done = 0; status = NO_MARKET }) × (new ≡ None) × Unwritten
 Ends (Some m) new items result Unwritten Leaves =
-    (after : Content) × (new ≡ Some after) × ((batch : Batch) × (result ≡ told batch items) × Leaves m after batch)
+    (after : Content) × (new ≡ Some after)
+    × ((batch : Batch) × (result ≡ told batch items) × Leaves m after batch)
 
 -- the same of a text
-abbrev pub EndsText : (old new : Option Content) → TextDone → Type 0 → (Content → Content → Lines → Type 0) → Type 0
+abbrev pub EndsText : (old new : Option Content) → TextDone → Type 0
+    → (Content → Content → Lines → Type 0) → Type 0
 EndsText None new result Unwritten Leaves =
     (result ≡ record { taken = 0; written = 0; status = NO_MARKET }) × (new ≡ None) × Unwritten
 EndsText (Some m) new result Unwritten Leaves =
-    (after : Content) × (new ≡ Some after) × ((lines : Lines) × (result ≡ told_text lines) × Leaves m after lines)
+    (after : Content) × (new ≡ Some after)
+    × ((lines : Lines) × (result ≡ told_text lines) × Leaves m after lines)

@@ -3,9 +3,7 @@
 ghost use Rattle.std.specs.Prelude.{◌≡◌, length};
 ghost use Rattle.liq_types.specs.State.{State};
 ghost use Rattle.liq_core.specs.Core.{StandsFor};
-ghost use Rattle.liq_rules.specs.Memory.{TakesMemory};
-ghost use Rattle.liq_rules.specs.Step.{run};
-ghost use Rattle.liq_batch.specs.Batch.{Answered, Never, PlansAList, apart, command_in, query_in};
+ghost use Rattle.liq_batch.specs.Batch.{Answered, asking, doing, previewing};
 ghost use Rattle.liq_batch.specs.Numbering.{Numbers};
 ghost use Rattle.liq_batch.specs.Texts.{AnsweredText};
 ghost use Rattle.liq_c.specs.Statuses.{Ends, EndsText};
@@ -24,9 +22,10 @@ pub extern "C" fn liq_do(
     commands: &[Command96],
     replies: &mut [Reply96],
 ) -> Done
-    ensures { Ends slot.old.inside.held slot.new.inside.held (length commands.now) result (replies.new ≡ replies.old)
-        (λ m after batch. (s : State) → StandsFor m.core s → Answered command_in run TakesMemory
-        s commands.now batch after.core replies.old replies.new) }
+    ensures { Ends slot.old.inside.held slot.new.inside.held (length commands.now) result
+        (replies.new ≡ replies.old)
+        (λ m after batch. (s : State) → StandsFor m.core s → Answered doing
+        s commands.now batch m after replies.old replies.new) }
 {
     let Some(mut market) = slot.take(alloc) else {
         return Done::NONE;
@@ -47,7 +46,7 @@ pub extern "C" fn liq_next(
     ensures { Ends slot.old.inside.held slot.new.inside.held (length commands.old) result
         ((replies.new ≡ replies.old) × (commands.new ≡ commands.old))
         (λ m after batch. (s : State) → StandsFor m.core s → Numbers
-        s commands.old commands.new batch after.core replies.old replies.new) }
+        s commands.old commands.new batch m after replies.old replies.new) }
 {
     let Some(mut market) = slot.take(alloc) else {
         return Done::NONE;
@@ -66,9 +65,10 @@ pub extern "C" fn liq_ask(
     queries: &[Query64],
     replies: &mut [Reply96],
 ) -> Done
-    ensures { Ends slot.old.inside.held slot.new.inside.held (length queries.now) result (replies.new ≡ replies.old)
-        (λ m after batch. (after ≡ m) × ((s : State) → StandsFor m.core s → Answered query_in run Never
-        s queries.now batch m.core replies.old replies.new)) }
+    ensures { Ends slot.old.inside.held slot.new.inside.held (length queries.now) result
+        (replies.new ≡ replies.old)
+        (λ m after batch. (after ≡ m) × ((s : State) → StandsFor m.core s → Answered asking
+        s queries.now batch m m replies.old replies.new)) }
 {
     let Some(market) = slot.take(alloc) else {
         return Done::NONE;
@@ -86,9 +86,10 @@ pub extern "C" fn liq_preview(
     commands: &[Command96],
     replies: &mut [Reply96],
 ) -> Done
-    ensures { Ends slot.old.inside.held slot.new.inside.held (length commands.now) result (replies.new ≡ replies.old)
-        (λ m after batch. (after ≡ m) × ((s : State) → StandsFor m.core s → Answered command_in apart PlansAList
-        s commands.now batch m.core replies.old replies.new)) }
+    ensures { Ends slot.old.inside.held slot.new.inside.held (length commands.now) result
+        (replies.new ≡ replies.old)
+        (λ m after batch. (after ≡ m) × ((s : State) → StandsFor m.core s → Answered previewing
+        s commands.now batch m m replies.old replies.new)) }
 {
     let Some(market) = slot.take(alloc) else {
         return Done::NONE;
@@ -103,7 +104,7 @@ pub extern "C" fn liq_preview(
 pub extern "C" fn liq_lines(alloc: Global, slot: &mut Slot, text: &[u8], out: &mut [u8]) -> TextDone
     ensures { EndsText slot.old.inside.held slot.new.inside.held result (out.new ≡ out.old)
         (λ m after lines. (s : State) → StandsFor m.core s → AnsweredText
-        s text.now lines after.core out.old out.new) }
+        s text.now lines m after out.old out.new) }
 {
     let Some(mut market) = slot.take(alloc) else {
         return TextDone::NONE;

@@ -13,11 +13,14 @@ use liq_market::Market;
 use liq_types::NoMemory;
 use std::alloc::Global;
 
-/// Puts a market into a place, as it opens. What was in it is freed. Without memory the place is as it was.
+/// Puts a market into a place, as it opens: it has touched nobody. What was in it is freed. Without memory the place is
+/// as it was.
 #[unsafe(no_mangle)]
 pub extern "C" fn liq_open(alloc: Global, slot: &mut Slot) -> u32
-    ensures opened { result ≡ OK → Has (λ m. StandsFor m.core opening) slot.new.inside.held }
-    ensures failed { result ≢ OK → (result ≡ NO_MEMORY) × (slot.new.inside.held ≡ slot.old.inside.held) }
+    ensures opened { result ≡ OK
+        → Has (λ m. StandsFor m.core opening × (m.touched ≡ [])) slot.new.inside.held }
+    ensures failed { result ≢ OK
+        → (result ≡ NO_MEMORY) × (slot.new.inside.held ≡ slot.old.inside.held) }
 {
     match Box::new(alloc, Market::new(alloc)) {
         Ok(market) => {
@@ -36,7 +39,8 @@ pub extern "C" fn liq_close(alloc: Global, slot: &mut Slot)
     *slot = Slot::closed(alloc);
 }
 
-/// Puts the same market into another place; what was in that is freed. Without a market or memory that place is as it was.
+/// Puts the same market into another place; what was in that is freed. Without a market or memory that place is as it
+/// was.
 #[unsafe(no_mangle)]
 pub extern "C" fn liq_fork(alloc: Global, slot: &mut Slot, into: &mut Slot) -> u32
     ensures kept { slot.new.inside.held ≡ slot.old.inside.held }
@@ -57,7 +61,8 @@ pub extern "C" fn liq_fork(alloc: Global, slot: &mut Slot, into: &mut Slot) -> u
 }
 
 fn forked(alloc: Global, market: &Market) -> Result<Box<Market>, NoMemory>
-    ensures { IfOk result (λ fork. SameContent market.now.core fork.value.core × (fork.value.touched ≡ [])) }
+    ensures { IfOk result (λ fork.
+        SameContent market.now.core fork.value.core × (fork.value.touched ≡ [])) }
 {
     match Box::new(alloc, market.fork(alloc)?) {
         Ok(fork) => Ok(fork),

@@ -12,7 +12,8 @@ use std::alloc::Global;
 #[unsafe(no_mangle)]
 pub extern "C" fn liq_save_size(alloc: Global, slot: &mut Slot) -> usize
     ensures kept { slot.new.inside.held ≡ slot.old.inside.held }
-    ensures size { MatchOption slot.old.inside.held (result ≡ 0) (λ m. result ≡ min (length (save_of m)) (2 ^ 64 - 1)) }
+    ensures size { MatchOption slot.old.inside.held (result ≡ 0)
+        (λ m. result ≡ min (length (save_of m)) (2 ^ 64 - 1)) }
 {
     let Some(market) = slot.take(alloc) else {
         return 0;

@@ -60,7 +60,8 @@ impl Slot {
 
     /// The market that is in it, if there is one.
     fn into_market(self) -> Option<Box<Market>>
-        ensures { MatchOption result (self.inside.held ≡ None) (λ b. self.inside.held ≡ Some b.value) }
+        ensures { MatchOption result
+            (self.inside.held ≡ None) (λ b. self.inside.held ≡ Some b.value) }
     {
         let Slot {
             inside,
@@ -76,7 +77,8 @@ impl Slot {
 
     /// Takes the market out, if there is one.
     pub fn take(&mut self, alloc: Global) -> Option<Box<Market>>
-        ensures took { MatchOption result (self.old.inside.held ≡ None) (λ b. self.old.inside.held ≡ Some b.value) }
+        ensures took { MatchOption result
+            (self.old.inside.held ≡ None) (λ b. self.old.inside.held ≡ Some b.value) }
         ensures left { self.new.inside.held ≡ None }
     {
         std::mem::replace(self, Slot::closed(alloc)).into_market()

@@ -9,13 +9,22 @@ use Rattle.liq_c.proofs.batches.liq_next.Goals as goal
 
 pub returns : goal.returns
 returns c =
-    let leaves = λ (m after : Content) (batch : Batch). (s : State) → StandsFor m.core s → Numbers s c.args.commands.now c.next_all-batch.new.commands batch after.core c.args.replies.now c.next_all-batch.new.replies in
-    subst (λ (old : Option Content). Ends old c.of.result.inside.held (length c.args.commands.now) c.of-2.result ((c.next_all-batch.new.replies ≡ c.args.replies.now) × (c.next_all-batch.new.commands ≡ c.args.commands.now)) leaves) (sym c.in-Some.ensures.took) (
+    let given = c.args.commands.now in
+    let left = c.next_all-batch.new.commands in
+    let old = c.args.replies.now in
+    let new = c.next_all-batch.new.replies in
+    let leaves = λ (m after : Content) (batch : Batch).
+    (s : State) → StandsFor m.core s → Numbers s given left batch m after old new in
+    subst
+    (λ (held : Option Content).
+    Ends held c.of.result.inside.held (length given) c.of-2.result ((new ≡ old) × (left ≡ given)) leaves)
+    (sym c.in-Some.ensures.took) (
       c.next_all-batch.new.market,
       c.of.ensures,
       (
         c.next_all-batch.result,
         c.of-2.ensures,
-        subst (λ (m : Content). leaves m c.next_all-batch.new.market c.next_all-batch.result) c.deref_mut.ensures.value c.next_all-batch.ensures,
+        subst (λ (m : Content). leaves m c.next_all-batch.new.market c.next_all-batch.result) c.deref_mut.ensures.value
+            c.next_all-batch.ensures,
       ),
     )
