@@ -3,7 +3,7 @@
 use crate::tests::checks::shows;
 use crate::tests::runs::says;
 use liq_market::Market;
-use liq_market::laws::{markets_are_sound, markets_stand};
+use liq_market::laws::{markets_are_sound, markets_stand, saves_are_loaded};
 use liq_types::{Call, Command, Info, NoMemory, Query, Refusal, Reply, Request};
 use std::alloc::Global;
 
@@ -22,8 +22,9 @@ fn is(reply: &Result<Reply, NoMemory>, want: Reply) -> bool {
     }
 }
 
-/// What a market answers to a preview, the command, the command again, a number too far, its own next number, and a query.
-fn answers(alloc: Global) -> [bool; 6] {
+/// What a market answers to a preview, the command, the command again, a number too far, its own next number, and a query;
+/// and whether what it saves is loaded.
+fn answers(alloc: Global) -> [bool; 7] {
     let mut market = Market::new(alloc);
     markets_stand(&market);
     markets_are_sound(&market);
@@ -40,11 +41,12 @@ fn answers(alloc: Global) -> [bool; 6] {
         is(&far, Reply::No(Refusal::OutOfTurn { expected: 2 })),
         number == 2 && says(&next, 3, [0; 6]),
         told == Reply::Told(Info::Wallet { coll: 14, lusd: 0 }),
+        saves_are_loaded(alloc, &market).is_ok(),
     ]
 }
 
 #[test]
 fn answers_are_those_of_the_rules(rt: HostRuntime) {
-    let is_right = answers(rt.alloc()) == [true; 6];
+    let is_right = answers(rt.alloc()) == [true; 7];
     shows(&rt, "what a market answers", is_right);
 }
