@@ -23,9 +23,9 @@ class Calls:
 
     An accepted command gives a named tuple of its values (`replies`); a refused one raises its refusal (`refusals`)
     and leaves its number to the next. Amounts are whole numbers: ether in gwei, LUSD and prices in millionths;
-    `units` makes them of decimal text. Hints are two, each an account or None; liq finds the place by itself. An account
-    or a hint of 2^20 or more, an amount of 2^64 or more, or one hint alone, is a `ValueError`, what is no whole number a
-    `TypeError`: then nothing is sent.
+    `units` makes them of decimal text. Hints are two, each an account or None; liq finds the place by itself. An
+    account or a hint of 2^20 or more, an amount of 2^64 or more, or one hint alone, is a `ValueError`, what is no whole
+    number a `TypeError`: then nothing is sent.
     """
 
     def _send(

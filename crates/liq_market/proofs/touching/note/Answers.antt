@@ -1,4 +1,4 @@
-use Rattle.std.proofs.Common.{List, ℕ, ◌++◌, sym, ap, ◌∙◌, append-nil, arith}
+use Rattle.std.proofs.Common.{arith}
 use Rattle.liq_rules.specs.Step.{accounts}
 use Rattle.liq_market.proofs.Moves.{moves_on}
 use Rattle.liq_market.proofs.touching.note.Goals as goal
