@@ -24,25 +24,43 @@ pub fn changed(alloc: Global, held: &[u8], words: &[&str]) -> Result<Vec<u8>, Mi
 
 /// Changes bytes that a disk holds.
 fn change_bytes(held: &mut Vec<u8>, words: &[&str]) -> Result<(), Misread> {
-    match words {
-        [_, "cut", count] => cut(held, number(count)?),
-        [_, "flip", place] => {
-            let byte = byte_at(held, place)?;
-            *byte ^= 1;
-            Ok(())
-        }
-        [_, "set", place, value] => {
-            let value = byte(value)?;
-            *byte_at(held, place)? = value;
-            Ok(())
-        }
+    let [_, how, rest @ ..] = words else {
+        return Err(Misread::NotUnderstood);
+    };
+    match *how {
+        "cut" => cut(held, rest),
+        "flip" => flip(held, rest),
+        "set" => put(held, rest),
         _ => Err(Misread::NotUnderstood),
     }
 }
 
+/// Turns the last bit of the byte at a place.
+fn flip(held: &mut Vec<u8>, words: &[&str]) -> Result<(), Misread> {
+    let [place] = words else {
+        return Err(Misread::NotUnderstood);
+    };
+    let byte = byte_at(held, place)?;
+    *byte ^= 1;
+    Ok(())
+}
+
+/// Puts a byte at a place.
+fn put(held: &mut Vec<u8>, words: &[&str]) -> Result<(), Misread> {
+    let [place, value] = words else {
+        return Err(Misread::NotUnderstood);
+    };
+    let value = byte(value)?;
+    *byte_at(held, place)? = value;
+    Ok(())
+}
+
 /// Keeps the first so many bytes of at least as many.
-fn cut(held: &mut Vec<u8>, count: u64) -> Result<(), Misread> {
-    let count = count as usize;
+fn cut(held: &mut Vec<u8>, words: &[&str]) -> Result<(), Misread> {
+    let [count] = words else {
+        return Err(Misread::NotUnderstood);
+    };
+    let count = number(count)? as usize;
     if count > held.len() {
         return Err(Misread::NotUnderstood);
     }

@@ -8,31 +8,54 @@ use std::alloc::Global;
 
 /// Takes the words of a setting, which stands in this line.
 pub fn set(alloc: Global, run: &mut Run, line: usize, words: &[&str]) -> Result<(), Misread> {
-    match words {
-        ["words", words @ ..] => {
-            run.words.clear();
-            put_words(alloc, &mut run.words, words)?;
-            Ok(())
-        }
-        ["status", status] => set_status(run, status),
-        ["reads", sizes @ ..] => put_numbers(&mut run.reads, sizes),
-        ["writes", sizes @ ..] => put_numbers(&mut run.writes, sizes),
-        ["found", lines] => run.begin_found(alloc, number(lines)?),
-        ["input", words @ ..] => set_input(run, words),
-        ["legal"] => {
-            run.legal = true;
-            Ok(())
-        }
-        words => set_of_device(alloc, run, line, words),
+    let [what, rest @ ..] = words else {
+        return Err(Misread::NotUnderstood);
+    };
+    match *what {
+        "words" => set_words(alloc, run, rest),
+        "status" => set_status(run, rest),
+        "reads" => put_numbers(&mut run.reads, rest),
+        "writes" => put_numbers(&mut run.writes, rest),
+        "found" => begin_found(alloc, run, rest),
+        "input" => set_input(run, rest),
+        "legal" => set_legal(run, rest),
+        device => set_of_device(alloc, run, line, device, rest),
     }
 }
 
+/// Takes the words of the command line in place of those before.
+fn set_words(alloc: Global, run: &mut Run, words: &[&str]) -> Result<(), Misread> {
+    run.words.clear();
+    put_words(alloc, &mut run.words, words)?;
+    Ok(())
+}
+
 /// Takes the status that must come, which is written once.
-fn set_status(run: &mut Run, status: &str) -> Result<(), Misread> {
+fn set_status(run: &mut Run, words: &[&str]) -> Result<(), Misread> {
+    let [status] = words else {
+        return Err(Misread::NotUnderstood);
+    };
     if run.status.is_some() {
         return Err(Misread::NotUnderstood);
     }
     run.status = Some(byte(status)?);
+    Ok(())
+}
+
+/// Begins what is found after so many lines.
+fn begin_found(alloc: Global, run: &mut Run, words: &[&str]) -> Result<(), Misread> {
+    match words {
+        [lines] => run.begin_found(alloc, number(lines)?),
+        _ => Err(Misread::NotUnderstood),
+    }
+}
+
+/// Takes that replies may be those along any legal history.
+fn set_legal(run: &mut Run, words: &[&str]) -> Result<(), Misread> {
+    if !words.is_empty() {
+        return Err(Misread::NotUnderstood);
+    }
+    run.legal = true;
     Ok(())
 }
 
@@ -51,24 +74,33 @@ fn set_input(run: &mut Run, words: &[&str]) -> Result<(), Misread> {
     }
 }
 
-/// Takes calls that fail, a sweep, or a fact.
-fn set_of_device(alloc: Global, run: &mut Run, line: usize, words: &[&str]) -> Result<(), Misread> {
-    match words {
-        [device, "fails", calls @ ..] => put_numbers(failing(&mut run.failing, device)?, calls),
-        [device, "sweep", calls @ ..] => {
-            run.sweeps.push(sweep(device, calls)?)?;
-            Ok(())
-        }
-        [disk, "forged", numbers @ ..] => {
-            run.sweeps.push(forged(disk, numbers)?)?;
-            Ok(())
-        }
-        words => {
-            let says = says(alloc, words)?;
-            run.facts.push(Fact { line, says })?;
-            Ok(())
-        }
+/// Takes a device's calls that fail, a sweep over them, or a fact of it.
+fn set_of_device(
+    alloc: Global,
+    run: &mut Run,
+    line: usize,
+    device: &str,
+    words: &[&str],
+) -> Result<(), Misread> {
+    let [what, calls @ ..] = words else {
+        return Err(Misread::NotUnderstood);
+    };
+    match *what {
+        "fails" => put_numbers(failing(&mut run.failing, device)?, calls),
+        "sweep" => put_sweep(run, sweep(device, calls)?),
+        "forged" => put_sweep(run, forged(device, calls)?),
+        _ => put_fact(run, line, says(alloc, device, words)?),
     }
+}
+
+fn put_sweep(run: &mut Run, asked: Asked) -> Result<(), Misread> {
+    run.sweeps.push(asked)?;
+    Ok(())
+}
+
+fn put_fact(run: &mut Run, line: usize, says: Says) -> Result<(), Misread> {
+    run.facts.push(Fact { line, says })?;
+    Ok(())
 }
 
 /// The calls of a device that fail.
@@ -141,13 +173,20 @@ fn last_sweep(stream: &str, calls: u64) -> Result<Asked, Misread> {
     }
 }
 
-/// What a fact says.
-fn says(alloc: Global, words: &[&str]) -> Result<Says, Misread> {
+/// What a fact says of a device, or of what is unread.
+fn says(alloc: Global, device: &str, words: &[&str]) -> Result<Says, Misread> {
     match words {
-        ["unread", count] => Ok(Says::Unread(number(count)?)),
-        [stream, "faults", count] => faults(stream, number(count)?),
-        [disk, held @ ..] => Ok(Says::Disk(side_of(disk)?, read_held(alloc, held)?)),
-        [] => Err(Misread::NotUnderstood),
+        [count] => unread(device, number(count)?),
+        ["faults", count] => faults(device, number(count)?),
+        held => Ok(Says::Disk(side_of(device)?, read_held(alloc, held)?)),
+    }
+}
+
+/// That so many bytes are unread.
+fn unread(what: &str, count: u64) -> Result<Says, Misread> {
+    match what {
+        "unread" => Ok(Says::Unread(count)),
+        _ => Err(Misread::NotUnderstood),
     }
 }
 
