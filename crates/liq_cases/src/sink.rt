@@ -1,8 +1,8 @@
 //! A sink that takes few bytes in a call.
 
-ghost use Rattle.std.specs.Prelude.{◌≡◌, ◌<◌, Some};
+ghost use Rattle.std.specs.Prelude.{◌≡◌, ◌<◌, None, Some};
 
-use liq_outside::{Failed, Sink};
+use liq_outside::{Disk, Failed, Sink};
 use std::alloc::Global;
 
 /// Takes at most `most` bytes in a call, and fails in the calls of these numbers, counted from 0.
@@ -48,6 +48,10 @@ impl Sink for SmallSink {
     ghost held = { λ s. Some s.bytes.items };
 
     ghost faults = { λ s. s.faults };
+
+    ghost shown = { λ _. None };
+
+    fn show<D: Disk>(&mut self, _left: &D, _right: &D) {}
 
     fn write(&mut self, bytes: &[u8]) -> Result<usize, Failed> {
         let count = bytes.len().min(self.most);

@@ -1,14 +1,23 @@
 -- How looks at a disk go on.
-use Rattle.std.proofs.Common.{◌≡◌, ℕ, ◌+◌, ◌-◌, ◌≤◌, List, ◌++◌, length, take, drop, Option, Some, None, IfSome, ◌∙◌, sym, ap, subst, arith, take-append-drop, append_assoc, length-append, length-take}
+use Rattle.std.proofs.Common.{◌≡◌, ℕ, ◌+◌, ◌-◌, ◌≤◌, List, ◌++◌, length, take, drop, Option, Some, None, IfSome, ◌∙◌, refl, sym, ap, subst, arith, take-append-drop, append_assoc, length-append, length-take}
 use Rattle.std.proofs.lemmas.List.{take-take, drop-take, drop-drop}
 use Rattle.sha2.specs.Sha256.{sha256}
 use Rattle.liq_header.specs.Layout.{header_digest, piece}
 use Rattle.liq_header.proofs.Hashed.{header_digest_is}
 use Rattle.liq_outside.specs.Disk.{LeftNow, Within, Elapses}
-use Rattle.liq_outside.proofs.Moments.{chained, weaker, call}
+use Rattle.liq_outside.proofs.Moments.{chained, weaker, call, started}
 use Rattle.liq_journal.specs.Looked.{IsRead, Looked}
 
 module _ {D : Type 0} (seen : D → Option (List ℕ)) (moment : D → ℕ) (left_at : D → ℕ → List ℕ → Type 0) where
+  -- before the first call
+  pub looked_none : (old : D) → Looked seen moment left_at old old
+  looked_none old = record {
+    same = refl;
+    within = λ image left. left;
+    keeps = λ image left. left;
+    leaves = started moment left_at old (LeftNow moment left_at old) (λ image left. left);
+  }
+
   pub looked_once : (old new : D) → seen new ≡ seen old → Within (LeftNow moment left_at new) (LeftNow moment left_at old) → Within (LeftNow moment left_at old) (LeftNow moment left_at new) → Elapses moment left_at old new → Looked seen moment left_at old new
   looked_once old new same within keeps time = record { same = same; within = within; keeps = keeps; leaves = call moment left_at old new (LeftNow moment left_at old) time (λ image left. left) within }
 

@@ -1,5 +1,5 @@
 -- How bytes are taken from a part of a disk.
-use Rattle.std.proofs.Common.{◌≡◌, inl, inr, ℕ, zero, suc, ◌+◌, ◌-◌, ◌≤◌, min, List, [], ◌++◌, length, take, drop, Option, IfSome, Bool, false, nat_lt, if◌then◌else◌, refl, sym, ◌∙◌, ap, arith, length-take, length-drop}
+use Rattle.std.proofs.Common.{◌≡◌, inl, inr, ℕ, zero, suc, ◌+◌, ◌-◌, ◌≤◌, min, List, [], ◌++◌, length, take, drop, Option, Some, None, IfSome, Bool, false, nat_lt, if◌then◌else◌, refl, sym, ◌∙◌, ap, subst, arith, length-take, length-drop}
 use Rattle.std.proofs.lemmas.Bool.{cases_Bool}
 use Rattle.std.proofs.lemmas.Bool.Decides.{nat_tests}
 use Rattle.std.proofs.lemmas.List.{take-take, take_at, take_min, drop-drop}
@@ -66,3 +66,8 @@ copied told at n bytes buf new is same reached = if_some told (λ held. take (le
     let rest = length-drop at held in
     let few : n ≤ m = omega (arith, is) in
     (omega (arith, is, size, rest), same ∙ sym (take-take n m bytes few) ∙ ap (take n) r ∙ take-take n m (drop at held) few)) reached
+
+-- no bytes are a part of any
+pub told_empty : (told : Option (List ℕ)) (part : Part) → part ≡ record { at = 0; bytes = [] } → IfSome told (IsPartOf part)
+told_empty None part is = tt
+told_empty (Some held) part is = subst (λ (p : Part). IsPartOf p held) (sym is) refl

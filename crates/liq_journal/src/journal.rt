@@ -318,6 +318,13 @@ impl<D: Disk> Journal<D> {
         self.count
     }
 
+    /// The disk, as it is.
+    pub fn disk(&self) -> &D
+        ensures { result.now ≡ self.now.disk }
+    {
+        &self.disk
+    }
+
     /// How many faults its disk has met. It is no device call.
     pub fn faults(&self) -> u64
         ensures { result ≡ D.faults self.now.disk }
@@ -325,7 +332,7 @@ impl<D: Disk> Journal<D> {
         self.disk.faults()
     }
 
-    /// The disk, as it is.
+    /// Its disk, which it lets go as it is.
     pub fn close(self) -> D
         ensures { result ≡ self.disk }
     {

@@ -11,6 +11,7 @@ pub fn write_all<K: Sink>(out: &mut K, bytes: &[u8]) -> Result<(), Failed>
     ensures ok { OnOk result (Writes (K.held out.old) bytes.now (K.held out.new)) }
     ensures err { OnErr result (WritesPart (K.held out.old) bytes.now (K.held out.new)) }
     ensures cause { HasCause (K.faults out.old) (K.faults out.new) result }
+    ensures unshown { K.shown out.new ≡ K.shown out.old }
 {
     let mut written = 0;
     while written < bytes.len() {

@@ -36,6 +36,10 @@ LeftNow moment left_at disk image = left_at disk (moment disk) image
 abbrev pub LeftSince : {D : Type 0} → (D → ℕ) → (D → ℕ → List ℕ → Type 0) → D → ℕ → List ℕ → Type 0
 LeftSince moment left_at disk since image = (k : ℕ) × (since ≤ k) × (k ≤ moment disk) × left_at disk k image
 
+-- what a crash from one moment to another may have left
+abbrev pub LeftBetween : {D : Type 0} → (D → ℕ → List ℕ → Type 0) → D → ℕ → ℕ → List ℕ → Type 0
+LeftBetween left_at disk from to image = (k : ℕ) × (from ≤ k) × (k ≤ to) × left_at disk k image
+
 -- Time goes on, and what a crash may have left at a past moment stays what it was.
 pub record GoesOn {D : Type 0} (moment : D → ℕ) (left_at : D → ℕ → List ℕ → Type 0) (old new : D) : Type 0 where
   pub later : moment old ≤ moment new

@@ -6,4 +6,5 @@ pub mod DiskInMemory
 pub mod Faults
 pub mod Made
 pub mod Memory
+pub mod Showings
 pub mod Staying

@@ -1,5 +1,6 @@
-use Rattle.std.specs.Prelude.{ℕ, List, ◌++◌, drop, length, min}
+use Rattle.std.specs.Prelude.{ℕ, Option, List, ◌++◌, drop, length, min}
 use Rattle.liq_outside.specs.Calls.{Calls, begun, faulted}
+use Rattle.liq_outside.specs.declared.showing.Showing.{Showing}
 
 -- a source in memory
 pub record SourceInMemory : Type 0 where
@@ -25,11 +26,13 @@ after_failed_read source = record source { calls = faulted (begun source.calls) 
 pub record SinkInMemory : Type 0 where
   -- the bytes that were written
   pub held : List ℕ
+  -- each time that it was shown two disks, while there was memory for that
+  pub shown : Option (List Showing)
   pub calls : Calls
 
 -- after a write of all the bytes
 abbrev pub after_write : SinkInMemory → List ℕ → SinkInMemory
-after_write sink bytes = record { held = sink.held ++ bytes; calls = begun sink.calls }
+after_write sink bytes = record sink { held = sink.held ++ bytes; calls = begun sink.calls }
 
 -- after a write that failed
 abbrev pub after_failed_write : SinkInMemory → SinkInMemory

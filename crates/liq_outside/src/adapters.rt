@@ -4,6 +4,7 @@ ghost use Rattle.std.specs.Io.KnownBytes.{ReadConsumes, WriteAppends};
 ghost use Rattle.liq_outside.specs.Adapters.{CountsFailure};
 ghost use Rattle.liq_outside.specs.Faults.{HasCause};
 
+use super::disk::Disk;
 use super::failed::Failed;
 use super::sink::Sink;
 use super::source::Source;
@@ -99,6 +100,13 @@ impl<W: Write> Sink for StdSink<W> {
     ghost held = { λ _. None };
 
     ghost faults = { λ s. s.faults };
+
+    ghost shown = { λ _. None };
+
+    /// It tells nothing of what it is shown.
+    fn show<D: Disk>(&mut self, _left: &D, _right: &D)
+        ensures { self.new ≡ self.old }
+    {}
 
     /// A writer that takes none of a piece that isn't empty has failed too.
     fn write(&mut self, bytes: &[u8]) -> Result<usize, Failed>

@@ -8,6 +8,8 @@ ghost use Rattle.liq_outside.specs.Faults.{HasCause};
 use super::device::Device;
 use super::disk::Disk;
 use super::failed::Failed;
+use super::key::Key;
+use super::ours::Ours;
 use std::marker::Model;
 
 /// A device as a disk: where one call of the device does a part of what is asked, the next goes on behind it.
@@ -43,6 +45,8 @@ impl<V: Device> DeviceDisk<V> {
         self.device.is_some()
     }
 }
+
+impl<V: Device> Ours for DeviceDisk<V> {}
 
 impl<V: Device> Disk for DeviceDisk<V> {
     ghost seen = { λ _. None };
@@ -108,6 +112,10 @@ impl<V: Device> Disk for DeviceDisk<V> {
             None => Err(Failed),
         };
         counted(&mut self.faults, answer)
+    }
+
+    fn moment(&self, _key: &Key) -> u64 {
+        0
     }
 
     fn faults(&self) -> u64 {

@@ -4,13 +4,17 @@ ghost use Rattle.liq_outside.specs.Disk.{Elapses, Follows, GoesOn, KeepsToItsTim
 ghost use Rattle.liq_outside.specs.Faults.{HasCause};
 
 use super::failed::Failed;
+use super::key::Key;
+use super::ours::Ours;
 
 /// Keeps bytes by their places, and those that were synced over a stop too.
 ///
 /// A disk has a moment for what a crash may leave. A crash leaves what was there at the last sync that
 /// answered `Ok`, but in each range that was written since, by a call that failed too, any bytes and
 /// any length up to the range's end.
-pub trait Disk {
+///
+/// The disks of this crate are all that there are.
+pub trait Disk: Ours {
     /// What a read gives, where it is told.
     ghost seen: { Self → Option (List ℕ) };
 
@@ -64,6 +68,10 @@ pub trait Disk {
         ensures unsynced { OnErr result (Within (LeftNow moment left_at self.old) (LeftNow moment left_at self.new)) }
         ensures time { Elapses moment left_at self.old self.new }
         ensures cause { HasCause (faults self.old) (faults self.new) result };
+
+    /// The moment. It is no device call.
+    fn moment(&self, key: &Key) -> u64
+        ensures { result ≡ moment self.now };
 
     /// How many faults it has met. It is no device call.
     fn faults(&self) -> u64

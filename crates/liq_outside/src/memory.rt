@@ -3,10 +3,14 @@ ghost use Rattle.std.specs.Prelude.{◌≡◌, ◌≤◌, ◌<◌, ◌↔◌, �
 ghost use Rattle.liq_outside.specs.Calls.{FailsNext, not_begun};
 ghost use Rattle.liq_outside.specs.Faults.{HasCause};
 ghost use Rattle.liq_outside.specs.Memory.{after_failed_read, after_failed_write, after_read, after_write, count_taken};
+ghost use Rattle.liq_outside.specs.Showings.{Notes};
 
+use super::disk::Disk;
 use super::failed::Failed;
+use super::key::Key;
 use super::reading::read_part;
 use super::schedule::Schedule;
+use super::showing::Showing;
 use super::sink::Sink;
 use super::source::Source;
 use std::alloc::Global;
@@ -95,29 +99,34 @@ impl Source for MemorySource {
 /// Holds in memory what is written, each piece whole or not at all.
 ///
 /// A write fails where its number, counted from 0, is one of those in `failing`, and where no memory
-/// is left for its bytes. A contract sees what is held and the calls.
+/// is left for its bytes. It notes each time that it is shown two disks, and forgets them all where no
+/// memory is left for one. A contract sees what is held, what was shown and the calls.
 #[derive(Drop)]
 pub struct MemorySink {
     bytes: Vec<u8>,
+    shown: Option<Vec<Showing>>,
     schedule: Schedule,
 }
 
 impl Model for MemorySink {
+    ghost use Rattle.std.specs.Prelude.{option_map};
     ghost use Rattle.liq_outside.specs.Memory.{SinkInMemory};
 
     ghost Value = { SinkInMemory };
 
-    ghost view = { λ s. record { held = s.bytes.items; calls = s.schedule } };
+    ghost view = { λ s. record { held = s.bytes.items; shown = option_map (λ v. v.items) s.shown; calls = s.schedule } };
 }
 
 impl MemorySink {
     /// A sink that holds nothing yet.
     pub fn new(alloc: Global, failing: Vec<u64>) -> Self
         ensures held { result.held ≡ [] }
+        ensures shown { result.shown ≡ Some [] }
         ensures calls { result.calls ≡ not_begun failing.items }
     {
         MemorySink {
             bytes: Vec::new(alloc),
+            shown: Some(Vec::new(alloc)),
             schedule: Schedule::new(failing),
         }
     }
@@ -141,6 +150,28 @@ impl Sink for MemorySink {
     ghost held = { λ s. Some s.held };
 
     ghost faults = { λ s. s.calls.faults };
+
+    ghost shown = { λ s. s.shown };
+
+    fn show<D: Disk>(&mut self, left: &D, right: &D)
+        ensures held { self.new.held ≡ self.old.held }
+        ensures calls { self.new.calls ≡ self.old.calls }
+        ensures shown { Notes D.moment (Some self.old.held) left.now right.now self.old.shown self.new.shown }
+    {
+        let key = Key::new();
+        let showing = Showing {
+            held: self.bytes.len() as u64,
+            left: left.moment(&key),
+            right: right.moment(&key),
+        };
+        let stays = match &mut self.shown {
+            Some(shown) => shown.push(showing).is_ok(),
+            None => true,
+        };
+        if !stays {
+            self.shown = None;
+        }
+    }
 
     fn write(&mut self, bytes: &[u8]) -> Result<usize, Failed>
         // It fails where it is told to. Any other failure is want of memory, which an empty piece can't meet.

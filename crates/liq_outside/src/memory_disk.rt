@@ -8,7 +8,9 @@ ghost use Rattle.liq_outside.specs.DiskInMemory.{IsNoted, Looks, fresh, left_by,
 use super::crash::tear;
 use super::disk::Disk;
 use super::failed::Failed;
+use super::key::Key;
 use super::made::{Made, note, note_try, overwrite};
+use super::ours::Ours;
 use super::reading::read_part;
 use super::schedule::Schedule;
 use std::alloc::Global;
@@ -75,6 +77,8 @@ impl MemoryDisk {
         MemoryDisk::new(alloc, bytes, Vec::new(alloc))
     }
 }
+
+impl Ours for MemoryDisk {}
 
 impl Disk for MemoryDisk {
     ghost use Rattle.liq_outside.specs.Staying.{held_may_stay};
@@ -169,6 +173,10 @@ impl Disk for MemoryDisk {
                 Err(Failed)
             }
         }
+    }
+
+    fn moment(&self, _key: &Key) -> u64 {
+        self.made.len() as u64
     }
 
     fn faults(&self) -> u64 {

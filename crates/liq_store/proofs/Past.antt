@@ -1,7 +1,7 @@
 -- A store in the midst of a run: how that begins, goes on and ends, by what a call says of both disks.
-use Rattle.std.proofs.Common.{◌≡◌, ◌⊎◌, ◌↔◌, inl, inr, ⊎_elim, ℕ, ◌+◌, ◌≤◌, List, [], ◌∷◌, ◌++◌, fold, Ok, Option, Some, None, IsSome, is_some, Bool, true, false, ◌&&◌, if◌then◌else◌, refl, sym, ◌∙◌, ap, subst, arith}
+use Rattle.std.proofs.Common.{◌≡◌, ◌⊎◌, ◌↔◌, inl, inr, ⊎_elim, ℕ, ◌+◌, ◌≤◌, List, [], ◌∷◌, ◌++◌, fold, Ok, Option, Some, None, IfSome, IsSome, is_some, Bool, true, false, ◌&&◌, if◌then◌else◌, refl, sym, ◌∙◌, ap, subst, arith}
 use Rattle.std.specs.Prelude.{count_by}
-use Rattle.liq_outside.specs.Disk.{GoesOn, LeavesOnly, LeftNow, LeftSince}
+use Rattle.liq_outside.specs.Disk.{GoesOn, LeavesOnly, LeftNow, LeftSince, Only}
 use Rattle.liq_outside.proofs.Moments.{law}
 use Rattle.liq_types.specs.declared.events.ListChange.{ListChange}
 use Rattle.liq_types.specs.declared.image.Image.{Image}
@@ -25,6 +25,7 @@ use Rattle.liq_pairs.specs.declared.side.Side.{Side}
 use Rattle.liq_pairs.specs.declared.side.Side.TheVariants.{Left, Right}
 use Rattle.liq_pairs.specs.Kept.{IsKept, IsSettledFor}
 use Rattle.liq_pairs.specs.Past.{AtCommand, Fault, IsAsItStood, IsOfRun, IsTakenFirst, KeptAtEnd, LeavesPast, NoFault, failed_commands, rotations}
+use Rattle.liq_pairs.specs.Pair.{state_on}
 use Rattle.liq_pairs.specs.Sides.{beside, has_odd, on, other}
 use Rattle.liq_pairs.specs.Unfinished.{LeftLeaves}
 use Rattle.liq_pairs.proofs.Alone.{IsOpenFor, first_parity, isnt_absent, later_leads, of_append, of_creation, open_alone, open_with, settled_first, settled_holds_none, settled_open}
@@ -36,7 +37,7 @@ use Rattle.liq_pairs.proofs.Standings.{pair_ends}
 use Rattle.liq_records.specs.Bodies.{read_back}
 use Rattle.liq_store.specs.Answering.{Answers}
 use Rattle.liq_store.specs.Calling.{WritesOn}
-use Rattle.liq_store.specs.Keeping.{IsGoing, IsInOrder, IsKeptAround, LeavesPairs}
+use Rattle.liq_store.specs.Keeping.{IsAtRest, IsGoing, IsInOrder, IsKeptAround, LeavesPairs}
 use Rattle.liq_rules.specs.Memory.{IsAccepted}
 use Rattle.liq_store.specs.Opening.{OpensOn}
 use Rattle.liq_store.specs.Past.{Past}
@@ -733,6 +734,42 @@ module _ {D : Type 0} (seen : D → Option (List ℕ)) (moment : D → ℕ) (lef
       };
       aside = here_aside;
     }
+
+  -- With an opening's store, whatever was pending before, and whatever its disks were kept for: nothing is pending, and
+  -- what both tell is kept for the state for which they stood.
+  module _ (l r : List ℕ) (start : State) (faults : D → ℕ) (left right : D) (store : Stored D)
+      (told_left : seen left ≡ Some l) (told_right : seen right ≡ Some r) (stood : state_on l r ≡ Ok start)
+      (left_telling : IsSome (seen store.left) ↔ IsSome (seen left))
+      (right_telling : IsSome (seen store.right) ↔ IsSome (seen right))
+      (opened : OpensOn seen faults left right store) (order : IsInOrder seen moment left_at store) where
+    opened_for : StandsFor store.core start
+    opened_for =
+        let state = opened.state l r told_left told_right in
+        let both : pair_ends state.0 ≡ pair_ends start = sym state.1 ∙ stood in
+        let same : state.0 ≡ start = cc (both) in
+        subst (λ (s : State). StandsFor store.core s) same state.2
+
+    now_only : (disk : D) (held : List ℕ) → seen disk ≡ Some held → IsAtRest seen moment left_at disk
+        → Only held (LeftNow moment left_at disk)
+    now_only disk held told rests =
+        subst (λ (o : Option (List ℕ)). IfSome o (λ bytes. Only bytes (LeftNow moment left_at disk))) told rests
+
+    pub opened_rests :
+        (a b : List ℕ) × (seen store.left ≡ Some a) × (seen store.right ≡ Some b)
+        × Only a (LeftNow moment left_at store.left) × Only b (LeftNow moment left_at store.right)
+        × Past seen moment left_at (λ side. moment (on side store.left store.right)) a b start [] store
+    opened_rests =
+        let a = told_of (seen store.left) (left_telling.1 (ap is_some told_left)) in
+        let b = told_of (seen store.right) (right_telling.1 (ap is_some told_right)) in
+        let going = going_of seen moment left_at store opened.going order in (
+          a.0,
+          b.0,
+          a.1,
+          b.1,
+          now_only store.left a.0 a.1 going.left,
+          now_only store.right b.0 b.1 going.right,
+          begins_here a.0 b.0 start store a.1 b.1 opened.going order opened_for,
+        )
 
   -- with an opening, whatever it answers
   module _ (l r : List ℕ) (start : State) (left right now_left now_right : D) (kept : IsKept l r start)

@@ -4,6 +4,7 @@ ghost use Rattle.std.specs.Prelude.{length, take, IfOk, IfErr, IfSome, IsSome, t
 ghost use Rattle.std.specs.List.{All};
 ghost use Rattle.liq_outside.specs.Disk.{GoesOn, LeavesOnly, LeftNow, Only};
 ghost use Rattle.liq_outside.specs.Faults.{count_most};
+ghost use Rattle.liq_outside.specs.Showings.{Notes};
 ghost use Rattle.liq_types.specs.declared.requests.Command.{Command};
 ghost use Rattle.liq_types.specs.declared.requests.Query.{Query};
 ghost use Rattle.liq_types.specs.declared.requests.Request.TheVariants.{Ask};
@@ -44,7 +45,7 @@ use crate::telling::{clear, note};
 use liq_core::Protocol;
 use liq_guided::Guided;
 use liq_journal::Journal;
-use liq_outside::Disk;
+use liq_outside::{Disk, Sink};
 use liq_pairs::Side;
 use liq_records::{AcceptedFault, later_side, turn, write_record};
 use liq_types::{Answer, Call, Command, ListChange, Reply, Request};
@@ -312,6 +313,18 @@ impl<D: Disk> Store<D> {
         ensures { self.new ≡ self.old }
     {
         self.protocol.drop_guide();
+    }
+
+    /// Shows a sink both disks as they are now, the left one first. It is no device call.
+    pub fn show<K: Sink>(&self, out: &mut K)
+        ensures same { K.held out.new ≡ K.held out.old }
+        ensures faults { K.faults out.new ≡ K.faults out.old }
+        ensures shown { Notes D.moment (K.held out.old) self.now.left self.now.right (K.shown out.old) (K.shown out.new) }
+    {
+        match self.side {
+            Side::Left => out.show(self.taken.disk(), &self.beside),
+            Side::Right => out.show(&self.beside, self.taken.disk()),
+        }
     }
 
     /// The disks, as they are.

@@ -1,8 +1,17 @@
-use Rattle.std.proofs.Common.{◌∙◌, ◌+◌, ◌*◌, List, ℕ, Option, IfSome, arith, subst}
+use Rattle.std.proofs.Common.{◌∙◌, ◌+◌, ◌*◌, List, ℕ, Option, IfSome, arith, refl, subst}
 use Rattle.liq_journal.specs.Tested.{IsTested}
-use Rattle.liq_journal.proofs.Looks.{looked_on}
-use Rattle.liq_journal.proofs.Counting.{told_more, told_end, told_fault, told_full}
+use Rattle.liq_journal.proofs.Looks.{looked_none, looked_on}
+use Rattle.liq_journal.proofs.Counting.{told_more, told_end, told_fault, told_full, told_none}
+use Rattle.liq_journal.proofs.Parting.{told_empty}
 use Rattle.liq_journal.proofs.records.count_records.Goals as goal
+
+pub loop-count-init : goal.loop-count-init
+loop-count-init g c = record {
+  looked = looked_none g.D.Disk.seen g.D.Disk.moment g.D.Disk.left_at c.args.disk.now;
+  part = told_empty (g.D.Disk.seen c.args.disk.now) c.new-block.result c.new-block.ensures;
+  still = refl;
+  read = told_none (g.D.Disk.seen c.args.disk.now) c.args.generation c.args.start;
+}
 
 pub returns-in-Ok-None-clause-looked : goal.returns-in-Ok-None-clause-looked
 returns-in-Ok-None-clause-looked g c = looked_on g.D.Disk.seen g.D.Disk.moment g.D.Disk.left_at c.args.disk.now c.loop-count.disk c.read_record.new.disk c.loop-count.invariant.looked c.read_record.ensures.looked

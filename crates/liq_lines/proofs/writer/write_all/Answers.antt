@@ -18,4 +18,5 @@ loop-written-preserved g c =
           (ap (λ (p : List ℕ). take w bytes ++ take n p) piece ∙ sym (take-add w n bytes))
           (writes_more (g.K.Sink.held c.args.out.now) (g.K.Sink.held c.loop-written.out) (g.K.Sink.held c.write.new.self) _ _ c.loop-written.invariant.front c.in_ok-written.ensures.appended);
       count = c.in_ok-written.ensures.cause.ok ∙ c.loop-written.invariant.count;
+      unshown = c.in_ok-written.ensures.unshown ∙ c.loop-written.invariant.unshown;
     }
