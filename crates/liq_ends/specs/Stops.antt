@@ -1,5 +1,6 @@
 -- Where a word ends, and what it has written by then.
-use Rattle.std.specs.Prelude.{ℕ, ◌≡◌, ◌≢◌, ◌≤◌, ◌∷◌, [], ◌++◌, ◌⊎◌, List, length, Option, Result, Ok, Err}
+use Rattle.std.specs.Prelude.{ℕ, ◌≡◌, ◌≢◌, ◌≤◌, ◌∷◌, [], ◌++◌, ◌⊎◌, List, length, Option, IsSome, Result, Ok, Err}
+use Rattle.liq_outside.specs.declared.showing.Showing.{Showing}
 use Rattle.liq_types.specs.declared.amounts.TheConstants.{LINES_MOST}
 use Rattle.liq_types.specs.declared.requests.Request.{Request}
 use Rattle.liq_types.specs.Image.{IsLimit}
@@ -10,8 +11,10 @@ use Rattle.liq_rules.specs.Image.{IsSameState}
 use Rattle.liq_rules.specs.Step.{run, accepted}
 use Rattle.liq_journal.specs.declared.damage.Damage.{Damage}
 use Rattle.liq_pairs.specs.declared.side.Side.{Side}
+use Rattle.liq_pairs.specs.Past.{Fault}
 use Rattle.liq_ends.specs.declared.halts.Halt.{Halt}
 use Rattle.liq_ends.specs.declared.halts.Halt.TheVariants.{WriteFault, Damaged, DamagedInput, NoMemory, Rotated}
+use Rattle.liq_ends.specs.Answered.{KeepsAnswered, Told}
 use Rattle.liq_ends.specs.Disks.{DisksHold, EndsDamaged, IsFaultOfRun, IsUnread, LeavesOfRun}
 use Rattle.liq_ends.specs.Output.{last, lines}
 use Rattle.liq_ends.specs.Requests.{IsNext, IsRequest}
@@ -79,19 +82,29 @@ WritesUpTo start end fault requests before now =
     TellsBehind (lines start requests) (lines start requests) end fault before now
 
 -- How a run ends that began with these bytes in its source and with l and r on its disks, for which they stood for this
--- state. `unread` is what the source still tells, and `before` and `now` are what the sink held and holds.
+-- state. `unread` is what the source still tells; `before` and `now` are what the sink held and holds, and `shown` and
+-- `shown_now` what it was shown by then.
 pub record EndsIn
     {D : Type 0} (seen : D → Option (List ℕ)) (moment : D → ℕ) (left_at : D → ℕ → List ℕ → Type 0)
     (old_left old_right : D) (start : State) (end : Result (Unit {0}) Halt) (bytes l r : List ℕ)
-    (unread : Option (List ℕ)) (fault : Type 0) (before now : Option (List ℕ)) (left right : D) : Type 0 where
+    (unread : Option (List ℕ)) (sink_fails : Type 0) (before now : Option (List ℕ))
+    (shown shown_now : Option (List Showing)) (left right : D) : Type 0 where
   pub requests : List Request
   -- they are no more than one run answers
   pub few : length requests ≤ LINES_MOST
   pub read : EndsAfter start end bytes unread requests
-  pub written : WritesUpTo start end fault requests before now
+  pub written : WritesUpTo start end sink_fails requests before now
   pub disks : DisksHold seen end bytes unread l r start left right requests
+  -- they tell their bytes, as they did before
+  pub left_tells : IsSome (seen left)
+  pub right_tells : IsSome (seen right)
+  -- where a disk met a fault
+  pub fault : Fault
+  pub fault_is : IsFaultOfRun end bytes unread requests fault
   pub past :
-      LeavesOfRun seen moment left_at old_left old_right (IsFaultOfRun end bytes unread requests) l r start requests
-      left right
+      LeavesOfRun seen moment left_at old_left old_right (λ met. met ≡ fault) l r start requests left right
+  -- and wherever a stop was, all that was answered by then is on the disks
+  pub answered : Told before shown now shown_now (λ was earlier is all.
+      KeepsAnswered moment left_at l r start requests fault old_left old_right was earlier left right is all)
   -- and after them no depositor has more than its share, or less by more than is allowed
   pub shares : HaveTheirShares start requests

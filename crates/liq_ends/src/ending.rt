@@ -70,6 +70,7 @@ pub fn status(end: &Result<(), Halt>) -> u8
 pub fn write_last<K: Sink>(out: &mut K, halt: Halt)
     ensures written { Adds [] (last halt) (Rose (K.faults out.old) (K.faults out.new)) (K.held out.old) (K.held out.new) }
     ensures count { K.faults out.old ≤ K.faults out.new }
+    ensures unshown { K.shown out.new ≡ K.shown out.old }
 {
     let _ = match halt {
         Halt::BadLine(number) => write_numbered(out, b"bad line ", u128::from(number)),
@@ -92,6 +93,7 @@ pub fn tell_last<K: Sink>(out: &mut K, end: Result<(), Halt>)
     ensures same { OnOk end (out.new ≡ out.old) }
     ensures count { K.faults out.old ≤ K.faults out.new }
     ensures sink { (count : ℕ) → WriteCause end count (K.faults out.old) → LastCause end count (K.faults out.new) }
+    ensures unshown { K.shown out.new ≡ K.shown out.old }
 {
     if let Err(halt) = end {
         write_last(out, halt);
@@ -103,6 +105,7 @@ fn write_damaged<K: Sink>(out: &mut K, side: Side, number: u128) -> Result<(), F
     ensures ok { OnOk result (Writes (K.held out.old) (last (Halt.Damaged side number)) (K.held out.new)) }
     ensures err { OnErr result (WritesPart (K.held out.old) (last (Halt.Damaged side number)) (K.held out.new)) }
     ensures cause { HasCause (K.faults out.old) (K.faults out.new) result }
+    ensures unshown { K.shown out.new ≡ K.shown out.old }
 {
     match side {
         Side::Left => write_numbered(out, b"damaged left ", number),
@@ -115,6 +118,7 @@ fn write_numbered<K: Sink>(out: &mut K, text: &[u8], number: u128) -> Result<(),
     ensures ok { OnOk result (Writes (K.held out.old) (text.now ++ (decimal number ++ 10 ∷ [])) (K.held out.new)) }
     ensures err { OnErr result (WritesPart (K.held out.old) (text.now ++ (decimal number ++ 10 ∷ [])) (K.held out.new)) }
     ensures cause { HasCause (K.faults out.old) (K.faults out.new) result }
+    ensures unshown { K.shown out.new ≡ K.shown out.old }
 {
     let mut digits = Buffer::new();
     write_all(out, text)?;

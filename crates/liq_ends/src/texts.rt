@@ -25,6 +25,7 @@ pub fn write_text<K: Sink>(out: &mut K, text: &[u8]) -> Result<(), Halt>
 pub fn write_rest<K: Sink>(out: &mut K, rest: &[u8], end: Result<(), Halt>) -> Result<(), Halt>
     ensures written { end ≢ Err Halt.WriteFault → WritesRest end rest.now (K.held out.old) (K.held out.new) result }
     ensures shut { end ≡ Err Halt.WriteFault → (result ≡ end) × (out.new ≡ out.old) }
+    ensures unshown { K.shown out.new ≡ K.shown out.old }
     ensures sink { (count : ℕ) → WriteCause end count (K.faults out.old) → WriteCause result count (K.faults out.new) }
 {
     match end {

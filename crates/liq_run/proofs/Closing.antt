@@ -11,7 +11,6 @@ use Rattle.liq_ends.specs.Output.{lines}
 use Rattle.liq_ends.specs.Rest.{WritesRest, whole, cut}
 use Rattle.liq_store.specs.Causes.{Faults}
 use Rattle.liq_run.specs.Calls.{IsStopped}
-use Rattle.liq_run.specs.Passing.{IsOfAccepted}
 use Rattle.liq_run.specs.Progress.{Ends, Comes, HaltsAt, Written}
 use Rattle.liq_lines.specs.Writing.{Writes, WritesPart}
 use Rattle.liq_run.specs.Writing.{WritesFront}
@@ -36,37 +35,37 @@ waited start core past kept stopped (Err (Rotated generation)) bytes left w befo
 waited start core past kept stopped (Err (DamagedInput number)) bytes left w before now other h = h.written
 
 -- of the requests it holds, or nothing waits behind a disk's fault
-still_past : (past : List Request → Type 0) (kept : State → Request → Type 0) (stopped : List Request → Request → Type 0) (end : Result (Unit {0}) Halt) (bytes : List ℕ) (requests : List Request) (w : List ℕ) (s : State) → HaltsAt end bytes requests w s past kept stopped → past requests ⊎ (w ≡ [])
-still_past past kept stopped (Ok done) bytes requests w s h = inl h
-still_past past kept stopped (Err (BadLine n)) bytes requests w s h = inl h
-still_past past kept stopped (Err ReadFault) bytes requests w s h = inl h
-still_past past kept stopped (Err WriteFault) bytes requests w s h = inl h
-still_past past kept stopped (Err NoMemory) bytes requests w s h = inl h
-still_past past kept stopped (Err DiskFault) bytes requests w s h = inr h.3
-still_past past kept stopped (Err (Damaged side number)) bytes requests w s h = inl h
-still_past past kept stopped (Err (Limit number)) bytes requests w s h = inl h
-still_past past kept stopped (Err (Rotated generation)) bytes requests w s h = inl h
-still_past past kept stopped (Err (DamagedInput number)) bytes requests w s h = inl h
+still_past : (past : List Request → Type 0) (kept : State → Request → Type 0) (stopped : List Request → Request → Type 0) (end : Result (Unit {0}) Halt) (bytes : List ℕ) (requests : List Request) (w : List ℕ) (start : State) → (end ≡ Err WriteFault → ⊥) → HaltsAt end bytes requests w start past kept stopped → past requests ⊎ (w ≡ [])
+still_past past kept stopped (Ok done) bytes requests w start other h = inl h
+still_past past kept stopped (Err (BadLine n)) bytes requests w start other h = inl h
+still_past past kept stopped (Err ReadFault) bytes requests w start other h = inl h
+still_past past kept stopped (Err WriteFault) bytes requests w start other h = absurd (other refl)
+still_past past kept stopped (Err NoMemory) bytes requests w start other h = inl h
+still_past past kept stopped (Err DiskFault) bytes requests w start other h = inr h.3
+still_past past kept stopped (Err (Damaged side number)) bytes requests w start other h = inl h
+still_past past kept stopped (Err (Limit number)) bytes requests w start other h = inl h
+still_past past kept stopped (Err (Rotated generation)) bytes requests w start other h = inl h
+still_past past kept stopped (Err (DamagedInput number)) bytes requests w start other h = inl h
 
-pub closing_cut : (start : State) (core : Core) (past : List Request → Type 0) (kept : State → Request → Type 0) (stopped : List Request → Request → Type 0) (end : Result (Unit {0}) Halt) (halt : Halt) (bytes : List ℕ) (left : Option (List ℕ)) (w w' : List ℕ) (before now after : Option (List ℕ)) → (end ≡ Err WriteFault → ⊥) → IsOfAccepted start past → Comes start end core past kept stopped bytes left w before now → WritesFront (Err halt) w w' now after → Ends start (Err halt) core past kept stopped bytes left before after
-closing_cut start core past kept stopped end (BadLine n) bytes left w w' before now after other same h f = absurd f
-closing_cut start core past kept stopped end ReadFault bytes left w w' before now after other same h f = absurd f
-closing_cut start core past kept stopped end NoMemory bytes left w w' before now after other same h f = absurd f
-closing_cut start core past kept stopped end DiskFault bytes left w w' before now after other same h f = absurd f
-closing_cut start core past kept stopped end (Damaged side number) bytes left w w' before now after other same h f = absurd f
-closing_cut start core past kept stopped end (Limit number) bytes left w w' before now after other same h f = absurd f
-closing_cut start core past kept stopped end (Rotated generation) bytes left w w' before now after other same h f = absurd f
-closing_cut start core past kept stopped end (DamagedInput number) bytes left w w' before now after other same h f = absurd f
-closing_cut start core past kept stopped end WriteFault bytes left w w' before now after other same h f = by (still_past past kept stopped end bytes h.requests w _ h.halted) where
+pub closing_cut : (start : State) (core : Core) (past : List Request → Type 0) (kept : State → Request → Type 0) (stopped : List Request → Request → Type 0) (end : Result (Unit {0}) Halt) (halt : Halt) (bytes : List ℕ) (left : Option (List ℕ)) (w w' : List ℕ) (before now after : Option (List ℕ)) → (end ≡ Err WriteFault → ⊥) → Comes start end core past kept stopped bytes left w before now → WritesFront (Err halt) w w' now after → Ends start (Err halt) core past kept stopped bytes left before after
+closing_cut start core past kept stopped end (BadLine n) bytes left w w' before now after other h f = absurd f
+closing_cut start core past kept stopped end ReadFault bytes left w w' before now after other h f = absurd f
+closing_cut start core past kept stopped end NoMemory bytes left w w' before now after other h f = absurd f
+closing_cut start core past kept stopped end DiskFault bytes left w w' before now after other h f = absurd f
+closing_cut start core past kept stopped end (Damaged side number) bytes left w w' before now after other h f = absurd f
+closing_cut start core past kept stopped end (Limit number) bytes left w w' before now after other h f = absurd f
+closing_cut start core past kept stopped end (Rotated generation) bytes left w w' before now after other h f = absurd f
+closing_cut start core past kept stopped end (DamagedInput number) bytes left w w' before now after other h f = absurd f
+closing_cut start core past kept stopped end WriteFault bytes left w w' before now after other h f = by (still_past past kept stopped end bytes h.requests w _ other h.halted) where
   by : past h.requests ⊎ (w ≡ []) → Ends start (Err WriteFault) core past kept stopped bytes left before after
   by (inl passed) =
       cut_ends start core past kept stopped bytes left w' before after
-      (cut_comes start core past kept stopped same bytes h.requests left w w' h.more before now after h.few h.begins (waited start core past kept stopped end bytes left w before now other h) h.stands passed f)
+      (cut_comes start core past kept stopped bytes h.requests left w w' h.more before now after h.few h.begins (waited start core past kept stopped end bytes left w before now other h) h.stands passed f)
   by (inr none) = absurd (omega (arith, f.1, ap length none))
 
 -- ---- all that waits at a run's end is written
 
-all_written : (start : State) (requests : List Request) (w w' : List ℕ) (before now after : Option (List ℕ)) → Written start requests w before now → WritesFront (Ok tt) w w' now after → w' ≡ [] → Writes before (lines start requests) after
+pub all_written : (start : State) (requests : List Request) (w w' : List ℕ) (before now after : Option (List ℕ)) → Written start requests w before now → WritesFront (Ok tt) w w' now after → w' ≡ [] → Writes before (lines start requests) after
 all_written start requests w w' before now after h f none =
     let rest : w ≡ f.0 = f.2 ∙ ap (λ (t : List ℕ). f.0 ++ t) none ∙ append-nil f.0 in
     subst (λ (t : List ℕ). Writes before t after) (sym (h.replies ∙ ap (λ (t : List ℕ). h.front ++ t) rest)) (writes_more before now after h.front f.0 h.writes f.1)
@@ -167,15 +166,15 @@ module _ (w : List ℕ) (now after : Option (List ℕ)) where
     pub rest_stopped : (stopped : Option ℕ) → (end ≡ Err DiskFault → w ≡ []) → IsStopped end stopped → IsStopped result stopped
     rest_stopped stopped none h = kept (λ (e : Result (Unit {0}) Halt). IsStopped e stopped) end result (cuts_stopped stopped end none) shut written h
 
-    pub rest_run : (start : State) (core : Core) (past : List Request → Type 0) (kept_so : State → Request → Type 0) (stopped : List Request → Request → Type 0) (bytes : List ℕ) (left before : Option (List ℕ)) → (end ≡ Err WriteFault → after ≡ now) → IsOfAccepted start past → Comes start end core past kept_so stopped bytes left w before now → Ends start result core past kept_so stopped bytes left before after
-    rest_run start core past kept_so stopped bytes left before stays same h = by (by_end end) where
+    pub rest_run : (start : State) (core : Core) (past : List Request → Type 0) (kept_so : State → Request → Type 0) (stopped : List Request → Request → Type 0) (bytes : List ℕ) (left before : Option (List ℕ)) → (end ≡ Err WriteFault → after ≡ now) → Comes start end core past kept_so stopped bytes left w before now → Ends start result core past kept_so stopped bytes left before after
+    rest_run start core past kept_so stopped bytes left before stays h = by (by_end end) where
       so : (end ≡ Err WriteFault → ⊥) → WritesRest end w now after result → Ends start result core past kept_so stopped bytes left before after
       so other (whole is writes) =
           subst (λ (e : Result (Unit {0}) Halt). Ends start e core past kept_so stopped bytes left before after) (sym is)
           (closing_well start core past kept_so stopped end bytes left w [] before now after other h (w, writes, sym (append-nil w)) refl)
       so other (cut is part) =
           subst (λ (e : Result (Unit {0}) Halt). Ends start e core past kept_so stopped bytes left before after) (sym is)
-          (closing_cut start core past kept_so stopped end WriteFault bytes left w [] before now after other same h part)
+          (closing_cut start core past kept_so stopped end WriteFault bytes left w [] before now after other h part)
 
       by : (end ≡ Err WriteFault) ⊎ (end ≡ Err WriteFault → ⊥) → Ends start result core past kept_so stopped bytes left before after
       by (inl is) =

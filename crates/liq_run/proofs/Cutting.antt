@@ -7,11 +7,10 @@ use Rattle.liq_types.specs.declared.amounts.TheConstants.{LINES_MOST}
 use Rattle.liq_types.specs.declared.requests.Request.{Request}
 use Rattle.liq_types.specs.State.{State}
 use Rattle.liq_core.specs.Core.{Core, StandsFor}
-use Rattle.liq_rules.specs.Step.{run, step}
+use Rattle.liq_rules.specs.Step.{accepted, run, step}
 use Rattle.liq_ends.specs.declared.halts.Halt.TheVariants.{WriteFault}
 use Rattle.liq_ends.specs.Output.{lines}
 use Rattle.liq_ends.specs.Requests.{IsRequest}
-use Rattle.liq_run.specs.Passing.{IsOfAccepted}
 use Rattle.liq_run.specs.Progress.{Written, Comes}
 use Rattle.liq_lines.specs.Writing.{WritesPart}
 use Rattle.liq_lines.proofs.Bytes.{writes_more}
@@ -96,8 +95,8 @@ cut_behind : (front part missing whole : List ℕ) → missing ≢ [] → whole 
 cut_behind front part [] whole some is = absurd (some refl)
 cut_behind front part (x ∷ missing) whole some is = omega (arith, ap length is, length-append (front ++ part) (x ∷ missing), length-append front part)
 
-pub cut_comes : (start : State) (core : Core) (past : List Request → Type 0) (kept : State → Request → Type 0) (stopped : List Request → Request → Type 0) → IsOfAccepted start past → (bytes : List ℕ) (requests : List Request) (left : Option (List ℕ)) (waited waits : List ℕ) (more : List (List ℕ)) (before now after : Option (List ℕ)) → length requests ≤ LINES_MOST → BeginsWith IsRequest bytes requests more → Written start requests waited before now → StandsFor core (run start requests).0 → past requests → WritesPart now waited after → Comes start (Err WriteFault) core past kept stopped bytes left waits before after
-cut_comes start core past kept stopped same_for bytes requests left waited waits more before now after few begins written stands passed part =
+pub cut_comes : (start : State) (core : Core) (past : List Request → Type 0) (kept : State → Request → Type 0) (stopped : List Request → Request → Type 0) → (bytes : List ℕ) (requests : List Request) (left : Option (List ℕ)) (waited waits : List ℕ) (more : List (List ℕ)) (before now after : Option (List ℕ)) → length requests ≤ LINES_MOST → BeginsWith IsRequest bytes requests more → Written start requests waited before now → StandsFor core (run start requests).0 → past requests → WritesPart now waited after → Comes start (Err WriteFault) core past kept stopped bytes left waits before after
+cut_comes start core past kept stopped bytes requests left waited waits more before now after few begins written stands passed part =
     let k = part.0 in
     let all = written.replies ∙ ap (λ (t : List ℕ). written.front ++ t) (sym (take-append-drop k waited)) ∙ sym (append_assoc written.front (take k waited) (drop k waited)) in
     let c = cut_at start requests (written.front ++ take k waited) (drop k waited) all (missing_some k waited part.1) in
@@ -116,5 +115,5 @@ cut_comes start core past kept stopped same_for bytes requests left waited waits
         (c.earlier, c.request, refl, (c.tail, c.behind), (c.missing, c.some, c.whole)),
       );
       stands = subst (StandsFor core) (sym steady.0) stands;
-      halted = same_for (c.earlier ++ c.request ∷ []) requests steady.1 passed;
+      halted = (c.later, ap (accepted start) (sym same) ∙ sym steady.1, subst past same passed);
     }

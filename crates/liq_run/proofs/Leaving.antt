@@ -1,127 +1,305 @@
 -- The disks of a run, as it leaves them.
-use Rattle.std.proofs.Common.{◌≡◌, ℕ, List, [], Option, Some, None, Result, Ok, Err, refl, subst, arith, inl, inr}
+use Rattle.std.proofs.Common.{◌≡◌, ℕ, List, [], ◌∷◌, Option, Some, Result, Ok, Err, refl, ap, sym, subst, ◌∙◌, append-nil, arith, inl, inr}
 use Rattle.std.specs.Prelude.{◌⊎◌}
+use Rattle.liq_outside.specs.declared.showing.Showing.{Showing}
+use Rattle.liq_outside.specs.Disk.{GoesOn, LeftNow, LeftSince, Only}
+use Rattle.liq_outside.specs.Showings.{shown_as}
+use Rattle.liq_outside.proofs.Moments.{unmoved}
 use Rattle.liq_types.specs.declared.requests.Command.{Command}
 use Rattle.liq_types.specs.declared.requests.Request.{Request}
 use Rattle.liq_types.specs.declared.requests.Request.TheVariants.{Do, Ask}
 use Rattle.liq_types.specs.State.{State}
 use Rattle.liq_core.specs.Core.{StandsFor}
-use Rattle.liq_rules.specs.Step.{Allowed, Ruling, after, after_ruling, ruling, run}
+use Rattle.liq_rules.specs.Step.{Allowed, Ruling, accepted, after, after_ruling, ruling, run}
 use Rattle.liq_lines.specs.Lines.{lines_in}
 use Rattle.liq_lines.proofs.Bytes.{writes_nothing}
+use Rattle.liq_pairs.specs.declared.side.Side.{Side}
+use Rattle.liq_pairs.specs.declared.side.Side.TheVariants.{Left, Right}
 use Rattle.liq_pairs.specs.Kept.{IsKept}
 use Rattle.liq_pairs.specs.Pair.{state_on}
-use Rattle.liq_pairs.specs.Past.{Fault, NoFault}
+use Rattle.liq_pairs.specs.Past.{AtCommand, Fault, InOpening, LeavesPast, NoFault}
+use Rattle.liq_pairs.specs.Sides.{on}
+use Rattle.liq_pairs.specs.Unfinished.{IsRecovered}
 use Rattle.liq_store.specs.declared.answers.StoreWhy.{StoreWhy}
 use Rattle.liq_store.specs.declared.answers.StoreWhy.TheVariants as why
-use Rattle.liq_store.specs.Keeping.{IsInOrder, IsInOrderWith, IsKeptAround}
+use Rattle.liq_store.specs.Keeping.{IsInOrder, IsKeptAround}
 use Rattle.liq_rules.specs.Memory.{IsAccepted}
 use Rattle.liq_store.specs.Opening.{IsNotOpened}
 use Rattle.liq_store.specs.Stored.{Stored}
+use Rattle.liq_store.proofs.Past.{joins}
 use Rattle.liq_ends.specs.declared.halts.Halt.{Halt}
 use Rattle.liq_ends.specs.declared.halts.Halt.TheVariants.{BadLine, ReadFault, WriteFault, DiskFault, DamagedInput, NoMemory, Limit, Rotated}
 use Rattle.liq_ends.specs.declared.halts.Halt.TheVariants as halts
-use Rattle.liq_ends.specs.Disks.{DisksHold, IsFaultOfRun, IsFaultOfTelling, LeavesOfRun}
+use Rattle.liq_ends.specs.Answered.{KeepsAnswered, Told}
+use Rattle.liq_ends.specs.Disks.{DisksHold, IsFaultOfRun, LeavesOfRun}
 use Rattle.liq_ends.specs.Requests.{IsNext}
 use Rattle.liq_ends.specs.Unopened.{halt_of}
 use Rattle.liq_ends.proofs.Opened.{settled, standing_still, unopened}
-use Rattle.liq_run.specs.Calls.{IsStopped, KeepsAround}
-use Rattle.liq_run.specs.Passing.{IsPastOf, IsStoppedPastOf}
-use Rattle.liq_run.specs.Progress.{Ends, GivesBack, HaltsAt}
+use Rattle.liq_run.specs.Calls.{GoOn, IsStopped, KeepsAround}
+use Rattle.liq_run.specs.Passing.{Begun, BeginsNone, BeginsRun, IsOver, IsPastOf, IsStoppedPastOf}
+use Rattle.liq_run.specs.Progress.{GivesBack, HaltsAt}
+use Rattle.liq_run.specs.Turns.{HasEnded, Reached}
+use Rattle.liq_run.proofs.Passing.{ended_past}
+use Rattle.liq_run.proofs.Shown.{opening_left}
 
 module _ {D : Type 0} (seen : D → Option (List ℕ)) (faults : D → ℕ) where
   -- ---- no store was opened
 
-  pub unopened_by : (moment : D → ℕ) (left_at : D → ℕ → List ℕ → Type 0) (why_is : StoreWhy) (fl fr left right : D) → IsNotOpened seen faults left right (record { left = fl; right = fr; why = why_is }) → (bytes l r : List ℕ) (unread before : Option (List ℕ)) → unread ≡ Some bytes → seen left ≡ Some l → seen right ≡ Some r → (start : State) → state_on l r ≡ Ok start
-      → LeavesOfRun seen moment left_at left right (IsFaultOfTelling (Err (halt_of why_is))) l r start [] fl fr
-      → GivesBack seen moment left_at left right start (Err (halt_of why_is)) bytes l r unread before before fl fr
-  unopened_by moment left_at why.DiskFault fl fr left right h bytes l r unread before told told_l told_r start is past =
-      record {
-        requests = [];
-        few = omega arith;
-        read = (lines_in bytes, ([], tt, refl));
-        written = writes_nothing before;
-        disks = λ a b told_a told_b. inl ((refl, told), λ kept. h.reads l r a b start told_l told_r kept told_a told_b);
-        past = λ only_l only_r kept. let so = past only_l only_r kept in
-            record { fault = so.fault; fault_is = inl (so.fault_is, (refl, told)); images = so.images; rests = so.rests };
-      }
-  unopened_by moment left_at (why.Damaged side damage) fl fr left right h bytes l r unread before told told_l told_r start is past = absurd (cc (h.is_why l r told_l told_r, is))
-  unopened_by moment left_at why.NoMemory fl fr left right h bytes l r unread before told told_l told_r start is past =
-      record {
-        requests = [];
-        few = omega arith;
-        read = ((lines_in bytes, ([], tt, refl)), inl (refl, told));
-        written = writes_nothing before;
-        disks = standing_still seen fl fr bytes l r unread start told is (unopened seen faults left right (record { left = fl; right = fr; why = why.NoMemory }) h (λ e. cc) l r start told_l told_r is);
-        past = λ only_l only_r kept. let so = past only_l only_r kept in
-            record { fault = so.fault; fault_is = so.fault_is; images = so.images; rests = so.rests };
-      }
+  module _ (moment : D → ℕ) (left_at : D → ℕ → List ℕ → Type 0) (left right : D) (bytes l r : List ℕ)
+      (unread before : Option (List ℕ)) (shown : Option (List Showing)) (start : State) where
+    -- nothing was shown, and nothing answered
+    none_answered : (why_is : StoreWhy) (fault : Fault) (fl fr : D) (last : Option (List ℕ))
+        → BeginsNone seen moment left_at left right l r start why_is fl fr
+        → Told before shown last shown
+        (λ was earlier is all. KeepsAnswered moment left_at l r start [] fault left right was earlier fl fr is
+        all)
+    none_answered why_is fault fl fr last none was earlier is all b e n a = record {
+      since = [];
+      are = cc (sym a ∙ e) ∙ sym (append-nil earlier);
+      begun = inl refl;
+      opening = λ only_l only_r kept.
+          opening_left moment left_at left right fl fr fl fr (unmoved moment left_at fl) (unmoved moment left_at fr)
+          none.left_time none.right_time (IsRecovered l r start) was is (none.recovers only_l only_r kept);
+      each = tt;
+      rested = λ first later same. absurd (cc same);
+    }
+
+    pub unopened_by : (why_is : StoreWhy) (fl fr : D)
+        → IsNotOpened seen faults left right (record { left = fl; right = fr; why = why_is }) → unread ≡ Some bytes
+        → seen left ≡ Some l → seen right ≡ Some r → state_on l r ≡ Ok start
+        → BeginsNone seen moment left_at left right l r start why_is fl fr
+        → GivesBack seen moment left_at left right start (Err (halt_of why_is)) bytes l r unread before before shown
+        shown fl fr
+    unopened_by why.DiskFault fl fr h told told_l told_r is none =
+        record {
+          requests = [];
+          few = omega arith;
+          read = (lines_in bytes, ([], tt, refl));
+          written = writes_nothing before;
+          disks = λ a b told_a told_b. inl
+              ((refl, told), λ kept. h.reads l r a b start told_l told_r kept told_a told_b);
+          left_tells = none.left_tells;
+          right_tells = none.right_tells;
+          fault = InOpening;
+          fault_is = inl (refl, (refl, told));
+          past = λ only_l only_r kept. let so = none.past only_l only_r kept in
+              record { fault = so.fault; fault_is = so.fault_is; images = so.images; rests = so.rests };
+          answered = λ last. none_answered why.DiskFault InOpening fl fr last none;
+        }
+    unopened_by (why.Damaged side damage) fl fr h told told_l told_r is none = absurd
+        (cc (h.is_why l r told_l told_r, is))
+    unopened_by why.NoMemory fl fr h told told_l told_r is none =
+        record {
+          requests = [];
+          few = omega arith;
+          read = ((lines_in bytes, ([], tt, refl)), inl (refl, told));
+          written = writes_nothing before;
+          disks = standing_still seen fl fr bytes l r unread start told is
+              (unopened seen faults left right (record { left = fl; right = fr; why = why.NoMemory }) h (λ e. cc) l r
+              start told_l told_r is);
+          left_tells = none.left_tells;
+          right_tells = none.right_tells;
+          fault = NoFault;
+          fault_is = refl;
+          past = λ only_l only_r kept. let so = none.past only_l only_r kept in
+              record { fault = so.fault; fault_is = so.fault_is; images = so.images; rests = so.rests };
+          answered = λ last. none_answered why.NoMemory NoFault fl fr last none;
+        }
 
   -- ---- a store was opened
 
   -- a command that is accepted makes its step
-  around : (s : State) (request : Request) (bytes : List ℕ) (requests : List Request) (a b : List ℕ) → IsNext bytes requests request → IsAccepted s request → IsKeptAround s request a b
-      → IsKept a b s ⊎ ((c : Command) × IsNext bytes requests (Do c) × (ruling s c ≡ Allowed) × IsKept a b (after s c))
+  around : (s : State) (request : Request) (bytes : List ℕ) (requests : List Request) (a b : List ℕ)
+      → IsNext bytes requests request → IsAccepted s request → IsKeptAround s request a b
+      → IsKept a b s ⊎ ((c : Command) × IsNext bytes requests (Do c) × (ruling s c ≡ Allowed)
+      × IsKept a b (after s c))
   around s (Ask query) bytes requests a b next accepted kept = absurd accepted
   around s (Do c) bytes requests a b next accepted (inl kept) = inl kept
   around s (Do c) bytes requests a b next accepted (inr kept) =
       inr (c, next, accepted, subst (λ (q : Ruling). IsKept a b (after_ruling s c q).0) accepted kept)
 
   module _ (moment : D → ℕ) (left_at : D → ℕ → List ℕ → Type 0) where
-    pub left_by : (store : Stored D) (end : Result (Unit {0}) Halt) (bytes : List ℕ) (unread : Option (List ℕ)) (l r : List ℕ) (start : State) (requests : List Request) → IsStopped end store.stopped → IsInOrder seen moment left_at store
-        → StandsFor store.core (run start requests).0 → (past : List Request → Type 0) (stopped_past : List Request → Request → Type 0) → HaltsAt end bytes requests [] (run start requests).0 past (KeepsAround seen store.left store.right) stopped_past → DisksHold seen end bytes unread l r start store.left store.right requests
+    pub left_by : (store : Stored D) (end : Result (Unit {0}) Halt) (bytes : List ℕ) (unread : Option (List ℕ))
+        (l r : List ℕ) (start : State) (requests : List Request) → IsStopped end store.stopped
+        → IsInOrder seen moment left_at store
+        → StandsFor store.core (run start requests).0
+        → (past : List Request → Type 0) (stopped_past : List Request → Request → Type 0)
+        → HaltsAt end bytes requests [] start past (KeepsAround seen store.left store.right) stopped_past
+        → DisksHold seen end bytes unread l r start store.left store.right requests
     left_by store (Err DiskFault) bytes unread l r start requests stopped order stands past stopped_past halted =
-        λ a b told_a told_b. inr (around (run start requests).0 halted.0 bytes requests a b halted.1 halted.2 (halted.4 a b told_a told_b))
-    left_by store (Ok done) bytes unread l r start requests stopped order stands past stopped_past halted = settled seen moment left_at store (run start requests).0 stopped order stands
-    left_by store (Err (BadLine n)) bytes unread l r start requests stopped order stands past stopped_past halted = settled seen moment left_at store (run start requests).0 stopped order stands
-    left_by store (Err ReadFault) bytes unread l r start requests stopped order stands past stopped_past halted = settled seen moment left_at store (run start requests).0 stopped order stands
-    left_by store (Err WriteFault) bytes unread l r start requests stopped order stands past stopped_past halted = settled seen moment left_at store (run start requests).0 stopped order stands
-    left_by store (Err (halts.Damaged side number)) bytes unread l r start requests stopped order stands past stopped_past halted = settled seen moment left_at store (run start requests).0 stopped order stands
+        λ a b told_a told_b. inr (around (run start requests).0 halted.0 bytes requests a b halted.1 halted.2
+        (halted.4 a b told_a told_b))
+    left_by store (Ok done) bytes unread l r start requests stopped order stands past stopped_past halted = settled
+        seen moment left_at store (run start requests).0 stopped order stands
+    left_by store (Err (BadLine n)) bytes unread l r start requests stopped order stands past stopped_past halted =
+        settled seen moment left_at store (run start requests).0 stopped order stands
+    left_by store (Err ReadFault) bytes unread l r start requests stopped order stands past stopped_past halted =
+        settled seen moment left_at store (run start requests).0 stopped order stands
+    left_by store (Err WriteFault) bytes unread l r start requests stopped order stands past stopped_past halted =
+        settled seen moment left_at store (run start requests).0 stopped order stands
+    left_by store (Err (halts.Damaged side number)) bytes unread l r start requests stopped order stands past
+        stopped_past halted = settled seen moment left_at store (run start requests).0 stopped order stands
     left_by store (Err NoMemory) bytes unread l r start requests stopped order stands past stopped_past halted =
-        λ a b told_a told_b. let kept = settled seen moment left_at store (run start requests).0 stopped order stands a b told_a told_b in (kept.stands, λ were. kept)
-    left_by store (Err (Limit number)) bytes unread l r start requests stopped order stands past stopped_past halted = settled seen moment left_at store (run start requests).0 stopped order stands
-    left_by store (Err (Rotated generation)) bytes unread l r start requests stopped order stands past stopped_past halted = absurd stopped
-    left_by store (Err (DamagedInput number)) bytes unread l r start requests stopped order stands past stopped_past halted = settled seen moment left_at store (run start requests).0 stopped order stands
+        λ a b told_a told_b. let kept = settled seen moment left_at store (run start requests).0 stopped order stands
+        a b told_a told_b in (kept.stands, λ were. kept)
+    left_by store (Err (Limit number)) bytes unread l r start requests stopped order stands past stopped_past
+        halted = settled seen moment left_at store (run start requests).0 stopped order stands
+    left_by store (Err (Rotated generation)) bytes unread l r start requests stopped order stands past stopped_past
+        halted = absurd stopped
+    left_by store (Err (DamagedInput number)) bytes unread l r start requests stopped order stands past stopped_past
+        halted = settled seen moment left_at store (run start requests).0 stopped order stands
 
-    module _ (old_left old_right : D) where
-      -- a store that went on is at rest, and each image is one of its past
-      going_on : (store : Stored D) (l r : List ℕ) (start : State) (requests : List Request) (P : Fault → Type 0) → P NoFault → store.stopped ≡ None → IsPastOf seen moment left_at old_left old_right l r start requests store
-          → LeavesOfRun seen moment left_at old_left old_right P l r start requests store.left store.right
-      going_on store l r start requests P is going past only_l only_r kept =
-          let so = past only_l only_r kept in
-          let now = subst (λ (stopped : Option ℕ). IsInOrderWith seen moment left_at stopped store) going so.1 in
-          record { fault = NoFault; fault_is = is; images = so.0.leaves; rests = (now.left, now.right) }
+    module _ (stays : (disk : D) (held : List ℕ) → seen disk ≡ Some held → LeftNow moment left_at disk held)
+        (begun : Begun D) where
+      abbrev PastOf : List Request → Stored D → Option (List Showing) → Type 0
+      PastOf = IsPastOf seen moment left_at begun
 
-      pub past_by : (store : Stored D) (end : Result (Unit {0}) Halt) (bytes : List ℕ) (unread : Option (List ℕ)) (l r : List ℕ) (start : State) (requests : List Request) (kept : State → Request → Type 0) → IsStopped end store.stopped
-          → HaltsAt end bytes requests [] (run start requests).0 (λ rs. IsPastOf seen moment left_at old_left old_right l r start rs store) kept (λ rs q. IsStoppedPastOf seen moment left_at old_left old_right l r start rs q store)
-          → LeavesOfRun seen moment left_at old_left old_right (IsFaultOfRun end bytes unread requests) l r start requests store.left store.right
-      past_by store (Err DiskFault) bytes unread l r start requests kept stopped halted =
-          λ only_l only_r was. let so = halted.5 only_l only_r was in record {
-            fault = so.fault;
-            fault_is = inr (so.fault_is.0, so.fault_is.2, subst (IsNext bytes requests) so.fault_is.1 halted.1);
-            images = so.images;
-            rests = so.rests;
-          }
-      past_by store (Ok done) bytes unread l r start requests kept stopped halted = going_on store l r start requests _ refl stopped halted
-      past_by store (Err (BadLine n)) bytes unread l r start requests kept stopped halted = going_on store l r start requests _ refl stopped halted
-      past_by store (Err ReadFault) bytes unread l r start requests kept stopped halted = going_on store l r start requests _ refl stopped halted
-      past_by store (Err WriteFault) bytes unread l r start requests kept stopped halted = going_on store l r start requests _ refl stopped halted
-      past_by store (Err (halts.Damaged side number)) bytes unread l r start requests kept stopped halted = going_on store l r start requests _ refl stopped halted
-      past_by store (Err NoMemory) bytes unread l r start requests kept stopped halted = going_on store l r start requests _ refl stopped halted
-      past_by store (Err (Limit number)) bytes unread l r start requests kept stopped halted = going_on store l r start requests _ refl stopped halted
-      past_by store (Err (Rotated generation)) bytes unread l r start requests kept stopped halted = absurd stopped
-      past_by store (Err (DamagedInput number)) bytes unread l r start requests kept stopped halted = going_on store l r start requests _ refl stopped halted
+      -- where no disk met a fault
+      calm : (store : Stored D) (shown : Option (List Showing)) (requests : List Request) (P : Fault → Type 0)
+          → P NoFault → PastOf requests store shown
+          → (fault : Fault) × P fault × IsOver seen moment left_at begun requests fault store.left store.right shown
+      calm store shown requests P is past = (
+        NoFault,
+        is,
+        ended_past seen moment left_at stays begun requests [] store shown
+            (ap (accepted begun.start) (append-nil requests))
+            (subst (λ (rs : List Request). PastOf rs store shown) (sym (append-nil requests)) past),
+      )
 
-      -- a run is at its end, and its store is closed
-      pub gives_back : (store : Stored D) (end : Result (Unit {0}) Halt) (bytes l r : List ℕ) (unread before now : Option (List ℕ)) (start : State) → IsStopped end store.stopped → IsInOrder seen moment left_at store
-          → Ends start end store.core (λ rs. IsPastOf seen moment left_at old_left old_right l r start rs store) (KeepsAround seen store.left store.right) (λ rs q. IsStoppedPastOf seen moment left_at old_left old_right l r start rs q store) bytes unread before now
-          → GivesBack seen moment left_at old_left old_right start end bytes l r unread before now store.left store.right
-      gives_back store end bytes l r unread before now start stopped order h =
+      over_by : (store : Stored D) (shown : Option (List Showing)) (end : Result (Unit {0}) Halt) (bytes : List ℕ)
+          (unread : Option (List ℕ)) (requests : List Request) (kept : State → Request → Type 0)
+          → IsStopped end store.stopped
+          → HaltsAt end bytes requests [] begun.start (λ rs. PastOf rs store shown) kept
+          (λ rs q. IsStoppedPastOf seen moment left_at begun rs q store shown)
+          → (fault : Fault) × IsFaultOfRun end bytes unread requests fault
+          × IsOver seen moment left_at begun requests fault store.left store.right shown
+      over_by store shown (Err DiskFault) bytes unread requests kept stopped halted =
+          let so = halted.5 in
+          (AtCommand so.0, inr (so.0, refl, subst (IsNext bytes requests) so.1 halted.1), so.2)
+      over_by store shown (Ok done) bytes unread requests kept stopped halted = calm store shown requests _ refl
+          halted
+      over_by store shown (Err (BadLine n)) bytes unread requests kept stopped halted = calm store shown requests _
+          refl halted
+      over_by store shown (Err ReadFault) bytes unread requests kept stopped halted = calm store shown requests _
+          refl halted
+      over_by store shown (Err WriteFault) bytes unread requests kept stopped halted =
+          (NoFault, refl, ended_past seen moment left_at stays begun requests halted.0 store shown halted.1 halted.2)
+      over_by store shown (Err (halts.Damaged side number)) bytes unread requests kept stopped halted = calm store
+          shown requests _ refl halted
+      over_by store shown (Err NoMemory) bytes unread requests kept stopped halted = calm store shown requests _ refl
+          halted
+      over_by store shown (Err (Limit number)) bytes unread requests kept stopped halted = calm store shown requests
+          _ refl halted
+      over_by store shown (Err (Rotated generation)) bytes unread requests kept stopped halted = absurd stopped
+      over_by store shown (Err (DamagedInput number)) bytes unread requests kept stopped halted = calm store shown
+          requests _ refl halted
+
+    -- a run is at its end, and its store is closed
+    module _ (stays : (disk : D) (held : List ℕ) → seen disk ≡ Some held → LeftNow moment left_at disk held)
+        (old_left old_right : D) (l r : List ℕ) (start : State) (opened : Stored D)
+        (before : Option (List ℕ)) (was shown_first : Option (List Showing))
+        (begins : BeginsRun seen moment left_at old_left old_right l r start opened before was shown_first) where
+      abbrev here : Begun D
+      here = record {
+        left = opened.left;
+        right = opened.right;
+        l = begins.left;
+        r = begins.right;
+        start = start;
+        held = before;
+        shown = was;
+      }
+
+      now_on : (side : Side) → moment (on side opened.left opened.right) ≡ on side (moment opened.left)
+          (moment opened.right)
+      now_on Left = refl
+      now_on Right = refl
+
+      module _ (store : Stored D) (requests : List Request) (fault : Fault) (shown_now : Option (List Showing))
+          (time : GoOn moment left_at opened store)
+          (over : IsOver seen moment left_at here requests fault store.left store.right shown_now) where
+        past_over : LeavesOfRun seen moment left_at old_left old_right (λ met. met ≡ fault) l r start requests
+            store.left store.right
+        past_over only_l only_r kept = record {
+          fault = fault;
+          fault_is = refl;
+          images = joins seen moment left_at stays (λ side. moment (on side old_left old_right)) l r start requests
+              fault opened store.left store.right begins.left begins.right
+              (begins.past only_l only_r kept) begins.begun.order begins.left_is begins.right_is time.left time.right
+              over.images;
+          rests = over.rests l r;
+        }
+
+        -- nothing was pending when the run was opened
+        rested_so : (old now : D) (held : List ℕ) → GoesOn moment left_at old now
+            → Only held (LeftNow moment left_at old) → Only held (left_at now (moment old))
+        rested_so old now held goes only image at = only image (goes.past (moment old) image (omega arith) at)
+
+        -- each image since then
+        since_opened : LeavesPast moment left_at (λ side. on side (moment opened.left) (moment opened.right))
+            begins.left begins.right start requests fault store.left store.right
+        since_opened = record {
+          images = λ side image at. over.images.images side image
+              (subst (λ (n : ℕ). LeftSince moment left_at (on side store.left store.right) n image)
+              (sym (now_on side)) at);
+          whole = λ side first few image at absent. over.images.whole side first few image
+              (subst (λ (n : ℕ). LeftSince moment left_at (on side store.left store.right) n image)
+              (sym (now_on side)) at) absent;
+        }
+
+        answered_over : (last : Option (List ℕ))
+            → Told before was last shown_now
+            (λ held earlier is all. KeepsAnswered moment left_at l r start requests fault old_left old_right held
+            earlier store.left store.right is all)
+        answered_over last held earlier is all b e n a =
+            let shown = over.told held earlier all b e a in
+            let first = shown_as moment held opened.left opened.right in
+            record {
+              since = first ∷ shown.since;
+              are = shown.are;
+              begun = inr (omega arith);
+              opening = λ only_l only_r kept.
+                  opening_left moment left_at old_left old_right opened.left opened.right store.left store.right
+                  time.left time.right begins.left_time begins.right_time (IsRecovered l r start) held held
+                  (begins.recovers only_l only_r kept);
+              each = shown.each is;
+              rested = λ s later same.
+                  let so : first ≡ s = cc same in
+                  subst (λ (s : Showing). (x y : List ℕ) × Only x (left_at store.left s.left)
+                  × Only y (left_at store.right s.right) × IsKept x y start
+                  × LeavesPast moment left_at (λ side. on side s.left s.right) x y start requests fault store.left
+                  store.right) so (
+                    begins.left,
+                    begins.right,
+                    rested_so opened.left store.left begins.left time.left
+                        begins.left_rests,
+                    rested_so opened.right store.right begins.right time.right
+                        begins.right_rests,
+                    over.kept,
+                    since_opened,
+                  );
+            }
+
+      pub gives_back : (store : Stored D) (end : Result (Unit {0}) Halt) (bytes : List ℕ) (at : Reached D)
+          → at.store ≡ store → GoOn moment left_at opened store → IsStopped end store.stopped
+          → IsInOrder seen moment left_at store
+          → HasEnded seen moment left_at here bytes at end
+          → GivesBack seen moment left_at old_left old_right start end bytes l r at.left before at.held was at.shown
+          store.left store.right
+      gives_back store end bytes at same time stopped order ended =
+          let h = subst (λ (s : Stored D). HasEnded seen moment left_at here bytes (record at { store = s }) end)
+          same ended in
+          let over = over_by stays here store at.shown end bytes at.left h.requests _ stopped h.halted in
           record {
             requests = h.requests;
             few = h.few;
             read = h.read;
             written = h.written;
-            disks = left_by store end bytes unread l r start h.requests stopped order h.stands _ _ h.halted;
-            past = past_by store end bytes unread l r start h.requests _ stopped h.halted;
+            disks = left_by store end bytes at.left l r start h.requests stopped order h.stands _ _ h.halted;
+            left_tells = over.2.left_tells;
+            right_tells = over.2.right_tells;
+            fault = over.0;
+            fault_is = over.1;
+            past = past_over store h.requests over.0 at.shown time over.2;
+            answered = answered_over store h.requests over.0 at.shown time over.2;
           }

@@ -9,5 +9,6 @@ mod Passing
 mod Progressing
 mod Residual
 mod Showing
+mod Shown
 mod Taking
 mod Turning

@@ -18,7 +18,7 @@ use Rattle.liq_lines.proofs.Bytes.{told_reads, writes_nothing, writes_more}
 use Rattle.liq_lines.proofs.LinesRead.{lines_in-ended, lines_in-unended, lines_in-ended_all, lines_in-some, ended-append, within-append}
 use Rattle.liq_lines.proofs.Told.{empty_end}
 use Rattle.liq_lines.specs.Saying.{BeginsWith}
-use Rattle.liq_run.specs.Passing.{IsOfAccepted, PassesBy}
+use Rattle.liq_run.specs.Passing.{PassesBy}
 use Rattle.liq_run.specs.Progress.{ReadsRequest, ReadsBad, Written, Answered, Answers, Comes, Turns}
 use Rattle.liq_run.specs.Calls.{IsCommand}
 use Rattle.liq_run.specs.Writing.{WritesFront}
@@ -50,8 +50,8 @@ written_on start requests w w' before now now' h f =
       steady = λ earlier later request is behind. h.steady earlier later request is (omega (arith, behind, length-append h.front f.0));
     }
 
-pub answered_on : (start : State) (bytes : List ℕ) (n : ℕ) (core : Core) (u : Option (List ℕ)) (w w' : List ℕ) (before now now' : Option (List ℕ)) (past : List Request → Type 0) → Answered start bytes n core u w before now past → WritesFront (Ok tt) w w' now now' → Answered start bytes n core u w' before now' past
-answered_on start bytes n core u w w' before now now' past a f =
+pub answered_on : (start : State) (bytes : List ℕ) (n : ℕ) (core : Core) (u : Option (List ℕ)) (w w' : List ℕ) (before now now' : Option (List ℕ)) (past past' : List Request → Type 0) → ((rs : List Request) → past rs → past' rs) → Answered start bytes n core u w before now past → WritesFront (Ok tt) w w' now now' → Answered start bytes n core u w' before now' past'
+answered_on start bytes n core u w w' before now now' past past' on a f =
     record {
       requests = a.requests;
       front = a.front;
@@ -63,21 +63,21 @@ answered_on start bytes n core u w w' before now now' past a f =
       unread_is = a.unread_is;
       stands = a.stands;
       written = written_on start a.requests w w' before now now' a.written f;
-      passed = a.passed;
+      passed = on a.requests a.passed;
     }
 
 -- it cannot be written
-pub answered_cut : (start : State) (past : List Request → Type 0) (kept : State → Request → Type 0) (stopped : List Request → Request → Type 0) → IsOfAccepted start past → (halt : Halt) (bytes : List ℕ) (n : ℕ) (core : Core) (u left : Option (List ℕ)) (w w' : List ℕ) (before now now' : Option (List ℕ)) → n ≤ LINES_MOST → Answered start bytes n core u w before now past → WritesFront (Err halt) w w' now now' → Comes start (Err halt) core past kept stopped bytes left w' before now'
-answered_cut start past kept stopped same (BadLine n) bytes m core u left w w' before now now' few a f = absurd f
-answered_cut start past kept stopped same ReadFault bytes m core u left w w' before now now' few a f = absurd f
-answered_cut start past kept stopped same NoMemory bytes m core u left w w' before now now' few a f = absurd f
-answered_cut start past kept stopped same DiskFault bytes m core u left w w' before now now' few a f = absurd f
-answered_cut start past kept stopped same (Damaged side number) bytes m core u left w w' before now now' few a f = absurd f
-answered_cut start past kept stopped same (Limit number) bytes m core u left w w' before now now' few a f = absurd f
-answered_cut start past kept stopped same (Rotated generation) bytes m core u left w w' before now now' few a f = absurd f
-answered_cut start past kept stopped same (DamagedInput number) bytes m core u left w w' before now now' few a f = absurd f
-answered_cut start past kept stopped same WriteFault bytes m core u left w w' before now now' few a f =
-    cut_comes start core past kept stopped same bytes a.requests left w w' (lines_in a.rest) before now now' (omega (arith, few, a.count)) (begins_with start bytes m core u w before now past a) a.written a.stands a.passed f
+pub answered_cut : (start : State) (past past' : List Request → Type 0) → ((rs : List Request) → past rs → past' rs) → (kept : State → Request → Type 0) (stopped : List Request → Request → Type 0) → (halt : Halt) (bytes : List ℕ) (n : ℕ) (core : Core) (u left : Option (List ℕ)) (w w' : List ℕ) (before now now' : Option (List ℕ)) → n ≤ LINES_MOST → Answered start bytes n core u w before now past → WritesFront (Err halt) w w' now now' → Comes start (Err halt) core past' kept stopped bytes left w' before now'
+answered_cut start past past' on kept stopped (BadLine n) bytes m core u left w w' before now now' few a f = absurd f
+answered_cut start past past' on kept stopped ReadFault bytes m core u left w w' before now now' few a f = absurd f
+answered_cut start past past' on kept stopped NoMemory bytes m core u left w w' before now now' few a f = absurd f
+answered_cut start past past' on kept stopped DiskFault bytes m core u left w w' before now now' few a f = absurd f
+answered_cut start past past' on kept stopped (Damaged side number) bytes m core u left w w' before now now' few a f = absurd f
+answered_cut start past past' on kept stopped (Limit number) bytes m core u left w w' before now now' few a f = absurd f
+answered_cut start past past' on kept stopped (Rotated generation) bytes m core u left w w' before now now' few a f = absurd f
+answered_cut start past past' on kept stopped (DamagedInput number) bytes m core u left w w' before now now' few a f = absurd f
+answered_cut start past past' on kept stopped WriteFault bytes m core u left w w' before now now' few a f =
+    cut_comes start core past' kept stopped bytes a.requests left w w' (lines_in a.rest) before now now' (omega (arith, few, a.count)) (begins_with start bytes m core u w before now past a) a.written a.stands (on a.requests a.passed) f
 
 -- ---- the run stops at the next line
 
@@ -254,14 +254,14 @@ last_answered start past past' kept stopped bytes line taken r n core core' u le
 
 -- ---- a line is read, and its answer stops the run
 
-pub answering_halts : (start : State) (past past' : List Request → Type 0) (kept : State → Request → Type 0) (stopped : List Request → Request → Type 0) → IsOfAccepted start past' → (halt : Halt) (bytes line : List ℕ) (more : List (List ℕ)) (r : Request) (n : ℕ) (core core' : Core) (u left : Option (List ℕ)) (w w' : List ℕ) (before now now' : Option (List ℕ)) → n < LINES_MOST → IsRequest line r → (a : Answered start bytes n core u w before now past) → lines_in a.rest ≡ line ∷ more → Answers (run start a.requests).0 r (Err halt) core' w w' now now' → (halt ≡ DiskFault → kept (run start a.requests).0 r) → PassesBy {T = Unit {0}} past' stopped a.requests r (Err halt) → Comes start (Err halt) core' past' kept stopped bytes left w' before now'
-answering_halts start past past' kept stopped same (BadLine at) bytes line more r n core core' u left w w' before now now' few is a first failed kept_so passed = absurd failed
-answering_halts start past past' kept stopped same ReadFault bytes line more r n core core' u left w w' before now now' few is a first failed kept_so passed = absurd failed
-answering_halts start past past' kept stopped same (Limit number) bytes line more r n core core' u left w w' before now now' few is a first failed kept_so passed = absurd failed
-answering_halts start past past' kept stopped same (Rotated generation) bytes line more r n core core' u left w w' before now now' few is a first failed kept_so passed = absurd failed
-answering_halts start past past' kept stopped same (DamagedInput number) bytes line more r n core core' u left w w' before now now' few is a first failed kept_so passed = absurd failed
-answering_halts start past past' kept stopped same (Damaged side number) bytes line more r n core core' u left w w' before now now' few is a first failed kept_so passed = absurd failed
-answering_halts start past past' kept stopped same DiskFault bytes line more r n core core' u left w w' before now now' few is a first failed kept_so passed =
+pub answering_halts : (start : State) (past past' : List Request → Type 0) (kept : State → Request → Type 0) (stopped : List Request → Request → Type 0) → (halt : Halt) (bytes line : List ℕ) (more : List (List ℕ)) (r : Request) (n : ℕ) (core core' : Core) (u left : Option (List ℕ)) (w w' : List ℕ) (before now now' : Option (List ℕ)) → n < LINES_MOST → IsRequest line r → (a : Answered start bytes n core u w before now past) → lines_in a.rest ≡ line ∷ more → Answers (run start a.requests).0 r (Err halt) core' w w' now now' → (halt ≡ DiskFault → kept (run start a.requests).0 r) → PassesBy {T = Unit {0}} past' stopped a.requests r (Err halt) → Comes start (Err halt) core' past' kept stopped bytes left w' before now'
+answering_halts start past past' kept stopped (BadLine at) bytes line more r n core core' u left w w' before now now' few is a first failed kept_so passed = absurd failed
+answering_halts start past past' kept stopped ReadFault bytes line more r n core core' u left w w' before now now' few is a first failed kept_so passed = absurd failed
+answering_halts start past past' kept stopped (Limit number) bytes line more r n core core' u left w w' before now now' few is a first failed kept_so passed = absurd failed
+answering_halts start past past' kept stopped (Rotated generation) bytes line more r n core core' u left w w' before now now' few is a first failed kept_so passed = absurd failed
+answering_halts start past past' kept stopped (DamagedInput number) bytes line more r n core core' u left w w' before now now' few is a first failed kept_so passed = absurd failed
+answering_halts start past past' kept stopped (Damaged side number) bytes line more r n core core' u left w w' before now now' few is a first failed kept_so passed = absurd failed
+answering_halts start past past' kept stopped DiskFault bytes line more r n core core' u left w w' before now now' few is a first failed kept_so passed =
     record {
       requests = a.requests;
       few = omega (arith, few, a.count);
@@ -272,7 +272,7 @@ answering_halts start past past' kept stopped same DiskFault bytes line more r n
       stands = failed.0;
       halted = (r, (line, more, is, (a.front, a.spelled, begins start bytes n core u w before now past a ∙ ap (λ (ls : List (List ℕ)). a.front ++ ls) first)), failed.1, failed.3, kept_so refl, passed);
     }
-answering_halts start past past' kept stopped same NoMemory bytes line more r n core core' u left w w' before now now' few is a first failed kept_so passed =
+answering_halts start past past' kept stopped NoMemory bytes line more r n core core' u left w w' before now now' few is a first failed kept_so passed =
     record {
       requests = a.requests;
       few = omega (arith, few, a.count);
@@ -286,8 +286,8 @@ answering_halts start past past' kept stopped same NoMemory bytes line more r n 
       stands = failed.0;
       halted = passed;
     }
-answering_halts start past past' kept stopped same WriteFault bytes line more r n core core' u left w w' before now now' few is a first failed kept_so passed =
-    cut_comes start core' past' kept stopped same bytes a.requests left w w' (lines_in a.rest) before now now' (omega (arith, few, a.count)) (begins_with start bytes n core u w before now past a) a.written failed.0 passed failed.1
+answering_halts start past past' kept stopped WriteFault bytes line more r n core core' u left w w' before now now' few is a first failed kept_so passed =
+    cut_comes start core' past' kept stopped bytes a.requests left w w' (lines_in a.rest) before now now' (omega (arith, few, a.count)) (begins_with start bytes n core u w before now past a) a.written failed.0 passed failed.1
 
 -- the line that was read is the first of what was unread
 pub first_line : (rest line : List ℕ) (u' : Option (List ℕ)) → IsWithinLine line → Reads (Some rest) (line ++ 10 ∷ []) u' → (more : List (List ℕ)) × (lines_in rest ≡ line ∷ more)

@@ -1,15 +1,18 @@
 -- How far a run has come.
 use Rattle.std.specs.Prelude.{ℕ, ◌≡◌, ◌≢◌, ◌≤◌, ◌<◌, ◌+◌, [], ◌∷◌, ◌++◌}
-use Rattle.std.specs.Prelude.{List, length, Option, Some, Result, Ok, Err, Bool, true, false}
+use Rattle.std.specs.Prelude.{List, length, Option, Some, IsSome, Result, Ok, Err, Bool, true, false}
 use Rattle.std.specs.List.{AllByRecursion, AllZip}
+use Rattle.liq_outside.specs.declared.showing.Showing.{Showing}
 use Rattle.liq_types.specs.declared.amounts.TheConstants.{LINE_BYTES, LINES_MOST}
 use Rattle.liq_types.specs.declared.requests.Request.{Request}
 use Rattle.liq_types.specs.State.{State}
 use Rattle.liq_core.specs.Core.{Core, StandsFor}
 use Rattle.liq_rules.specs.Step.{accepted, run, step}
+use Rattle.liq_pairs.specs.Past.{Fault}
 use Rattle.liq_ends.specs.declared.halts.Halt.{Halt}
 use Rattle.liq_ends.specs.declared.halts.Halt.TheVariants.{BadLine, ReadFault, WriteFault, DiskFault, NoMemory}
 use Rattle.liq_ends.specs.Output.{lines}
+use Rattle.liq_ends.specs.Answered.{KeepsAnswered, Told}
 use Rattle.liq_ends.specs.Disks.{DisksHold, IsFaultOfRun, LeavesOfRun}
 use Rattle.liq_ends.specs.Requests.{IsRequest, IsNext}
 use Rattle.liq_ends.specs.Stops.{EndsAfter}
@@ -116,15 +119,18 @@ WrittenAt start (Err WriteFault) requests waiting before now =
     (part : List ℕ) × Writes before part now × IsCutInLastLine start part requests
 WrittenAt start _ requests waiting before now = Written start requests waiting before now
 
--- Where a disk met a fault, the next line's command was on its way, nothing waits, and so it holds of it. Else this
--- holds of the requests.
+-- Where a disk met a fault, the next line's command was on its way, nothing waits, and so it holds of it. Where a reply
+-- was cut, this holds of these requests and later ones, of which none was accepted. Else it holds of the requests.
 abbrev pub HaltsAt :
     Result (Unit {0}) Halt → List ℕ → List Request → List ℕ → State → (List Request → Type 0)
     → (State → Request → Type 0) → (List Request → Request → Type 0) → Type 0
-HaltsAt (Err DiskFault) bytes requests waiting s past kept stopped =
+HaltsAt (Err DiskFault) bytes requests waiting start past kept stopped =
+    let s = (run start requests).0 in
     (request : Request) × IsNext bytes requests request × IsAccepted s request × (waiting ≡ []) × kept s request
     × stopped requests request
-HaltsAt _ bytes requests waiting s past kept stopped = past requests
+HaltsAt (Err WriteFault) bytes requests waiting start past kept stopped =
+    (later : List Request) × (accepted start (requests ++ later) ≡ accepted start requests) × past (requests ++ later)
+HaltsAt _ bytes requests waiting start past kept stopped = past requests
 
 -- a run came to its end, some replies wait, and the protocol stands for the state after the requests
 pub record Comes
@@ -138,7 +144,7 @@ pub record Comes
   pub begins : BeginsWith IsRequest bytes requests more
   pub written : WrittenAt start end requests waiting before now
   pub stands : StandsFor core (run start requests).0
-  pub halted : HaltsAt end bytes requests waiting (run start requests).0 past kept stopped
+  pub halted : HaltsAt end bytes requests waiting start past kept stopped
 
 -- What is written at a run's end, but for the last line of one that stops: all replies, or up to a cut.
 abbrev pub WritesReplies :
@@ -157,21 +163,27 @@ pub record Ends
   pub read : EndsAfter start end bytes left requests
   pub written : WritesReplies start end requests before now
   pub stands : StandsFor core (run start requests).0
-  pub halted : HaltsAt end bytes requests [] (run start requests).0 past kept stopped
+  pub halted : HaltsAt end bytes requests [] start past kept stopped
 
--- the same of a run that has given back its disks
+-- The same of a run that has given back its disks. Its sink was shown `shown` before it and `shown_now` by then, and may
+-- hold whatever comes behind the replies: the disks have what was answered.
 pub record GivesBack
     {D : Type 0} (seen : D → Option (List ℕ)) (moment : D → ℕ) (left_at : D → ℕ → List ℕ → Type 0)
     (old_left old_right : D) (start : State) (end : Result (Unit {0}) Halt) (bytes l r : List ℕ)
-    (unread before now : Option (List ℕ)) (left right : D) : Type 0 where
+    (unread before now : Option (List ℕ)) (shown shown_now : Option (List Showing)) (left right : D) : Type 0 where
   pub requests : List Request
   pub few : length requests ≤ LINES_MOST
   pub read : EndsAfter start end bytes unread requests
   pub written : WritesReplies start end requests before now
   pub disks : DisksHold seen end bytes unread l r start left right requests
+  pub left_tells : IsSome (seen left)
+  pub right_tells : IsSome (seen right)
+  pub fault : Fault
+  pub fault_is : IsFaultOfRun end bytes unread requests fault
   pub past :
-      LeavesOfRun seen moment left_at old_left old_right (IsFaultOfRun end bytes unread requests) l r start requests
-      left right
+      LeavesOfRun seen moment left_at old_left old_right (λ met. met ≡ fault) l r start requests left right
+  pub answered : (last : Option (List ℕ)) → Told before shown last shown_now (λ was earlier is all.
+      KeepsAnswered moment left_at l r start requests fault old_left old_right was earlier left right is all)
 
 -- One more line was answered, or the run comes to its end.
 abbrev pub Turns :

@@ -1,6 +1,6 @@
 -- One turn of a run, and what a part of a run shows at its end.
 use Rattle.std.specs.Prelude.{ℕ, ◌≡◌, ◌+◌, [], List, Option, Result, Err, Bool}
-use Rattle.liq_types.specs.State.{State}
+use Rattle.liq_outside.specs.declared.showing.Showing.{Showing}
 use Rattle.liq_store.specs.Causes.{counts_of}
 use Rattle.liq_store.specs.Stored.{Stored}
 use Rattle.liq_ends.specs.declared.halts.Halt.{Halt}
@@ -8,31 +8,60 @@ use Rattle.liq_ends.specs.declared.halts.Halt.TheVariants.{ReadFault, DiskFault}
 use Rattle.liq_ends.specs.Causes.{DiskCause, ReadCause, WriteCause}
 use Rattle.liq_lines.specs.Reading.{unread, ReadsFew}
 use Rattle.liq_run.specs.Calls.{GoOn, IsStopped, KeepsAround}
-use Rattle.liq_run.specs.Passing.{IsPastOf, IsStoppedPastOf}
-use Rattle.liq_run.specs.Progress.{Answered, Turns}
+use Rattle.liq_run.specs.Passing.{Begun, IsPastOf, IsStoppedPastOf}
+use Rattle.liq_run.specs.Progress.{Answered, Comes, Ends, Turns}
 
 -- Where a run has come to: its store, the bytes that were taken from the source and not answered yet, what it still
--- tells, the replies that wait, and what the sink holds.
+-- tells, the replies that wait, and what the sink holds and was shown.
 pub record Reached (D : Type 0) : Type 0 where
   pub store : Stored D
   pub taken : List ℕ
   pub left : Option (List ℕ)
   pub waiting : List ℕ
   pub held : Option (List ℕ)
+  pub shown : Option (List Showing)
 
--- The next line was taken, of which there were n before it. Where these are answered, on whatever disks the run began,
--- so is one more, or the run comes to its end; and no more bytes were taken than a line has.
+module _
+    {D : Type 0} (seen : D → Option (List ℕ)) (moment : D → ℕ) (left_at : D → ℕ → List ℕ → Type 0)
+    (begun : Begun D) (bytes : List ℕ) where
+  -- A run that began so, with these bytes in its source, answered n lines.
+  abbrev pub HasAnswered : ℕ → Reached D → Type 0
+  HasAnswered n at =
+      Answered begun.start bytes n at.store.core (unread at.taken at.left) at.waiting begun.held at.held
+      (λ requests. IsPastOf seen moment left_at begun requests at.store at.shown)
+
+  -- one line more, or it came to its end
+  abbrev pub HasTurned : ℕ → Reached D → Result Bool Halt → Type 0
+  HasTurned n at result =
+      Turns begun.start (λ requests. IsPastOf seen moment left_at begun requests at.store at.shown)
+      (KeepsAround seen at.store.left at.store.right)
+      (λ requests request. IsStoppedPastOf seen moment left_at begun requests request at.store at.shown)
+      bytes n at.store.core (unread at.taken at.left) at.left at.waiting begun.held at.held result
+
+  -- it came to this end, at which some replies may wait
+  abbrev pub HasCome : Reached D → Result (Unit {0}) Halt → Type 0
+  HasCome at end =
+      Comes begun.start end at.store.core (λ requests. IsPastOf seen moment left_at begun requests at.store at.shown)
+      (KeepsAround seen at.store.left at.store.right)
+      (λ requests request. IsStoppedPastOf seen moment left_at begun requests request at.store at.shown)
+      bytes at.left at.waiting begun.held at.held
+
+  -- none waits any more
+  abbrev pub HasEnded : Reached D → Result (Unit {0}) Halt → Type 0
+  HasEnded at end =
+      Ends begun.start end at.store.core (λ requests. IsPastOf seen moment left_at begun requests at.store at.shown)
+      (KeepsAround seen at.store.left at.store.right)
+      (λ requests request. IsStoppedPastOf seen moment left_at begun requests request at.store at.shown)
+      bytes at.left begun.held at.held
+
+-- The next line was taken, of which there were n before it. Where these are answered, in whatever way the run began, so
+-- is one more, or the run comes to its end; and no more bytes were taken than a line has.
 pub record TakesTurn
     {D : Type 0} (seen : D → Option (List ℕ)) (moment : D → ℕ) (left_at : D → ℕ → List ℕ → Type 0) (n : ℕ)
     (old new : Reached D) (result : Result Bool Halt) : Type 0 where
   pub turn :
-      (start : State) (bytes : List ℕ) (before : Option (List ℕ)) (old_left old_right : D) (l r : List ℕ)
-      → Answered start bytes n old.store.core (unread old.taken old.left) old.waiting before old.held
-      (λ requests. IsPastOf seen moment left_at old_left old_right l r start requests old.store)
-      → Turns start (λ requests. IsPastOf seen moment left_at old_left old_right l r start requests new.store)
-      (KeepsAround seen new.store.left new.store.right)
-      (λ requests request. IsStoppedPastOf seen moment left_at old_left old_right l r start requests request new.store)
-      bytes n new.store.core (unread new.taken new.left) new.left new.waiting before new.held result
+      (begun : Begun D) (bytes : List ℕ) → HasAnswered seen moment left_at begun bytes n old
+      → HasTurned seen moment left_at begun bytes n new result
   pub few :
       (before : Option (List ℕ)) → ReadsFew before n old.taken old.left → ReadsFew before (n + 1) new.taken new.left
 

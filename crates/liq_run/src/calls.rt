@@ -8,13 +8,15 @@ ghost use Rattle.liq_text.specs.Replies.{reply_line};
 ghost use Rattle.liq_types.specs.State.{State};
 ghost use Rattle.liq_core.specs.Core.{StandsFor};
 ghost use Rattle.liq_ends.specs.Causes.{DiskCause};
-ghost use Rattle.liq_run.specs.Passing.{IsPastOf, Passes};
+ghost use Rattle.liq_ends.specs.Output.{lines};
+ghost use Rattle.liq_lines.specs.Writing.{Writes};
+ghost use Rattle.liq_run.specs.Passing.{Begun, IsPastOf, Passes};
 ghost use Rattle.liq_run.specs.Calls.{Calls, GoOn, IsCommand, IsStopped, KeepsAround};
 
 use crate::waiting::keep;
 use liq_core::laws::protocols_stand;
 use liq_ends::Halt;
-use liq_outside::Disk;
+use liq_outside::{Disk, Sink};
 use liq_store::Store;
 use liq_types::amounts::REPLY_BYTES;
 use liq_types::{Answer, Hint, Query, Reply, Request};
@@ -29,8 +31,13 @@ pub fn tell<D: Disk>(store: &Store<D>, query: &Query, waiting: &mut Vec<u8>)
     keep(&store.protocol().query(query), waiting);
 }
 
-/// Makes the request's step, and gives its reply.
-pub fn call<D: Disk>(store: &mut Store<D>, request: &Request) -> Result<Reply, Halt>
+/// Makes the request's step, and gives its reply. The sink is shown the disks behind the step: by then no reply is out but
+/// those before this one.
+pub fn call<D: Disk, K: Sink>(
+    store: &mut Store<D>,
+    request: &Request,
+    out: &mut K,
+) -> Result<Reply, Halt>
     requires going { store.old.stopped ≡ None }
     ensures call { (s : State) → StandsFor store.old.core s → Calls s request.now result store.new.core }
     ensures no_source { result ≢ Err Halt.ReadFault }
@@ -42,16 +49,21 @@ pub fn call<D: Disk>(store: &mut Store<D>, request: &Request) -> Result<Reply, H
     ensures untold { store.new.changes ≡ [] }
     // Where a disk met a fault, both keep the state before the request or after it.
     ensures kept { result ≡ Err Halt.DiskFault → (s : State) → StandsFor store.old.core s → KeepsAround D.seen store.new.left store.new.right s request.now }
-    ensures past { (old_left old_right : D) (l r : List ℕ) (start : State) (requests : List Request)
-        → IsPastOf D.seen D.moment D.left_at old_left old_right l r start requests store.old
-        → Passes D.seen D.moment D.left_at old_left old_right l r start requests request.now result store.new }
+    ensures past { (begun : Begun D) (requests : List Request) → IsPastOf D.seen D.moment D.left_at begun requests store.old (K.shown out.old)
+        → Writes begun.held (lines begun.start requests) (K.held out.old)
+        → Passes D.seen D.moment D.left_at begun requests request.now result store.new (K.shown out.new) }
+    ensures held { K.held out.new ≡ K.held out.old }
+    ensures sink { K.faults out.new ≡ K.faults out.old }
     ensures cause { DiskCause result (record { left = D.faults store.old.left; right = D.faults store.old.right }) (record { left = D.faults store.new.left; right = D.faults store.new.right }) }
 {
     protocols_stand(store.protocol());
     let answer = store.call(request, &Hint::NONE);
     store.clear_changes();
     match answer {
-        Answer::Reply(reply) => Ok(reply),
+        Answer::Reply(reply) => {
+            store.show(out);
+            Ok(reply)
+        }
         Answer::NoMemory => Err(Halt::NoMemory),
         Answer::DiskFault => Err(Halt::DiskFault),
         _ => unreachable!(),

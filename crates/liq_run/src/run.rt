@@ -9,9 +9,9 @@ ghost use Rattle.liq_types.specs.declared.amounts.TheConstants.{LINE_BYTES, LINE
 ghost use Rattle.liq_run.specs.declared.waiting.TheConstants.{WAITING_MOST};
 ghost use Rattle.liq_run.specs.declared.run.Next.TheVariants.{Line};
 ghost use Rattle.liq_run.specs.Calls.{GoOn, IsStopped, KeepsAround};
-ghost use Rattle.liq_run.specs.Passing.{IsPastOf, IsStoppedPastOf, Passes};
-ghost use Rattle.liq_run.specs.Progress.{RequestOn, ReadsRequest, Answers, Comes, Ends, GivesBack};
-ghost use Rattle.liq_run.specs.Turns.{PartShows, TakesTurn};
+ghost use Rattle.liq_run.specs.Passing.{Begun, BeginsNone, BeginsRun, IsPastOf, Passes};
+ghost use Rattle.liq_run.specs.Progress.{RequestOn, ReadsRequest, Answers, GivesBack, Written};
+ghost use Rattle.liq_run.specs.Turns.{HasCome, HasEnded, PartShows, TakesTurn};
 ghost use Rattle.liq_core.specs.Core.{StandsFor};
 ghost use Rattle.liq_pairs.specs.Pair.{state_on};
 ghost use Rattle.liq_store.specs.Causes.{Faults, counts_of};
@@ -21,8 +21,7 @@ ghost use Rattle.liq_lines.specs.Lines.{IsWholeLine};
 ghost use Rattle.liq_lines.specs.Reading.{unread, ReadsAtMost, taken_most};
 ghost use Rattle.liq_ends.specs.declared.halts.Halt.{Halt};
 ghost use Rattle.liq_ends.specs.Causes.{DiskCause, DisksGoOn, ReadCause, WriteCause};
-ghost use Rattle.liq_ends.specs.Disks.{EndsDamaged, IsFaultOfTelling, LeavesOfRun, OfDamage, OfState};
-ghost use Rattle.liq_ends.specs.Unopened.{halt_of};
+ghost use Rattle.liq_ends.specs.Disks.{EndsDamaged, OfDamage, OfState};
 
 use crate::calls::{call, tell};
 use crate::waiting::{WAITING_MOST, catch_up, flush, keep, make_room};
@@ -148,7 +147,7 @@ pub fn answer_input<S: Source, K: Sink, D: Disk>(
 ) -> Ending<D>
     ensures run { OfState D.seen left right (λ l r start. (bytes : List ℕ) → S.left input.old ≡ Some bytes
         → GivesBack D.seen D.moment D.left_at left right start result.end bytes l r (S.left input.new)
-        (K.held out.old) (K.held out.new) result.left result.right) }
+        (K.held out.old) (K.held out.new) (K.shown out.old) (K.shown out.new) result.left result.right) }
     // Over damaged disks nothing is read or written.
     ensures damaged { OfDamage D.seen left right (λ side damage. (input.new ≡ input.old) × (out.new ≡ out.old)
         × EndsDamaged D.seen side damage result.end result.left result.right) }
@@ -159,7 +158,7 @@ pub fn answer_input<S: Source, K: Sink, D: Disk>(
     // It goes on in whatever generation.
     ensures goes_on { (generation : ℕ) → result.end ≢ Err (Halt.Rotated generation) }
 {
-    let mut run = match Run::open(alloc, left, right) {
+    let mut run = match Run::open(alloc, left, right, out) {
         Ok(run) => run,
         Err(fault) => return unopened(fault),
     };
@@ -201,15 +200,23 @@ pub struct Run<D: Disk> {
 }
 
 impl<D: Disk> Run<D> {
-    /// A run over the store of two disks. Where it is not opened the disks are handed back.
-    pub fn open(alloc: Global, left: D, right: D) -> Result<Run<D>, StoreFault<D>>
+    /// A run over the store of two disks, which the sink is shown then. Where it is not opened the disks are handed back.
+    pub fn open<K: Sink>(
+        alloc: Global,
+        left: D,
+        right: D,
+        out: &mut K,
+    ) -> Result<Run<D>, StoreFault<D>>
         ensures opened { IfOk result (λ run. OpensOn D.seen D.faults left right run.store × (run.reader ≡ []) × (run.waiting.items ≡ [])) }
         ensures not_opened { IfErr result (IsNotOpened D.seen D.faults left right) }
         // What a crash at some moment may have left of both disks is that of an opening.
-        ensures past { IfOk result (λ run. (l r : List ℕ) (start : State) → D.seen left ≡ Some l → D.seen right ≡ Some r → state_on l r ≡ Ok start
-            → IsPastOf D.seen D.moment D.left_at left right l r start [] run.store) }
-        ensures not_past { IfErr result (λ fault. (l r : List ℕ) (start : State) → D.seen left ≡ Some l → D.seen right ≡ Some r → state_on l r ≡ Ok start
-            → LeavesOfRun D.seen D.moment D.left_at left right (IsFaultOfTelling (Err (halt_of fault.why))) l r start [] fault.left fault.right) }
+        ensures begins { IfOk result (λ run. (l r : List ℕ) (start : State) → D.seen left ≡ Some l → D.seen right ≡ Some r → state_on l r ≡ Ok start
+            → BeginsRun D.seen D.moment D.left_at left right l r start run.store (K.held out.old) (K.shown out.old) (K.shown out.new)) }
+        ensures begins_none { IfErr result (λ fault. (l r : List ℕ) (start : State) → D.seen left ≡ Some l → D.seen right ≡ Some r → state_on l r ≡ Ok start
+            → BeginsNone D.seen D.moment D.left_at left right l r start fault.why fault.left fault.right) }
+        ensures held { K.held out.new ≡ K.held out.old }
+        ensures sink { K.faults out.new ≡ K.faults out.old }
+        ensures untouched { IfErr result (λ _. out.new ≡ out.old) }
         ensures time { IfOk result (λ run. GoesOn D.moment D.left_at left run.store.left × GoesOn D.moment D.left_at right run.store.right) }
         ensures time_too { IfErr result (λ fault. GoesOn D.moment D.left_at left fault.left × GoesOn D.moment D.left_at right fault.right) }
     {
@@ -228,6 +235,7 @@ impl<D: Disk> Run<D> {
             Ok(mut store) => {
                 // Nobody follows the list here.
                 store.clear_changes();
+                store.show(out);
                 Ok(Run {
                     store,
                     reader,
@@ -257,10 +265,8 @@ impl<D: Disk> Run<D> {
         requires unread { self.old.reader ≡ [] }
         requires waiting { self.old.waiting.items ≡ [] }
         requires going { self.old.store.stopped ≡ None }
-        ensures run { (start : State) → StandsFor self.old.store.core start → (bytes : List ℕ) → S.left input.old ≡ Some bytes
-            → (old_left old_right : D) (l r : List ℕ) → IsPastOf D.seen D.moment D.left_at old_left old_right l r start [] self.old.store
-            → Ends start result self.new.store.core (λ requests. IsPastOf D.seen D.moment D.left_at old_left old_right l r start requests self.new.store) (KeepsAround D.seen self.new.store.left self.new.store.right)
-            (λ requests request. IsStoppedPastOf D.seen D.moment D.left_at old_left old_right l r start requests request self.new.store) bytes (S.left input.new) (K.held out.old) (K.held out.new) }
+        ensures run { (begun : Begun D) (bytes : List ℕ) → S.left input.old ≡ Some bytes → begun.held ≡ K.held out.old → IsPastOf D.seen D.moment D.left_at begun [] self.old.store (K.shown out.old)
+            → HasEnded D.seen D.moment D.left_at begun bytes (record { store = self.new.store; taken = self.new.reader; left = S.left input.new; waiting = self.new.waiting.items; held = K.held out.new; shown = K.shown out.new }) result }
         ensures few { ReadsAtMost (taken_most LINES_MOST) (S.left input.old) (S.left input.new) }
         ensures source { ReadCause result (S.faults input.old) (S.faults input.new) }
         ensures sink { WriteCause result (K.faults out.old) (K.faults out.new) }
@@ -277,10 +283,8 @@ impl<D: Disk> Run<D> {
         requires unread { self.old.reader ≡ [] }
         requires waiting { self.old.waiting.items ≡ [] }
         requires going { self.old.store.stopped ≡ None }
-        ensures run { (start : State) → StandsFor self.old.store.core start → (bytes : List ℕ) → S.left input.old ≡ Some bytes
-            → (old_left old_right : D) (l r : List ℕ) → IsPastOf D.seen D.moment D.left_at old_left old_right l r start [] self.old.store
-            → Comes start result self.new.store.core (λ requests. IsPastOf D.seen D.moment D.left_at old_left old_right l r start requests self.new.store) (KeepsAround D.seen self.new.store.left self.new.store.right)
-            (λ requests request. IsStoppedPastOf D.seen D.moment D.left_at old_left old_right l r start requests request self.new.store) bytes (S.left input.new) self.new.waiting.items (K.held out.old) (K.held out.new) }
+        ensures run { (begun : Begun D) (bytes : List ℕ) → S.left input.old ≡ Some bytes → begun.held ≡ K.held out.old → IsPastOf D.seen D.moment D.left_at begun [] self.old.store (K.shown out.old)
+            → HasCome D.seen D.moment D.left_at begun bytes (record { store = self.new.store; taken = self.new.reader; left = S.left input.new; waiting = self.new.waiting.items; held = K.held out.new; shown = K.shown out.new }) result }
         ensures few { ReadsAtMost (taken_most LINES_MOST) (S.left input.old) (S.left input.new) }
         ensures shows { PartShows D.faults D.moment D.left_at self.old.store self.new.store self.new.waiting.items (S.faults input.old) (S.faults input.new) (K.faults out.old) (K.faults out.new) result }
     {
@@ -299,11 +303,9 @@ impl<D: Disk> Run<D> {
 
     /// Writes what waits at the run's end. Where the sink meets a fault at it, that is the end.
     fn catch_up_at<K: Sink>(&self, end: Result<(), Halt>, out: &mut K) -> Result<(), Halt>
-        ensures run { (start : State) (bytes : List ℕ) (left before : Option (List ℕ)) (old_left old_right : D) (l r : List ℕ)
-            → Comes start end self.now.store.core (λ requests. IsPastOf D.seen D.moment D.left_at old_left old_right l r start requests self.now.store) (KeepsAround D.seen self.now.store.left self.now.store.right)
-            (λ requests request. IsStoppedPastOf D.seen D.moment D.left_at old_left old_right l r start requests request self.now.store) bytes left self.now.waiting.items before (K.held out.old)
-            → Ends start result self.now.store.core (λ requests. IsPastOf D.seen D.moment D.left_at old_left old_right l r start requests self.now.store) (KeepsAround D.seen self.now.store.left self.now.store.right)
-            (λ requests request. IsStoppedPastOf D.seen D.moment D.left_at old_left old_right l r start requests request self.now.store) bytes left before (K.held out.new) }
+        ensures run { (begun : Begun D) (bytes : List ℕ) (left : Option (List ℕ))
+            → HasCome D.seen D.moment D.left_at begun bytes (record { store = self.now.store; taken = self.now.reader; left = left; waiting = self.now.waiting.items; held = K.held out.old; shown = K.shown out.old }) end
+            → HasEnded D.seen D.moment D.left_at begun bytes (record { store = self.now.store; taken = self.now.reader; left = left; waiting = []; held = K.held out.new; shown = K.shown out.new }) result }
         ensures source { (old new : ℕ) → (end ≡ Err Halt.ReadFault → self.now.waiting.items ≡ []) → ReadCause end old new → ReadCause result old new }
         ensures sink { (old : ℕ) → WriteCause end old (K.faults out.old) → WriteCause result old (K.faults out.new) }
         ensures disks { (old new : Faults) → (end ≡ Err Halt.DiskFault → self.now.waiting.items ≡ []) → DiskCause end old new → DiskCause result old new }
@@ -322,8 +324,8 @@ impl<D: Disk> Run<D> {
     ) -> Result<bool, Halt>
         requires few { answered < LINES_MOST }
         requires going { self.old.store.stopped ≡ None }
-        ensures turn { TakesTurn D.seen D.moment D.left_at answered (record { store = self.old.store; taken = self.old.reader; left = S.left input.old; waiting = self.old.waiting.items; held = K.held out.old })
-            (record { store = self.new.store; taken = self.new.reader; left = S.left input.new; waiting = self.new.waiting.items; held = K.held out.new }) result }
+        ensures turn { TakesTurn D.seen D.moment D.left_at answered (record { store = self.old.store; taken = self.old.reader; left = S.left input.old; waiting = self.old.waiting.items; held = K.held out.old; shown = K.shown out.old })
+            (record { store = self.new.store; taken = self.new.reader; left = S.left input.new; waiting = self.new.waiting.items; held = K.held out.new; shown = K.shown out.new }) result }
         ensures shows { PartShows D.faults D.moment D.left_at self.old.store self.new.store self.new.waiting.items (S.faults input.old) (S.faults input.new) (K.faults out.old) (K.faults out.new) result }
     {
         let whole = self.reader.whole_line();
@@ -345,8 +347,8 @@ impl<D: Disk> Run<D> {
         requires whole { IfSome whole (λ size. IsWholeLine size self.old.reader) }
         requires few { answered < LINES_MOST }
         requires going { self.old.store.stopped ≡ None }
-        ensures turn { TakesTurn D.seen D.moment D.left_at answered (record { store = self.old.store; taken = self.old.reader; left = S.left input.old; waiting = self.old.waiting.items; held = K.held out.old })
-            (record { store = self.new.store; taken = self.new.reader; left = S.left input.new; waiting = self.new.waiting.items; held = K.held out.new }) result }
+        ensures turn { TakesTurn D.seen D.moment D.left_at answered (record { store = self.old.store; taken = self.old.reader; left = S.left input.old; waiting = self.old.waiting.items; held = K.held out.old; shown = K.shown out.old })
+            (record { store = self.new.store; taken = self.new.reader; left = S.left input.new; waiting = self.new.waiting.items; held = K.held out.new; shown = K.shown out.new }) result }
         ensures shows { PartShows D.faults D.moment D.left_at self.old.store self.new.store self.new.waiting.items (S.faults input.old) (S.faults input.new) (K.faults out.old) (K.faults out.new) result }
     {
         catch_up(whole, &mut self.waiting, out)?;
@@ -369,9 +371,9 @@ impl<D: Disk> Run<D> {
         ensures answer { (s : State) → StandsFor self.old.store.core s
             → Answers s request.now result self.new.store.core self.old.waiting.items self.new.waiting.items (K.held out.old) (K.held out.new) }
         ensures reader { self.new.reader ≡ self.old.reader }
-        ensures past { (old_left old_right : D) (l r : List ℕ) (start : State) (requests : List Request)
-            → IsPastOf D.seen D.moment D.left_at old_left old_right l r start requests self.old.store
-            → Passes D.seen D.moment D.left_at old_left old_right l r start requests request.now result self.new.store }
+        ensures past { (begun : Begun D) (requests : List Request) → IsPastOf D.seen D.moment D.left_at begun requests self.old.store (K.shown out.old)
+            → Written begun.start requests self.old.waiting.items begun.held (K.held out.old)
+            → Passes D.seen D.moment D.left_at begun requests request.now result self.new.store (K.shown out.new) }
         ensures other { result ≢ Err Halt.ReadFault }
         // Where a disk met a fault nothing waits, and both disks keep the state before the request or after it.
         ensures caught_up { result ≡ Err Halt.DiskFault → self.new.waiting.items ≡ [] }
@@ -385,7 +387,7 @@ impl<D: Disk> Run<D> {
             Request::Ask(query) => self.answer_query(query, out),
             Request::Do(_) => {
                 flush(&mut self.waiting, out)?;
-                let reply = call(&mut self.store, request)?;
+                let reply = call(&mut self.store, request, out)?;
                 keep(&reply, &mut self.waiting);
                 Ok(())
             }
@@ -398,9 +400,8 @@ impl<D: Disk> Run<D> {
         ensures answer { (s : State) → StandsFor self.old.store.core s
             → Answers s (Ask query.now) result self.new.store.core self.old.waiting.items self.new.waiting.items (K.held out.old) (K.held out.new) }
         ensures reader { self.new.reader ≡ self.old.reader }
-        ensures past { (old_left old_right : D) (l r : List ℕ) (start : State) (requests : List Request)
-            → IsPastOf D.seen D.moment D.left_at old_left old_right l r start requests self.old.store
-            → Passes D.seen D.moment D.left_at old_left old_right l r start requests (Ask query.now) result self.new.store }
+        ensures past { (begun : Begun D) (requests : List Request) → IsPastOf D.seen D.moment D.left_at begun requests self.old.store (K.shown out.old)
+            → Passes D.seen D.moment D.left_at begun requests (Ask query.now) result self.new.store (K.shown out.new) }
         ensures other { result ≢ Err Halt.ReadFault }
         ensures caught_up { result ≡ Err Halt.DiskFault → self.new.waiting.items ≡ [] }
         ensures kept { result ≡ Err Halt.DiskFault → (s : State) → StandsFor self.old.store.core s → KeepsAround D.seen self.new.store.left self.new.store.right s (Ask query.now) }

@@ -21,6 +21,7 @@ pub fn flush<K: Sink>(waiting: &mut Vec<u8>, out: &mut K) -> Result<(), Halt>
     ensures empty { waiting.new.items ≡ [] }
     ensures capacity { vec_capacity waiting.new ≡ vec_capacity waiting.old }
     ensures cause { WriteCause result (K.faults out.old) (K.faults out.new) }
+    ensures unshown { K.shown out.new ≡ K.shown out.old }
 {
     let written = write_all(out, waiting);
     waiting.clear();
@@ -40,6 +41,7 @@ pub fn catch_up<K: Sink>(
     ensures taken { OnOk result ((waiting.new.items ≡ []) ⊎ IsSome whole) }
     ensures capacity { vec_capacity waiting.new ≡ vec_capacity waiting.old }
     ensures cause { WriteCause result (K.faults out.old) (K.faults out.new) }
+    ensures unshown { K.shown out.new ≡ K.shown out.old }
 {
     match whole {
         Some(_) => Ok(()),
@@ -54,6 +56,7 @@ pub fn make_room<K: Sink>(waiting: &mut Vec<u8>, out: &mut K) -> Result<(), Halt
     ensures room { OnOk result (vec_len waiting.new + REPLY_BYTES < vec_capacity waiting.new) }
     ensures capacity { vec_capacity waiting.new ≡ vec_capacity waiting.old }
     ensures cause { WriteCause result (K.faults out.old) (K.faults out.new) }
+    ensures unshown { K.shown out.new ≡ K.shown out.old }
 {
     if waiting.len() < WAITING_MOST - REPLY_BYTES {
         Ok(())

@@ -22,7 +22,8 @@ where
     D: Disk,
     ensures run { OfState D.seen left right (λ l r start. (bytes : List ℕ) → S.left input.old ≡ Some bytes
         → EndsIn D.seen D.moment D.left_at left right start result.end bytes l r (S.left input.new)
-        (Rose (K.faults out.old) (K.faults out.new)) (K.held out.old) (K.held out.new) result.left result.right) }
+        (Rose (K.faults out.old) (K.faults out.new)) (K.held out.old) (K.held out.new)
+        (K.shown out.old) (K.shown out.new) result.left result.right) }
     // Over damaged disks nothing is read.
     ensures damaged { OfDamage D.seen left right (λ side damage. (input.new ≡ input.old)
         × StopsDamaged D.seen side damage result.end

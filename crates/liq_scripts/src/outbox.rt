@@ -65,6 +65,7 @@ impl Outbox {
         ensures sends { Sends result self.old [] self.new (K.held out.old) (K.held out.new) }
         ensures empty { self.new ≡ [] }
         ensures cause { HasCause (K.faults out.old) (K.faults out.new) result }
+        ensures unshown { K.shown out.new ≡ K.shown out.old }
     {
         let written = write_all(out, &self.bytes);
         self.bytes.clear();
@@ -75,6 +76,7 @@ impl Outbox {
     pub(crate) fn send<K: Sink>(&mut self, line: Line, out: &mut K) -> Result<(), Failed>
         ensures sends { Sends result self.old (line_text line) self.new (K.held out.old) (K.held out.new) }
         ensures cause { HasCause (K.faults out.old) (K.faults out.new) result }
+        ensures unshown { K.shown out.new ≡ K.shown out.old }
     {
         if self.bytes.len() > ROOM - LINE_ROOM {
             self.flush(out)?;

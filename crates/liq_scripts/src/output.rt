@@ -51,6 +51,7 @@ pub fn write_served<E: Shown, K: Sink>(
     ensures ok { OnOk result (Writes (K.held out.old) (served (map E.entry entries.now)) (K.held out.new)) }
     ensures err { OnErr result (WritesPart (K.held out.old) (served (map E.entry entries.now)) (K.held out.new)) }
     ensures cause { HasCause (K.faults out.old) (K.faults out.new) result }
+    ensures unshown { K.shown out.new ≡ K.shown out.old }
 {
     send_replies(entries, outbox, out)?;
     outbox.send(Line::History, out)?;
@@ -66,6 +67,7 @@ fn send_replies<E: Shown, K: Sink>(
 ) -> Result<(), Failed>
     ensures sends { Sends result outbox.old (replies_text (map E.entry entries.now)) outbox.new (K.held out.old) (K.held out.new) }
     ensures cause { HasCause (K.faults out.old) (K.faults out.new) result }
+    ensures unshown { K.shown out.new ≡ K.shown out.old }
 {
     for before in 0..SESSIONS {
         send_session(entries, before + 1, outbox, out)?;
@@ -82,6 +84,7 @@ fn send_session<E: Shown, K: Sink>(
 ) -> Result<(), Failed>
     ensures sends { Sends result outbox.old (session_text session (own_entries session (map E.entry entries.now))) outbox.new (K.held out.old) (K.held out.new) }
     ensures cause { HasCause (K.faults out.old) (K.faults out.new) result }
+    ensures unshown { K.shown out.new ≡ K.shown out.old }
 {
     if !has_entries(entries, session) {
         return Ok(());
@@ -105,6 +108,7 @@ fn send_entries<E: Shown, K: Sink>(
 ) -> Result<(), Failed>
     ensures sends { Sends result outbox.old (history_text (map E.entry entries.now)) outbox.new (K.held out.old) (K.held out.new) }
     ensures cause { HasCause (K.faults out.old) (K.faults out.new) result }
+    ensures unshown { K.shown out.new ≡ K.shown out.old }
 {
     send_each(entries, Part::Call, outbox, out)
 }
@@ -119,6 +123,7 @@ fn send_each<E: Shown, K: Sink>(
     ensures sends { Sends result outbox.old (flat_map (λ e. part_text part (E.entry e)) entries.now) outbox.new
         (K.held out.old) (K.held out.new) }
     ensures cause { HasCause (K.faults out.old) (K.faults out.new) result }
+    ensures unshown { K.shown out.new ≡ K.shown out.old }
 {
     for entry in entries {
         send_part(entry, part, outbox, out)?;
@@ -135,6 +140,7 @@ fn send_part<E: Shown, K: Sink>(
 ) -> Result<(), Failed>
     ensures sends { Sends result outbox.old (part_text part (E.entry entry.now)) outbox.new (K.held out.old) (K.held out.new) }
     ensures cause { HasCause (K.faults out.old) (K.faults out.new) result }
+    ensures unshown { K.shown out.new ≡ K.shown out.old }
 {
     match part {
         Part::ReplyTo(session) => send_own(entry, session, outbox, out),
@@ -151,6 +157,7 @@ fn send_own<E: Shown, K: Sink>(
 ) -> Result<(), Failed>
     ensures sends { Sends result outbox.old (part_text (Part.ReplyTo session) (E.entry entry.now)) outbox.new (K.held out.old) (K.held out.new) }
     ensures cause { HasCause (K.faults out.old) (K.faults out.new) result }
+    ensures unshown { K.shown out.new ≡ K.shown out.old }
 {
     if entry.session() != session {
         return Ok(());

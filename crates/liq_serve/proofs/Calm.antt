@@ -3,6 +3,7 @@ use Rattle.std.proofs.Common.{◌≡◌, ◌≢◌, ◌≤◌, ℕ, zero, suc, L
 use Rattle.std.specs.Prelude.{◌⊎◌, ◌<◌, Contains}
 use Rattle.std.specs.List.{AllZip}
 use Rattle.std.proofs.lemmas.Result.{MatchResult-at_ok}
+use Rattle.liq_outside.specs.declared.showing.Showing.{Showing}
 use Rattle.liq_outside.specs.Faults.{Rose}
 use Rattle.liq_types.specs.declared.amounts.TheConstants.{LINES_MOST}
 use Rattle.liq_types.specs.declared.requests.Request.{Request}
@@ -68,9 +69,9 @@ whole_done n (suc zero, within, is) sink = absurd (sink (sym is))
 whole_done n (suc (suc k), within, is) sink = absurd (omega (arith, within))
 
 module _
-    {S K D : Type 0} (unread : S → Option (List ℕ)) (source_faults : S → ℕ) (held : K → Option (List ℕ)) (sink_faults : K → ℕ) (seen : D → Option (List ℕ))
+    {S K D : Type 0} (unread : S → Option (List ℕ)) (source_faults : S → ℕ) (held : K → Option (List ℕ)) (shown : K → Option (List Showing)) (sink_faults : K → ℕ) (seen : D → Option (List ℕ))
     (disk_faults : D → ℕ) (moment : D → ℕ) (left_at : D → ℕ → List ℕ → Type 0) (before after : Outside S K D) where
-  answers_done : (asked : List (ℕ × Request)) (history : List Entry) (end : Result (Unit {0}) Halt) → Answers unread source_faults held sink_faults seen disk_faults moment left_at before after asked history end → status_of end ≢ 4 → status_of end ≢ 5 → IsDone (status_of end)
+  answers_done : (asked : List (ℕ × Request)) (history : List Entry) (end : Result (Unit {0}) Halt) → Answers unread source_faults held shown sink_faults seen disk_faults moment left_at before after asked history end → status_of end ≢ 4 → status_of end ≢ 5 → IsDone (status_of end)
   answers_done asked history (Ok done) a sink disk = inl refl
   answers_done asked history (Err (BadLine n)) a sink disk = whole_done _ a.1 sink
   answers_done asked history (Err ReadFault) a sink disk = whole_done _ a.1 sink
@@ -83,15 +84,15 @@ module _
   answers_done asked history (Err (DamagedInput number)) a sink disk = whole_done _ a.1 sink
 
   pub serve_done :
-      (end : Result (Unit {0}) Halt) → ServesTo unread source_faults held sink_faults seen disk_faults moment left_at before after end
+      (end : Result (Unit {0}) Halt) → ServesTo unread source_faults held shown sink_faults seen disk_faults moment left_at before after end
       → (bytes l r : List ℕ) (start : State) (all : List (ℕ × Request)) → unread before.source ≡ Some bytes → seen before.left ≡ Some l → seen before.right ≡ Some r
       → state_on l r ≡ Ok start → AllZip Asks (lines_in bytes) all → length all ≤ LINES_MOST → status_of end ≢ 3 → status_of end ≢ 4 → status_of end ≢ 5
       → IsDone (status_of end)
   serve_done end serves bytes l r start all told told_l told_r is spelled few read sink disk = by serves.came where
     by : ((serves.reading ≡ end) × (serves.history ≡ []) × (after.left ≡ before.left) × (after.right ≡ before.right) × IsStopping end)
         ⊎ ((serves.reading ≡ Ok tt)
-        × (OpensNone unread source_faults held sink_faults seen disk_faults moment left_at before after serves.history end
-        ⊎ Answers unread source_faults held sink_faults seen disk_faults moment left_at before after serves.asked serves.history end)) → IsDone (status_of end)
+        × (OpensNone unread source_faults held shown sink_faults seen disk_faults moment left_at before after serves.history end
+        ⊎ Answers unread source_faults held shown sink_faults seen disk_faults moment left_at before after serves.asked serves.history end)) → IsDone (status_of end)
     by (inl (stopped, none, left, right, stopping)) =
         inr (stopped_seven Asks end bytes (unread after.source) serves.asked all stopping (subst (λ (e : Result (Unit {0}) Halt). ReadsTo Asks bytes (unread after.source) serves.asked e) stopped (serves.read bytes told)) spelled few read)
     by (inr (whole, inl opens)) = unopened_done (status_of end) opens.1 disk (MatchResult-at_ok _ _ start is (opens.2 l r told_l told_r)).0
@@ -156,7 +157,7 @@ lines_rotated s end (inr seven) later disk = inr seven
 -- ---- of each word
 
 module _
-    {S K D : Type 0} (unread : S → Option (List ℕ)) (source_faults : S → ℕ) (held : K → Option (List ℕ)) (sink_faults : K → ℕ) (seen : D → Option (List ℕ))
+    {S K D : Type 0} (unread : S → Option (List ℕ)) (source_faults : S → ℕ) (held : K → Option (List ℕ)) (shown : K → Option (List Showing)) (sink_faults : K → ℕ) (seen : D → Option (List ℕ))
     (disk_faults : D → ℕ) (moment : D → ℕ) (left_at : D → ℕ → List ℕ → Type 0) (before after : Outside S K D) where
   -- the counts that rose, by a status
   record Rises (status : ℕ) : Type 0 where
@@ -185,7 +186,7 @@ module _
         later (λ is. kept (rises.disk is))
 
   abbrev Told : List ℕ → Result (Unit {0}) Halt → Type 0
-  Told text end = Tells unread source_faults held sink_faults seen disk_faults moment left_at before after [] text end
+  Told text end = Tells unread source_faults held shown sink_faults seen disk_faults moment left_at before after [] text end
 
   -- what was followed of a source that told its bytes
   record Follows (bytes : List ℕ) (end : Result (Unit {0}) Halt) : Type 0 where
@@ -195,7 +196,7 @@ module _
     so : FollowsTo end read (unread after.source) text
     told : Told text end
 
-  module _ (status : ℕ) (words : List (List ℕ)) (ends : Ends unread source_faults held sink_faults seen disk_faults moment left_at before after status words)
+  module _ (status : ℕ) (words : List (List ℕ)) (ends : Ends unread source_faults held shown sink_faults seen disk_faults moment left_at before after status words)
       (asked : Ask words word.Follow) (bytes : List ℕ) (is : unread before.source ≡ Some bytes) where
     abbrev followed : Result (Unit {0}) Halt
     followed = (ends.ends word.Follow asked).0
@@ -218,7 +219,7 @@ module _
   pub complete :
       ((l r : List ℕ) (s : State) → state_on l r ≡ Ok s → s.generation ≡ 1 → replay 1 (opening_with s.limit) (commands_on l r) ≡ Ok s)
       → ((front rest : List ℕ) → GoOn (front ++ rest) → GoOn front)
-      → (status : ℕ) (words : List (List ℕ)) → Ends unread source_faults held sink_faults seen disk_faults moment left_at before after status words
+      → (status : ℕ) (words : List (List ℕ)) → Ends unread source_faults held shown sink_faults seen disk_faults moment left_at before after status words
       → IsComplete unread source_faults held sink_faults seen disk_faults moment left_at before after status words
   complete leads stays status words ends =
       let rises : Rises status = record { source = ends.source_fault; sink = ends.sink_fault; disk = ends.disk_fault } in
@@ -231,7 +232,7 @@ module _
         serve = λ asks bytes l r start asked told stood all few well calm.
             let e = ends.ends word.Serve asks in
             subst IsDone (sym e.1)
-            (serve_done unread source_faults held sink_faults seen disk_faults moment left_at before after e.0 e.2 bytes l r start asked told stood.left stood.right stood.is all few (λ is. well (ends.source_fault (e.1 ∙ is))) (λ is. calm.sink (ends.sink_fault (e.1 ∙ is))) (λ is. calm.disk (ends.disk_fault (e.1 ∙ is))));
+            (serve_done unread source_faults held shown sink_faults seen disk_faults moment left_at before after e.0 e.2 bytes l r start asked told stood.left stood.right stood.is all few (λ is. well (ends.source_fault (e.1 ∙ is))) (λ is. calm.sink (ends.sink_fault (e.1 ∙ is))) (λ is. calm.disk (ends.disk_fault (e.1 ∙ is))));
         staking = λ asks.
             let e = ends.ends word.Staking asks in
             subst (First stakes.Spells) (sym e.1) (lines_first stakes.Spells staked_text e.0 e.2 (subst Rises e.1 rises));

@@ -3,6 +3,7 @@ use Rattle.std.proofs.Common.{◌≡◌, ◌≢◌, ◌<◌, ℕ, List, [], ◌�
 use Rattle.std.specs.Prelude.{◌⊎◌, Contains}
 use Rattle.std.proofs.Math.Seq.{take-append_seam}
 use Rattle.std.proofs.lemmas.List.{length-append}
+use Rattle.liq_outside.specs.declared.showing.Showing.{Showing}
 use Rattle.liq_outside.specs.Faults.{Rose}
 use Rattle.liq_types.specs.declared.requests.Request.{Request}
 use Rattle.liq_types.specs.State.{State}
@@ -70,12 +71,13 @@ cut_last start end fault requests before now h is = by (subst (λ (e : Result (U
   by (part, wrote, (earlier, final, are, front, missing)) = (earlier, final, are, (front.0, subst (λ (t : List ℕ). Writes before t now) front.1 wrote))
 
 module _
-    {S K D : Type 0} (unread : S → Option (List ℕ)) (source_faults : S → ℕ) (held : K → Option (List ℕ)) (sink_faults : K → ℕ) (seen : D → Option (List ℕ))
+    {S K D : Type 0} (unread : S → Option (List ℕ)) (source_faults : S → ℕ) (held : K → Option (List ℕ)) (shown : K → Option (List Showing)) (sink_faults : K → ℕ) (seen : D → Option (List ℕ))
     (disk_faults : D → ℕ) (moment : D → ℕ) (left_at : D → ℕ → List ℕ → Type 0) (before after : Outside S K D) where
   pub runs_to :
       (start : State) (end : Result (Unit {0}) Halt) (bytes l r : List ℕ)
-      → EndsIn seen moment left_at before.left before.right start end bytes l r (unread after.source) (Rose (sink_faults before.sink) (sink_faults after.sink)) (held before.sink) (held after.sink) after.left after.right
-      → RunsTo unread source_faults held sink_faults seen disk_faults moment left_at before after end l r start bytes
+      → EndsIn seen moment left_at before.left before.right start end bytes l r (unread after.source) (Rose (sink_faults before.sink) (sink_faults after.sink)) (held before.sink) (held after.sink)
+      (shown before.sink) (shown after.sink) after.left after.right
+      → RunsTo unread source_faults held shown sink_faults seen disk_faults moment left_at before after end l r start bytes
   runs_to start end bytes l r h =
       let fault = Rose (sink_faults before.sink) (sink_faults after.sink) in
       let read = read_to start end bytes (unread after.source) h.requests h.read in
@@ -88,6 +90,11 @@ module _
         written = told start end fault h.requests (held before.sink) (held after.sink) h.written;
         cut = cut_last start end fault h.requests (held before.sink) (held after.sink) h.written;
         disks = h.disks;
+        left_tells = h.left_tells;
+        right_tells = h.right_tells;
+        fault = h.fault;
+        fault_is = h.fault_is;
         past = h.past;
+        answered = h.answered;
         shares = h.shares;
       }

@@ -2,6 +2,8 @@
 use Rattle.std.proofs.Common.{◌≡◌, ◌≢◌, ◌<◌, ℕ, zero, suc, List, [], ◌∷◌, map, length, append-nil, Option, Some, None, Ok, Err, Result, refl, sym, subst, ap, ap₂, ◌∙◌, inl, inr, lit<, arith}
 use Rattle.std.specs.Prelude.{◌⊎◌, All, Contains, slice_index_or, IfOk, IsOkAnd, MatchResult}
 use Rattle.std.specs.List.{AllZip}
+use Rattle.liq_outside.specs.declared.showing.Showing.{Showing}
+use Rattle.liq_outside.specs.Showings.{Notes}
 use Rattle.liq_types.specs.declared.amounts.TheConstants.{LINES_MOST}
 use Rattle.liq_types.specs.State.{State}
 use Rattle.liq_types.specs.declared.requests.Command.{Command}
@@ -29,7 +31,7 @@ use Rattle.liq_serving.specs.Answered.{AreServedWhole, IsServedWhole, LacksMemor
 use Rattle.liq_serving.specs.declared.input.Finish.{Finish}
 use Rattle.liq_serving.specs.declared.input.Finish.TheVariants as finish
 use Rattle.liq_serving.specs.Input as serving
-use Rattle.liq_serving.specs.Input.{AnswersInput, Written, reading_of}
+use Rattle.liq_serving.specs.Input.{AnswersInput, IsShown, Written, reading_of}
 use Rattle.liq_store.specs.declared.answers.StoreWhy.TheVariants as why
 use Rattle.liq_store.specs.Causes.{Faults}
 use Rattle.liq_store.specs.Keeping.{IsKeptAround}
@@ -38,6 +40,7 @@ use Rattle.liq_ends.specs.declared.halts.Halt.TheVariants.{BadLine, ReadFault, W
 use Rattle.liq_ends.specs.Causes.{DiskCause, ReadCause, WriteCause}
 use Rattle.liq_ends.specs.Disks.{OfBoth}
 use Rattle.liq_ends.specs.Reading.{ReadsTo}
+use Rattle.liq_ends.specs.Statuses.{status_of}
 use Rattle.liq_ends.specs.Unsaid.{WritesAll}
 use Rattle.liq_ends.proofs.Causes.{six}
 use Rattle.liq_serve.specs.Finishing.{end_of, halt_at}
@@ -159,6 +162,38 @@ stopping stop.ReadFault = (0, (1, lit< tt, refl))
 stopping stop.NoMemory = (0, (2, lit< tt, refl))
 stopping stop.Limit = (0, (3, lit< tt, refl))
 
+-- ---- what the sink was shown
+
+pub neither : (n : ℕ) → n ≢ 0 → n ≢ 4 → Contains (0 ∷ 4 ∷ []) n → ⊥
+neither n some other (zero, within, is) = some (sym is)
+neither n some other (suc zero, within, is) = other (sym is)
+neither n some other (suc (suc k), within, is) = omega (arith, within)
+
+module _
+    {K D : Type 0} (moment : D → ℕ) (held : K → Option (List ℕ)) (shown : K → Option (List Showing)) (left right : D) (before middle after : K)
+    (stays : shown after ≡ shown middle) where
+  abbrev WasShown : Type 0
+  WasShown = Notes moment (held before) left right (shown before) (shown after)
+
+  since : Notes moment (held before) left right (shown before) (shown middle) → WasShown
+  since notes = subst (λ (now : Option (List Showing)). Notes moment (held before) left right (shown before) now) (sym stays) notes
+
+  -- where all was answered
+  pub safe_by : (how : Finish) → IsShown moment held shown left right before middle how → Contains (0 ∷ 4 ∷ []) (status_of (end_of how)) → WasShown
+  safe_by finish.All is at = since is
+  safe_by finish.WriteFault is at = since is
+  safe_by finish.NoMemory is at = absurd (neither 7 (λ e. omega (arith, e)) (λ e. omega (arith, e)) at)
+  safe_by finish.DiskFault is at = absurd (neither 5 (λ e. omega (arith, e)) (λ e. omega (arith, e)) at)
+  safe_by (finish.NotRead (stop.BadLine number)) is at = absurd (neither 2 (λ e. omega (arith, e)) (λ e. omega (arith, e)) at)
+  safe_by (finish.NotRead stop.ReadFault) is at = absurd (neither 3 (λ e. omega (arith, e)) (λ e. omega (arith, e)) at)
+  safe_by (finish.NotRead stop.NoMemory) is at = absurd (neither 7 (λ e. omega (arith, e)) (λ e. omega (arith, e)) at)
+  safe_by (finish.NotRead stop.Limit) is at = absurd (neither 8 (λ e. omega (arith, e)) (λ e. omega (arith, e)) at)
+  safe_by (finish.NotOpened why.DiskFault) is at = absurd (neither 5 (λ e. omega (arith, e)) (λ e. omega (arith, e)) at)
+  safe_by (finish.NotOpened why.NoMemory) is at = absurd (neither 7 (λ e. omega (arith, e)) (λ e. omega (arith, e)) at)
+  safe_by (finish.NotOpened (why.Damaged side damage)) is at =
+      let known = six side damage.index in
+      absurd (neither (status_of (Err (Damaged side damage.index))) (λ e. omega (arith, known, e)) (λ e. omega (arith, known, e)) at)
+
 -- ---- how it came to its end
 
 -- what is kept for the state after a command that was accepted is kept for the one after its request
@@ -167,19 +202,19 @@ kept_around s request c a b is allowed kept =
     subst (λ (r : Request). IsKept a b (rule.step s r).0) (sym is) (subst (λ (q : Ruling). IsKept a b (after_ruling s c q).0) (sym allowed) kept)
 
 module _
-    {S K D : Type 0} (unread : S → Option (List ℕ)) (source_faults : S → ℕ) (held : K → Option (List ℕ)) (sink_faults : K → ℕ) (seen : D → Option (List ℕ))
+    {S K D : Type 0} (unread : S → Option (List ℕ)) (source_faults : S → ℕ) (held : K → Option (List ℕ)) (shown : K → Option (List Showing)) (sink_faults : K → ℕ) (seen : D → Option (List ℕ))
     (disk_faults : D → ℕ) (moment : D → ℕ) (left_at : D → ℕ → List ℕ → Type 0) (before after : Outside S K D) (asked : List (ℕ × Request)) (history : List Entry) where
   abbrev AreWhole : Type 0
   AreWhole = (l r : List ℕ) (side : Side) (damage : Damage) → seen before.left ≡ Some l → seen before.right ≡ Some r → state_on l r ≡ Err (side, damage) → ⊥
 
   abbrev Answered : Result (Unit {0}) Halt → Type 0
-  Answered end = Answers unread source_faults held sink_faults seen disk_faults moment left_at before after asked history end
+  Answered end = Answers unread source_faults held shown sink_faults seen disk_faults moment left_at before after asked history end
 
   -- disks that are not damaged stood for a state
   kept :
       (P : List ℕ → List ℕ → State → Type 0)
       → ((l r : List ℕ) (start : State) → seen before.left ≡ Some l → seen before.right ≡ Some r → state_on l r ≡ Ok start → OfBoth seen after.left after.right (λ a b. P a b (state_after start history)))
-      → AreWhole → Keep unread source_faults held sink_faults seen disk_faults moment left_at before after history P
+      → AreWhole → Keep unread source_faults held shown sink_faults seen disk_faults moment left_at before after history P
   kept P disks whole = λ l r told_l told_r. is_found (state_on l r) _ (λ start is. disks l r start told_l told_r is) (λ side damage is. whole l r side damage told_l told_r is)
 
   -- the call that met a disk's fault
@@ -194,7 +229,7 @@ module _
         by a b s (inr (c, is, allowed, more)) = inr (kept_around s request c a b is allowed more)
 
   -- where a disk met a fault
-  pub fault_of : (how : Finish) (halted : Option (ℕ × Request)) (fault : Fault) → serving.Answers how halted asked history → serving.IsFaultAt how halted fault → IsFaultOfServing unread source_faults held sink_faults seen disk_faults moment left_at before after asked history (end_of how) fault
+  pub fault_of : (how : Finish) (halted : Option (ℕ × Request)) (fault : Fault) → serving.Answers how halted asked history → serving.IsFaultAt how halted fault → IsFaultOfServing unread source_faults held shown sink_faults seen disk_faults moment left_at before after asked history (end_of how) fault
   fault_of finish.DiskFault None fault answers is = absurd answers
   fault_of finish.DiskFault (Some (session, request)) fault answers (c, at, is) =
       inr (session, c, answers.2.0, at, subst (λ (q : Request). AreLeft asked history session (q ∷ answers.2.0)) is answers.2.1)
@@ -214,12 +249,12 @@ module _
     pub read : (bytes : List ℕ) → unread before.source ≡ Some bytes → ReadsTo Asks bytes (unread after.source) asked reading
     pub so :
         ((reading ≡ end) × (history ≡ []) × (after.left ≡ before.left) × (after.right ≡ before.right) × IsStopping end)
-        ⊎ ((reading ≡ Ok tt) × (OpensNone unread source_faults held sink_faults seen disk_faults moment left_at before after history end ⊎ Answered end))
+        ⊎ ((reading ≡ Ok tt) × (OpensNone unread source_faults held shown sink_faults seen disk_faults moment left_at before after history end ⊎ Answered end))
 
   -- all lines were read
   came_whole :
       (end : Result (Unit {0}) Halt) → ((bytes : List ℕ) → unread before.source ≡ Some bytes → AllZip Asks (lines_in bytes) asked × (unread after.source ≡ Some []))
-      → OpensNone unread source_faults held sink_faults seen disk_faults moment left_at before after history end ⊎ Answered end → Came end
+      → OpensNone unread source_faults held shown sink_faults seen disk_faults moment left_at before after history end ⊎ Answered end → Came end
   came_whole end read so = record { reading = Ok tt; read = read; so = inr (refl, so) }
 
   pub came_by : (how : Finish) → AnswersInput seen moment left_at (unread before.source) (unread after.source) before.left before.right (record { left = after.left; right = after.right; finish = how }) asked history

@@ -2,6 +2,7 @@
 use Rattle.std.proofs.Common.{◌≡◌, ◌≢◌, ℕ, List, [], ◌∷◌, Option, Some, Ok, Err, Result, refl, sym, ap, subst, ◌∙◌, inl, inr}
 use Rattle.std.specs.Prelude.{◌⊎◌, IfSome, fold}
 use Rattle.std.proofs.lemmas.Result.{MatchResult-at_ok}
+use Rattle.liq_outside.specs.declared.showing.Showing.{Showing}
 use Rattle.liq_outside.specs.Disk.{LeftNow, Only}
 use Rattle.liq_types.specs.declared.requests.Command.{Command}
 use Rattle.liq_types.specs.declared.requests.Request.{Request}
@@ -118,29 +119,30 @@ module _ (bytes l r : List ℕ) (start : State) (requests : List Request) where
 -- ---- two calls
 
 module _
-    {S K D : Type 0} (unread : S → Option (List ℕ)) (source_faults : S → ℕ) (held : K → Option (List ℕ)) (sink_faults : K → ℕ) (seen : D → Option (List ℕ))
+    {S K D : Type 0} (unread : S → Option (List ℕ)) (source_faults : S → ℕ) (held : K → Option (List ℕ)) (shown : K → Option (List Showing)) (sink_faults : K → ℕ) (seen : D → Option (List ℕ))
     (disk_faults moment : D → ℕ) (left_at : D → ℕ → List ℕ → Type 0) (before middle again later : Outside S K D) where
   abbrev RunsFirst : Result (Unit {0}) Halt → List ℕ → List ℕ → State → List ℕ → Type 0
-  RunsFirst end l r start bytes = RunsTo unread source_faults held sink_faults seen disk_faults moment left_at before middle end l r start bytes
+  RunsFirst end l r start bytes = RunsTo unread source_faults held shown sink_faults seen disk_faults moment left_at before middle end l r start bytes
 
   -- what a run left begins the next one
   pub runs_behind : (end : Result (Unit {0}) Halt) (bytes l r a b : List ℕ) (start : State) → (ran : RunsFirst end l r start bytes) → IsKept l r start
-      → AreBehind unread source_faults held sink_faults seen disk_faults moment left_at before middle l r a b → BeginsBehind bytes l r start ran.requests end a b
+      → AreBehind unread source_faults held shown sink_faults seen disk_faults moment left_at before middle l r a b → BeginsBehind bytes l r start ran.requests end a b
   runs_behind end bytes l r a b start ran were (inl (told_a, told_b)) = read_behind bytes l r start ran.requests seen (unread middle.source) middle.left middle.right end were ran.disks a b told_a told_b
-  runs_behind end bytes l r a b start ran were (inr (only_l, only_r, tells_l, tells_r, at_a, at_b)) =
+  runs_behind end bytes l r a b start ran were (inr (only_l, only_r, at_a, at_b)) =
       let past = ran.past only_l only_r were in
-      let x = some_of (seen middle.left) tells_l in
-      let y = some_of (seen middle.right) tells_r in
-      left_behind bytes l r start ran.requests seen (unread middle.source) middle.left middle.right moment left_at before.left before.right end x.0 y.0 a b x.1 y.1 were ran.disks past.fault past.fault_is past.rests at_a at_b
+      let x = some_of (seen middle.left) ran.left_tells in
+      let y = some_of (seen middle.right) ran.right_tells in
+      let at = subst (λ (met : Fault). IsFaultOfRun end bytes (unread middle.source) ran.requests met) (sym past.fault_is) ran.fault_is in
+      left_behind bytes l r start ran.requests seen (unread middle.source) middle.left middle.right moment left_at before.left before.right end x.0 y.0 a b x.1 y.1 were ran.disks past.fault at past.rests at_a at_b
 
   pub follow_on :
       (status second_status : ℕ) (words others : List (List ℕ))
-      → Ends unread source_faults held sink_faults seen disk_faults moment left_at before middle status words
-      → Ends unread source_faults held sink_faults seen disk_faults moment left_at again later second_status others
+      → Ends unread source_faults held shown sink_faults seen disk_faults moment left_at before middle status words
+      → Ends unread source_faults held shown sink_faults seen disk_faults moment left_at again later second_status others
       → Ask words word.Run → Ask others word.Run → (bytes lines l r a b : List ℕ) (start : State)
       → unread before.source ≡ Some bytes → unread again.source ≡ Some lines → seen before.left ≡ Some l → seen before.right ≡ Some r → state_on l r ≡ Ok start → IsKept l r start
-      → seen again.left ≡ Some a → seen again.right ≡ Some b → AreBehind unread source_faults held sink_faults seen disk_faults moment left_at before middle l r a b
-      → FollowOn unread source_faults held sink_faults seen disk_faults moment left_at before middle again later status second_status bytes lines l r a b start
+      → seen again.left ≡ Some a → seen again.right ≡ Some b → AreBehind unread source_faults held shown sink_faults seen disk_faults moment left_at before middle l r a b
+      → FollowOn unread source_faults held shown sink_faults seen disk_faults moment left_at before middle again later status second_status bytes lines l r a b start
   follow_on status second_status words others one two asked asked_too bytes lines l r a b start told told_too told_l told_r is were told_a told_b behind =
       let e = one.ends word.Run asked in
       let ran = MatchResult-at_ok _ _ start is (e.2 l r told_l told_r) bytes told in

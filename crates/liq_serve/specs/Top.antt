@@ -1,8 +1,10 @@
 -- What the top call leaves, word by word, and which counts rise.
 use Rattle.std.specs.Prelude.{ℕ, ◌≡◌, ◌≢◌, ◌+◌, ◌≤◌, ◌<◌, ◌==◌, ◌⊎◌, ◌↔◌, List, [], ◌∷◌, ◌++◌, length, map, filter}
-use Rattle.std.specs.Prelude.{All, Contains, Option, Some, Result, Ok, Err, IfOk, IsOkAnd, MatchResult}
+use Rattle.std.specs.Prelude.{All, Contains, Option, Some, IsSome, Result, Ok, Err, IfOk, IsOkAnd, MatchResult}
+use Rattle.liq_outside.specs.declared.showing.Showing.{Showing}
 use Rattle.liq_outside.specs.Disk.{GoesOn}
 use Rattle.liq_outside.specs.Faults.{Rose}
+use Rattle.liq_outside.specs.Showings.{Notes}
 use Rattle.liq_types.specs.declared.amounts.TheConstants.{LINES_MOST}
 use Rattle.liq_types.specs.declared.requests.Command.{Command}
 use Rattle.liq_types.specs.declared.requests.Request.{Request}
@@ -30,6 +32,7 @@ use Rattle.liq_words.specs.Words.{Ask}
 use Rattle.liq_ends.specs.declared.halts.Halt.{Halt}
 use Rattle.liq_ends.specs.declared.halts.Halt.TheVariants.{BadLine, ReadFault, WriteFault, DiskFault, NoMemory, Limit}
 use Rattle.liq_ends.specs.declared.halts.Halt.TheVariants.{DamagedInput}
+use Rattle.liq_ends.specs.Answered.{KeepsAnswered, Told}
 use Rattle.liq_ends.specs.Disks.{DisksHold, DisksStay, EndsDamaged, IsFaultOfRun, IsFaultOfTelling, IsUnread}
 use Rattle.liq_ends.specs.Disks.{LeavesOfRun, OfBoth}
 use Rattle.liq_ends.specs.Output.{lines, usage}
@@ -73,12 +76,12 @@ abbrev pub most_taken : Word → ℕ
 most_taken word.Follow = FED_MOST + 1
 most_taken _ = taken_most LINES_MOST
 
--- The first six functions say what the source has left and the sink holds, what a disk holds, and their counts of
--- faults; the last two at which moment a disk is, and what a crash at a moment may have left of it.
+-- The first seven functions say what the source has left, what the sink holds and was shown, what a disk holds, and
+-- their counts of faults; the last two at which moment a disk is, and what a crash at a moment may have left of it.
 module _
     {S K D : Type 0} (unread : S → Option (List ℕ)) (source_faults : S → ℕ) (held : K → Option (List ℕ))
-    (sink_faults : K → ℕ) (seen : D → Option (List ℕ)) (disk_faults moment : D → ℕ)
-    (left_at : D → ℕ → List ℕ → Type 0) (before after : Outside S K D) where
+    (shown : K → Option (List Showing)) (sink_faults : K → ℕ) (seen : D → Option (List ℕ))
+    (disk_faults moment : D → ℕ) (left_at : D → ℕ → List ℕ → Type 0) (before after : Outside S K D) where
   -- the sink met a fault
   abbrev pub SinkFails : Type 0
   SinkFails = Rose (sink_faults before.sink) (sink_faults after.sink)
@@ -120,8 +123,18 @@ module _
     pub cut : end ≡ Err WriteFault → (earlier : List Request) × (final : Request) × (requests ≡ earlier ++ final ∷ [])
         × ((part : List ℕ) × Writes (held before.sink) (lines start earlier ++ part) (held after.sink))
     pub disks : DisksHold seen end bytes (unread after.source) l r start after.left after.right requests
-    -- and all that a crash at some moment may have left of them
-    pub past : Leave (IsFaultOfRun end bytes (unread after.source) requests) l r start requests
+    -- they tell their bytes, as they did before
+    pub left_tells : IsSome (seen after.left)
+    pub right_tells : IsSome (seen after.right)
+    -- where a disk met a fault
+    pub fault : Fault
+    pub fault_is : IsFaultOfRun end bytes (unread after.source) requests fault
+    -- all that a crash at some moment may have left of the disks
+    pub past : Leave (λ met. met ≡ fault) l r start requests
+    -- and at every moment they have all that was answered by then
+    pub answered : Told (held before.sink) (shown before.sink) (held after.sink) (shown after.sink) (λ was earlier now all.
+        KeepsAnswered moment left_at l r start requests fault before.left before.right was earlier
+        after.left after.right now all)
     -- no depositor has more than its share then, or less by more than is allowed
     pub shares : HaveTheirShares start requests
 
@@ -180,6 +193,9 @@ module _
         × ((n : ℕ) × Contains (Err (BadLine n) ∷ Err ReadFault ∷ Err NoMemory ∷ Err (Limit LINES_MOST) ∷ []) end))
         ⊎ ((reading ≡ Ok tt) × (OpensNone history end ⊎ Answers asked history end))
     pub written : Tells [] (served history) end
+    -- where all was answered the sink was shown the disks once, as they are left, before a byte went out
+    pub safe : Contains (0 ∷ 4 ∷ []) (status_of end)
+        → Notes moment (held before.sink) after.left after.right (shown before.sink) (shown after.sink)
     -- its replies are those of the rules from where the disks stood, and after it no depositor has more than its share,
     -- or less by more than is allowed
     pub lawful : OfBoth seen before.left before.right (λ l r. IfOk (state_on l r) (λ start.

@@ -1,5 +1,6 @@
 -- Two runs, one after the other. What is said here follows from the top call's clause (`laws`).
-use Rattle.std.specs.Prelude.{ℕ, ◌≡◌, ◌⊎◌, List, [], ◌∷◌, Option, Some, IsSome, Result, Ok, Err, fold}
+use Rattle.std.specs.Prelude.{ℕ, ◌≡◌, ◌⊎◌, List, [], ◌∷◌, Option, Some, Result, Ok, Err, fold}
+use Rattle.liq_outside.specs.declared.showing.Showing.{Showing}
 use Rattle.liq_outside.specs.Disk.{LeftNow, Only}
 use Rattle.liq_types.specs.declared.requests.Command.{Command}
 use Rattle.liq_types.specs.declared.requests.Request.{Request}
@@ -35,19 +36,17 @@ BeginsBehind bytes l r start requests end a b =
     (more : List Command) × AreMore bytes l r start requests end more
     × IsKept a b (fold rule.after (run start requests).0 more)
 
--- The first six functions say what a source has left and a sink holds, what a disk holds, and their counts of faults;
--- the last two at which moment a disk is, and what a crash at a moment may have left of it.
+-- The functions are those of `Ends`.
 module _
     {S K D : Type 0} (unread : S → Option (List ℕ)) (source_faults : S → ℕ) (held : K → Option (List ℕ))
-    (sink_faults : K → ℕ) (seen : D → Option (List ℕ)) (disk_faults moment : D → ℕ)
-    (left_at : D → ℕ → List ℕ → Type 0) where
+    (shown : K → Option (List Showing)) (sink_faults : K → ℕ) (seen : D → Option (List ℕ))
+    (disk_faults moment : D → ℕ) (left_at : D → ℕ → List ℕ → Type 0) where
   -- They are what is read of the disks that a call left; or, if nothing was pending before it, what a crash then may
   -- leave of the one and of the other.
   abbrev pub AreBehind : Outside S K D → Outside S K D → List ℕ → List ℕ → List ℕ → List ℕ → Type 0
   AreBehind before after l r a b =
       ((seen after.left ≡ Some a) × (seen after.right ≡ Some b))
       ⊎ (Only l (LeftNow moment left_at before.left) × Only r (LeftNow moment left_at before.right)
-      × IsSome (seen after.left) × IsSome (seen after.right)
       × LeftNow moment left_at after.left a × LeftNow moment left_at after.right b)
 
   -- Two calls, both of `run`. The second begins where the first one's requests lead, and what it may have left behind
@@ -57,7 +56,7 @@ module _
       (start : State) : Type 0 where
     pub end : Result (Unit {0}) Halt
     pub status_is : status ≡ status_of end
-    pub first : RunsTo unread source_faults held sink_faults seen disk_faults moment left_at before middle end l r start
+    pub first : RunsTo unread source_faults held shown sink_faults seen disk_faults moment left_at before middle end l r start
         bytes
     pub more : List Command
     pub are : AreMore bytes l r start first.requests end more
@@ -67,7 +66,7 @@ module _
     pub begins : IsSameState (fold rule.after (run start first.requests).0 more) state
     pub ending : Result (Unit {0}) Halt
     pub later_is : later ≡ status_of ending
-    pub second : RunsTo unread source_faults held sink_faults seen disk_faults moment left_at again after ending a b
+    pub second : RunsTo unread source_faults held shown sink_faults seen disk_faults moment left_at again after ending a b
         state lines
     pub ends :
         IsSameState (run (fold rule.after (run start first.requests).0 more) second.requests).0

@@ -19,7 +19,7 @@ use liq_pairs::laws::{commands_lead_to_the_state, journals_keep_their_limit};
 /// journal that is followed is told. It follows from the clause of the top call.
 pub fn calm_ends_are_done<S: Source, K: Sink, D: Disk>()
     ensures { (before after : Outside S K D) (status : ℕ) (words : List (List ℕ))
-        → Ends S.left S.faults K.held K.faults D.seen D.faults D.moment D.left_at before after status words
+        → Ends S.left S.faults K.held K.shown K.faults D.seen D.faults D.moment D.left_at before after status words
         → IsComplete S.left S.faults K.held K.faults D.seen D.faults D.moment D.left_at before after status words }
 {
     commands_lead_to_the_state();
@@ -33,14 +33,14 @@ pub fn calm_ends_are_done<S: Source, K: Sink, D: Disk>()
 /// pending before that, with two disks that hold any images which a crash at its end may leave.
 pub fn runs_follow_on<S: Source, K: Sink, D: Disk>()
     ensures { (before middle again after : Outside S K D) (status later : ℕ) (words others : List (List ℕ))
-        → Ends S.left S.faults K.held K.faults D.seen D.faults D.moment D.left_at before middle status words
-        → Ends S.left S.faults K.held K.faults D.seen D.faults D.moment D.left_at again after later others
+        → Ends S.left S.faults K.held K.shown K.faults D.seen D.faults D.moment D.left_at before middle status words
+        → Ends S.left S.faults K.held K.shown K.faults D.seen D.faults D.moment D.left_at again after later others
         → Ask words Word.Run → Ask others Word.Run
         → (bytes lines l r a b : List ℕ) (start : State)
         → S.left before.source ≡ Some bytes → S.left again.source ≡ Some lines
         → D.seen before.left ≡ Some l → D.seen before.right ≡ Some r → state_on l r ≡ Ok start → IsKept l r start
         → D.seen again.left ≡ Some a → D.seen again.right ≡ Some b
-        → AreBehind S.left S.faults K.held K.faults D.seen D.faults D.moment D.left_at before middle l r a b
-        → FollowOn S.left S.faults K.held K.faults D.seen D.faults D.moment D.left_at before middle again after status later
+        → AreBehind S.left S.faults K.held K.shown K.faults D.seen D.faults D.moment D.left_at before middle l r a b
+        → FollowOn S.left S.faults K.held K.shown K.faults D.seen D.faults D.moment D.left_at before middle again after status later
         bytes lines l r a b start }
 {}

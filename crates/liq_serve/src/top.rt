@@ -54,7 +54,7 @@ pub fn protocol<S: Source, K: Sink, D: Disk + Send, G: Gate + Sync, R: Threads +
     left: D,
     right: D,
 ) -> Ended<D>
-    ensures { Ends S.left S.faults K.held K.faults D.seen D.faults D.moment D.left_at
+    ensures { Ends S.left S.faults K.held K.shown K.faults D.seen D.faults D.moment D.left_at
         (record { source = input.old; sink = out.old; left = left; right = right })
         (record { source = input.new; sink = out.new; left = result.left; right = result.right })
         result.status (map string_bytes words.now) }
@@ -110,7 +110,7 @@ pub fn without_threads<S: Source, K: Sink, D: Disk>(
 ) -> Ended<D>
     // The words are not just `serve`.
     requires { Ask (map string_bytes words.now) Word.Serve → ⊥ }
-    ensures { Ends S.left S.faults K.held K.faults D.seen D.faults D.moment D.left_at
+    ensures { Ends S.left S.faults K.held K.shown K.faults D.seen D.faults D.moment D.left_at
         (record { source = input.old; sink = out.old; left = left; right = right })
         (record { source = input.new; sink = out.new; left = result.left; right = result.right })
         result.status (map string_bytes words.now) }
@@ -135,7 +135,7 @@ fn answered<S: Source, K: Sink, D: Disk>(
     requires only { (word : Word) → Ask (map string_bytes _words.now) word
         → (read ≡ Ok word) ⊎ (read ≡ Err WordsFault.NoMemory) }
     requires usage { (read ≡ Err WordsFault.Usage) ↔ ((word : Word) → Ask (map string_bytes _words.now) word → ⊥) }
-    ensures { Ends S.left S.faults K.held K.faults D.seen D.faults D.moment D.left_at
+    ensures { Ends S.left S.faults K.held K.shown K.faults D.seen D.faults D.moment D.left_at
         (record { source = input.old; sink = out.old; left = left; right = right })
         (record { source = input.new; sink = out.new; left = result.left; right = result.right })
         result.status (map string_bytes _words.now) }
@@ -165,7 +165,7 @@ fn carry_out<S: Source, K: Sink, D: Disk>(
     requires range { IsInRange word }
     requires other { word ≢ Word.Serve }
     ensures { (words : List (List ℕ)) → Ask words word → ((other : Word) → Ask words other → word ≡ other)
-        → Ends S.left S.faults K.held K.faults D.seen D.faults D.moment D.left_at
+        → Ends S.left S.faults K.held K.shown K.faults D.seen D.faults D.moment D.left_at
         (record { source = input.old; sink = out.old; left = left; right = right })
         (record { source = input.new; sink = out.new; left = result.left; right = result.right })
         (status_of result.end) words }
@@ -220,6 +220,7 @@ pub fn without_words<K: Sink>(fault: ErrorKind, out: &mut K) -> u8
 fn end_unread<K: Sink>(fault: WordsFault, out: &mut K) -> u8
     ensures no_memory { fault ≡ WordsFault.NoMemory → (result ≡ 7)
         × Adds [] (last Halt.NoMemory) (Rose (K.faults out.old) (K.faults out.new)) (K.held out.old) (K.held out.new) }
+    ensures unshown { fault ≡ WordsFault.NoMemory → K.shown out.new ≡ K.shown out.old }
     ensures usage { fault ≡ WordsFault.Usage → (result ≡ 1)
         × Adds [] usage (Rose (K.faults out.old) (K.faults out.new)) (K.held out.old) (K.held out.new) }
 {

@@ -2,8 +2,10 @@
 use Rattle.std.specs.Prelude.{ℕ, ◌≡◌, ◌≤◌, ◌⊎◌, List, [], length, All}
 use Rattle.std.specs.Prelude.{Option, Some, Result, Ok, Err}
 use Rattle.std.specs.Option.{IsSomeAnd}
+use Rattle.liq_outside.specs.declared.showing.Showing.{Showing}
 use Rattle.liq_outside.specs.Disk.{LeftNow, Only}
 use Rattle.liq_outside.specs.Faults.{Rose}
+use Rattle.liq_outside.specs.Showings.{Notes}
 use Rattle.liq_types.specs.declared.amounts.TheConstants.{LINES_MOST}
 use Rattle.liq_types.specs.declared.requests.Command.{Command}
 use Rattle.liq_types.specs.declared.requests.Request.{Request}
@@ -60,6 +62,15 @@ abbrev pub Written : {K : Type 0} → (K → Option (List ℕ)) → Finish → L
 Written held finish.All history before now = Writes (held before) (served history) (held now)
 Written held finish.WriteFault history before now = WritesPart (held before) (served history) (held now)
 Written held _ history before now = now ≡ before
+
+-- Before a byte of the history goes out the sink is shown the disks, once, as they are left. Else it is shown nothing.
+module _
+    {K D : Type 0} (moment : D → ℕ) (held : K → Option (List ℕ)) (shown : K → Option (List Showing))
+    (left right : D) (before now : K) where
+  abbrev pub IsShown : Finish → Type 0
+  IsShown finish.All = Notes moment (held before) left right (shown before) (shown now)
+  IsShown finish.WriteFault = Notes moment (held before) left right (shown before) (shown now)
+  IsShown _ = shown now ≡ shown before
 
 -- ---- what the disks hold
 

@@ -8,7 +8,7 @@ ghost use Rattle.liq_lines.specs.Reading.{taken_most, ReadsAtMost};
 ghost use Rattle.liq_lines.specs.declared.stops.Stop.{Stop};
 ghost use Rattle.liq_scripts.specs.Gathering.{ReadCause};
 ghost use Rattle.liq_rules.specs.Recorded.{recorded};
-ghost use Rattle.liq_serving.specs.Input.{DiskCause, IsFinishOf, ServesInput, WriteCause, Written, reading_of};
+ghost use Rattle.liq_serving.specs.Input.{DiskCause, IsFinishOf, IsShown, ServesInput, WriteCause, Written, reading_of};
 
 use crate::served::{End, Served};
 use crate::serving::serve_sessions;
@@ -51,7 +51,8 @@ pub struct Finished<D> {
 /// all sessions at once, each session's in order; and writes the one history of what was answered.
 ///
 /// Where the input was not read to its end the disks are as they were. Some call met a fault of a disk exactly where the finish is
-/// [`Finish::DiskFault`], whatever other calls were told; want of memory is told only where none did.
+/// [`Finish::DiskFault`], whatever other calls were told; want of memory is told only where none did. Where all was answered
+/// `out` is shown the disks before the first byte of the history, as no call can touch them from then on.
 pub fn serve_input<S: Source, K: Sink, D: Disk + Send, G: Gate + Sync, R: Threads + Wait + Sync>(
     rt: &R,
     alloc: Global,
@@ -63,6 +64,7 @@ pub fn serve_input<S: Source, K: Sink, D: Disk + Send, G: Gate + Sync, R: Thread
 ) -> Finished<D>
     ensures served { ServesInput K.held D.seen D.moment D.left_at (S.left input.old) (S.left input.new)
         out.old out.new left right result }
+    ensures shown { IsShown D.moment K.held K.shown result.left result.right out.old out.new result.finish }
     ensures unread { (stop : Stop) → result.finish ≡ Finish.NotRead stop
         → (result.left ≡ left) × (result.right ≡ right) }
 
@@ -117,7 +119,7 @@ pub fn serve_input<S: Source, K: Sink, D: Disk + Send, G: Gate + Sync, R: Thread
         history,
         end,
     } = serve_sessions(rt, alloc, gate, scripts, store);
-    let finish = write_end(end, history.as_slice(), &mut outbox, out);
+    let finish = write_end(end, &left, &right, history.as_slice(), &mut outbox, out);
     Finished {
         left,
         right,
@@ -125,18 +127,29 @@ pub fn serve_input<S: Source, K: Sink, D: Disk + Send, G: Gate + Sync, R: Thread
     }
 }
 
-/// Writes the history of sessions of which each was answered to its end.
-fn write_end<K: Sink>(end: End, history: &[Entry], outbox: &mut Outbox, out: &mut K) -> Finish
+/// Shows the disks and writes the history, of sessions of which each was answered to its end.
+fn write_end<K: Sink, D: Disk>(
+    end: End,
+    left: &D,
+    right: &D,
+    history: &[Entry],
+    outbox: &mut Outbox,
+    out: &mut K,
+) -> Finish
     requires { outbox.old ≡ [] }
     ensures finish { IsFinishOf end result }
     ensures written { Written K.held result (map recorded history.now) out.old out.new }
+    ensures shown { IsShown D.moment K.held K.shown left.now right.now out.old out.new result }
     ensures cause { WriteCause result (K.faults out.old) (K.faults out.new) }
 {
     match end {
-        End::All => match write_served(history, outbox, out) {
-            Ok(()) => Finish::All,
-            Err(Failed) => Finish::WriteFault,
-        },
+        End::All => {
+            out.show(left, right);
+            match write_served(history, outbox, out) {
+                Ok(()) => Finish::All,
+                Err(Failed) => Finish::WriteFault,
+            }
+        }
         End::NoMemory => Finish::NoMemory,
         End::DiskFault(_) => Finish::DiskFault,
     }

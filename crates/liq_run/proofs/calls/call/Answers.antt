@@ -28,21 +28,22 @@ returns-in-DiskFault-clause-command g c fault =
     accepted_command s c.args.request.now (c.in-DiskFault.ensures.step c.requires.going s (search (rules, c.protocols_stand.ensures))).1
 
 pub returns-in-Reply-clause-past : goal.returns-in-Reply-clause-past
-returns-in-Reply-clause-past g c ol or l r start requests past =
-    replied_past g.D.Disk.seen g.D.Disk.moment g.D.Disk.left_at g.met.D.Disk.seen_may_stay ol or l r start requests c.args.request.now c.args.store.now c.call-answer.new.self c.clear_changes.new.self
-    c.clear_changes.ensures.cleared c.clear_changes.ensures.order past c.in-Reply.reply (c.in-Reply.ensures.stops ∙ c.requires.going) (c.in-Reply.ensures.step c.requires.going) c.in-Reply.ensures.disks
+returns-in-Reply-clause-past g c begun requests past out =
+    replied_past g.D.Disk.seen g.D.Disk.moment g.D.Disk.left_at g.met.D.Disk.seen_may_stay begun requests c.args.request.now c.args.store.now c.call-answer.new.self c.clear_changes.new.self
+    c.clear_changes.ensures.cleared c.clear_changes.ensures.order (g.K.Sink.shown c.args.out.now) past (g.K.Sink.held c.args.out.now) _
+    c.in-Reply.reply (c.in-Reply.ensures.stops ∙ c.requires.going) (c.in-Reply.ensures.step c.requires.going) c.in-Reply.ensures.disks out (search rules)
 
 pub returns-in-NoMemory-clause-past : goal.returns-in-NoMemory-clause-past
-returns-in-NoMemory-clause-past g c ol or l r start requests past =
-    waiting_past g.D.Disk.seen g.D.Disk.moment g.D.Disk.left_at g.met.D.Disk.seen_may_stay ol or l r start requests c.args.request.now c.args.store.now c.call-answer.new.self c.clear_changes.new.self
-    c.clear_changes.ensures.cleared c.clear_changes.ensures.order past (c.in-NoMemory.ensures.stops ∙ c.requires.going) (c.in-NoMemory.ensures.step c.requires.going) c.in-NoMemory.ensures.disks
+returns-in-NoMemory-clause-past g c begun requests past out =
+    waiting_past g.D.Disk.seen g.D.Disk.moment g.D.Disk.left_at g.met.D.Disk.seen_may_stay begun requests c.args.request.now c.args.store.now c.call-answer.new.self c.clear_changes.new.self
+    c.clear_changes.ensures.cleared c.clear_changes.ensures.order (g.K.Sink.shown c.args.out.now) past (c.in-NoMemory.ensures.stops ∙ c.requires.going) (c.in-NoMemory.ensures.step c.requires.going) c.in-NoMemory.ensures.disks
 
 pub returns-in-DiskFault-clause-past : goal.returns-in-DiskFault-clause-past
-returns-in-DiskFault-clause-past g c ol or l r start requests past =
+returns-in-DiskFault-clause-past g c begun requests past out =
     let s = state_of c.args.store.now.core in
     let command = failing s c.args.request.now c.call-answer.new.self.core (c.in-DiskFault.ensures.step c.requires.going s (search (rules, c.protocols_stand.ensures))) in
-    stopped_past g.D.Disk.seen g.D.Disk.moment g.D.Disk.left_at g.met.D.Disk.seen_may_stay ol or l r start requests c.args.request.now c.args.store.now c.call-answer.new.self c.clear_changes.new.self
-    c.clear_changes.ensures.cleared c.clear_changes.ensures.order past command.0 command.1 (c.in-DiskFault.ensures.step c.requires.going) c.in-DiskFault.ensures.disks
+    stopped_past g.D.Disk.seen g.D.Disk.moment g.D.Disk.left_at g.met.D.Disk.seen_may_stay begun requests c.args.request.now c.args.store.now c.call-answer.new.self c.clear_changes.new.self
+    c.clear_changes.ensures.cleared c.clear_changes.ensures.order (g.K.Sink.shown c.args.out.now) past command.0 command.1 (c.in-DiskFault.ensures.step c.requires.going) c.in-DiskFault.ensures.disks
 
 pub returns-in-Reply-clause-time : goal.returns-in-Reply-clause-time
 returns-in-Reply-clause-time g c = called g.D.Disk.moment g.D.Disk.left_at g.D.Disk.seen c.args.store.now c.call-answer.new.self c.clear_changes.new.self c.args.request.now _ c.call-answer.ensures.disks c.clear_changes.ensures.cleared

@@ -1,4 +1,5 @@
-use Rattle.std.proofs.Common.{[], Result, sym, subst}
+use Rattle.std.proofs.Common.{List, [], Option, Err, Result, sym, subst}
+use Rattle.liq_outside.specs.declared.showing.Showing.{Showing}
 use Rattle.liq_outside.specs.Faults.{Rose}
 use Rattle.liq_ends.specs.declared.halts.Halt.{Halt}
 use Rattle.liq_ends.specs.Disks.{EndsDamaged}
@@ -15,28 +16,29 @@ pub returns-in-Err-clause-run : goal.returns-in-Err-clause-run
 returns-in-Err-clause-run g c l r told_l told_r start is bytes told =
     let faults = g.K.Sink.faults in
     let held = g.K.Sink.held in
-    let seen = g.D.Disk.seen in
-    let moment = g.D.Disk.moment in
-    let left_at = g.D.Disk.left_at in
+    let shown = g.K.Sink.shown in
     let ran = c.answer_input-ending in
     let end = ran.result.end in
     let halt = c.in-Err.halt in
     let unread = g.S.Source.left ran.new.input in
+    let out = c.args.out.now in
     let middle = ran.new.out in
     let after = c.write_last.new.out in
-    let rose = Rose (faults c.args.out.now) (faults after) in
-    subst (λ (e : Result (Unit {0}) Halt). EndsIn seen moment left_at c.args.left c.args.right start e bytes l r unread rose (held c.args.out.now) (held after) ran.result.left ran.result.right) (sym c.in-Err.is)
-    (last_written seen moment left_at c.args.left c.args.right start (state_formed l r start is) bytes l r unread rose ran.result.left ran.result.right halt (held c.args.out.now) (held middle) (held after)
-    (subst (λ (e : Result (Unit {0}) Halt). GivesBack seen moment left_at c.args.left c.args.right start e bytes l r unread (held c.args.out.now) (held middle) ran.result.left ran.result.right) c.in-Err.is (ran.ensures.run l r told_l told_r start is bytes told))
+    let rose = Rose (faults out) (faults after) in
+    subst (λ (e : Result (Unit {0}) Halt). EndsIn g.D.Disk.seen g.D.Disk.moment g.D.Disk.left_at c.args.left c.args.right start e bytes l r unread rose (held out) (held after) (shown out) (shown after) ran.result.left ran.result.right) (sym c.in-Err.is)
+    (subst (λ (s : Option (List Showing)). EndsIn g.D.Disk.seen g.D.Disk.moment g.D.Disk.left_at c.args.left c.args.right start (Err halt) bytes l r unread rose (held out) (held after) (shown out) s ran.result.left ran.result.right) (sym c.write_last.ensures.unshown)
+    (last_written g.D.Disk.seen g.D.Disk.moment g.D.Disk.left_at c.args.left c.args.right start (state_formed l r start is) bytes l r unread rose (shown out) (shown middle) ran.result.left ran.result.right halt (held out) (held middle) (held after)
+    (subst (λ (e : Result (Unit {0}) Halt). GivesBack g.D.Disk.seen g.D.Disk.moment g.D.Disk.left_at c.args.left c.args.right start e bytes l r unread (held out) (held middle) (shown out) (shown middle) ran.result.left ran.result.right) c.in-Err.is (ran.ensures.run l r told_l told_r start is bytes told))
     (adds_weaker (last halt) (Rose (faults middle) (faults after)) rose (held middle) (held after)
-    (rose_later (faults c.args.out.now) (faults middle) (faults after) (write_no_fewer end (faults c.args.out.now) (faults middle) ran.ensures.sink))
-    c.write_last.ensures.written))
+    (rose_later (faults out) (faults middle) (faults after) (write_no_fewer end (faults out) (faults middle) ran.ensures.sink))
+    c.write_last.ensures.written)))
 
 pub returns-in_default-clause-run : goal.returns-in_default-clause-run
 returns-in_default-clause-run g c l r told_l told_r start is bytes told =
     let ran = c.answer_input-ending in
-    went_well g.D.Disk.seen g.D.Disk.moment g.D.Disk.left_at c.args.left c.args.right start (state_formed l r start is) bytes l r (g.S.Source.left ran.new.input) (Rose (g.K.Sink.faults c.args.out.now) (g.K.Sink.faults ran.new.out)) ran.result.left ran.result.right
-    ran.result.end (g.K.Sink.held c.args.out.now) (g.K.Sink.held ran.new.out) c.in_default.not-Err (ran.ensures.run l r told_l told_r start is bytes told)
+    let out = c.args.out.now in
+    went_well g.D.Disk.seen g.D.Disk.moment g.D.Disk.left_at c.args.left c.args.right start (state_formed l r start is) bytes l r (g.S.Source.left ran.new.input) (Rose (g.K.Sink.faults out) (g.K.Sink.faults ran.new.out)) (g.K.Sink.shown out) (g.K.Sink.shown ran.new.out) ran.result.left ran.result.right
+    ran.result.end (g.K.Sink.held out) (g.K.Sink.held ran.new.out) c.in_default.not-Err (ran.ensures.run l r told_l told_r start is bytes told)
 
 pub returns-in-Err-clause-damaged : goal.returns-in-Err-clause-damaged
 returns-in-Err-clause-damaged g c l r told_l told_r side damage is =

@@ -27,6 +27,7 @@ loop-entry-preserved g c =
           each_more piece entries c.loop-entry.entry-index c.entry-item.result c.args.outbox.now c.loop-entry.outbox c.send_part.new.outbox (held c.args.out.now) (held c.loop-entry.out) (held c.send_part.new.out) within c.loop-entry.invariant.sent
           (subst (λ (t : List ℕ). Sends (Ok tt) c.loop-entry.outbox t c.send_part.new.outbox (held c.loop-entry.out) (held c.send_part.new.out)) (ap piece c.entry-item.is) c.in_ok-send_part.ensures.sends);
       count = c.in_ok-send_part.ensures.cause.ok ∙ c.loop-entry.invariant.count;
+      unshown = c.in_ok-send_part.ensures.unshown ∙ c.loop-entry.invariant.unshown;
     }
 
 pub returns-clause-sends : goal.returns-clause-sends

@@ -11,4 +11,5 @@ invariant-loop-entry g l =
     record {
       sent : Sends (Ok tt) l.fn.outbox (flat_map (sent_of g.E.Shown.entry l.part) (take l.entry-index l.entries)) l.outbox (held l.fn.out) (held l.out);
       count : g.K.Sink.faults l.out ≡ g.K.Sink.faults l.fn.out;
+      unshown : g.K.Sink.shown l.out ≡ g.K.Sink.shown l.fn.out;
     }

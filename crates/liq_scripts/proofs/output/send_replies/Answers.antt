@@ -28,4 +28,5 @@ loop-before-preserved g c =
           each_more piece sessions before 0 c.args.outbox.now c.loop-before.outbox c.send_session.new.outbox (held c.args.out.now) (held c.loop-before.out) (held c.send_session.new.out) within c.loop-before.invariant.sent
           (subst (λ (t : List ℕ). Sends (Ok tt) c.loop-before.outbox t c.send_session.new.outbox (held c.loop-before.out) (held c.send_session.new.out)) (ap piece (sym (session-at before within))) c.in_ok-send_session.ensures.sends);
       count = c.in_ok-send_session.ensures.cause.ok ∙ c.loop-before.invariant.count;
+      unshown = c.in_ok-send_session.ensures.unshown ∙ c.loop-before.invariant.unshown;
     }

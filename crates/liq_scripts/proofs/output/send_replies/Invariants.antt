@@ -12,4 +12,5 @@ invariant-loop-before g l =
     record {
       sent : Sends (Ok tt) l.fn.outbox (flat_map (session_part g.E.Shown.entry l.entries) (take l.before sessions)) l.outbox (held l.fn.out) (held l.out);
       count : g.K.Sink.faults l.out ≡ g.K.Sink.faults l.fn.out;
+      unshown : g.K.Sink.shown l.out ≡ g.K.Sink.shown l.fn.out;
     }

@@ -34,7 +34,7 @@ returns-in-Ok-clause-answered g c =
     (so.0.0, text, so.1, ran.ensures.past l r told_l told_r start is))
     (λ side damage is.
     let found = ran.ensures.damaged l r told_l told_r side damage is in
-    let told = last_told g.S.Source.left g.S.Source.faults held faults seen g.D.Disk.faults g.D.Disk.moment g.D.Disk.left_at before after side damage found.0 found.2 found.3 in
+    let told = last_told g.S.Source.left g.S.Source.faults held g.K.Sink.shown faults seen g.D.Disk.faults g.D.Disk.moment g.D.Disk.left_at before after side damage found.0 found.2 found.3 in
     subst (λ (e : Result (Unit {0}) Halt). EndsDamaged seen side damage e ran.result.left ran.result.right × TellsBehind [] [] e (Rose (faults c.args.out.now) (faults ran.new.out)) (held c.args.out.now) (held ran.new.out))
     (sym found.1) (found.2, told)))
 

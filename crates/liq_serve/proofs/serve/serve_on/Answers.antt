@@ -1,10 +1,14 @@
+use Rattle.std.proofs.Common.{◌∷◌, [], Result, subst}
+use Rattle.std.specs.Prelude.{Contains}
+use Rattle.liq_ends.specs.declared.halts.Halt.{Halt}
+use Rattle.liq_ends.specs.Statuses.{status_of}
 use Rattle.liq_rules.specs.History.{requests_of}
 use Rattle.liq_serve.specs.Finishing.{end_of}
 use Rattle.liq_ends.specs.Outside.{Outside}
 use Rattle.liq_ends.proofs.Causes.{write_no_fewer}
 use Rattle.liq_pairs.specs.Pair.{state_on}
 use Rattle.liq_scripts.specs.Output.{served as text_of}
-use Rattle.liq_serve.proofs.Served.{all_served, came_by, causes_kept, fault_of, if_found, never_rotated}
+use Rattle.liq_serve.proofs.Served.{all_served, came_by, causes_kept, fault_of, if_found, never_rotated, safe_by}
 use Rattle.liq_ends.proofs.Opened.{state_formed}
 use Rattle.liq_ends.proofs.Shares.{all_shares}
 use Rattle.liq_serve.proofs.serve.serve_on.Goals as goal
@@ -23,7 +27,7 @@ returns-clause-served g c =
     let answered = served.answered in
     let before : Outside g.row.S.Denot g.row.K.Denot g.row.D.Denot = record { source = c.args.input.now; sink = start; left = c.args.left; right = c.args.right } in
     let after : Outside g.row.S.Denot g.row.K.Denot g.row.D.Denot = record { source = ran.new.input; sink = c.tell_last.new.out; left = ran.result.left; right = ran.result.right } in
-    let came = came_by g.S.Source.left g.S.Source.faults held faults g.D.Disk.seen g.D.Disk.faults g.D.Disk.moment g.D.Disk.left_at before after served.asked served.history how answered ran.ensures.unread in
+    let came = came_by g.S.Source.left g.S.Source.faults held g.K.Sink.shown faults g.D.Disk.seen g.D.Disk.faults g.D.Disk.moment g.D.Disk.left_at before after served.asked served.history how answered ran.ensures.unread in
     record {
       asked = served.asked;
       history = served.history;
@@ -34,11 +38,14 @@ returns-clause-served g c =
       read = came.read;
       came = rw is came.so;
       written = c.tell_last.ensures.told (text_of served.history) (held start) (faults start) fewer (rw is (all_served held served.history start middle how served.written));
+      safe = λ at.
+          let so = safe_by g.D.Disk.moment held g.K.Sink.shown ran.result.left ran.result.right start middle c.tell_last.new.out c.tell_last.ensures.unshown how ran.ensures.shown in
+          so (subst (λ (e : Result (Unit {0}) Halt). Contains (0 ∷ 4 ∷ []) (status_of e)) is at);
       past = λ l r told_l told_r. if_found (state_on l r) _ (λ start at only_l only_r kept.
           let so = answered.past l r start told_l told_r only_l only_r at kept in
           record {
             fault = so.fault;
-            fault_is = rw is (fault_of g.S.Source.left g.S.Source.faults held faults g.D.Disk.seen g.D.Disk.faults g.D.Disk.moment g.D.Disk.left_at before after served.asked served.history how answered.halted so.fault answered.answers so.fault_is);
+            fault_is = rw is (fault_of g.S.Source.left g.S.Source.faults held g.K.Sink.shown faults g.D.Disk.seen g.D.Disk.faults g.D.Disk.moment g.D.Disk.left_at before after served.asked served.history how answered.halted so.fault answered.answers so.fault_is);
             images = so.images;
             rests = so.rests;
           });

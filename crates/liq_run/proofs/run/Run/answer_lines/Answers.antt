@@ -1,12 +1,13 @@
-use Rattle.std.proofs.Common.{◌≡◌, ◌≤◌, ℕ, [], ◌∷◌, ◌+◌, Result, arith, refl, sym, subst, ◌∙◌}
+use Rattle.std.proofs.Common.{◌≡◌, ◌≤◌, ℕ, List, [], ◌∷◌, ◌+◌, Option, Result, arith, refl, sym, subst, ◌∙◌}
 use Rattle.liq_types.specs.declared.amounts.TheConstants.{LINES_MOST}
 use Rattle.liq_outside.specs.Faults.{Rose}
 use Rattle.liq_ends.specs.declared.halts.Halt.{Halt}
 use Rattle.liq_ends.specs.Causes.{WriteCause}
-use Rattle.liq_run.specs.Calls.{KeepsAround}
-use Rattle.liq_run.specs.Passing.{IsPastOf, IsStoppedPastOf}
-use Rattle.liq_run.specs.Progress.{Comes}
-use Rattle.liq_run.proofs.Passing.{behind, same_past, still}
+use Rattle.liq_lines.specs.Reading.{unread}
+use Rattle.liq_run.specs.Passing.{IsPastOf}
+use Rattle.liq_run.specs.Progress.{Answered}
+use Rattle.liq_run.specs.Turns.{HasCome}
+use Rattle.liq_run.proofs.Passing.{behind, still, unshown_past}
 use Rattle.liq_run.proofs.Residual.{cut_at, handed_on}
 use Rattle.liq_run.proofs.Showing.{shows_behind, shows_cut, shows_halt}
 use Rattle.liq_run.proofs.Turning.{opened, answered_on, answered_cut, reading_fails, reading_ends, limit_halts}
@@ -15,7 +16,10 @@ use Rattle.liq_lines.proofs.Readings.{few_begins, few_behind, few_in_all}
 
 pub loop-answered-init : goal.loop-answered-init
 loop-answered-init g c = record {
-  answered = λ start stands bytes told ol or l r past. opened start bytes c.args.self.now.reader c.args.self.now.waiting.items c.args.self.now.store.core (g.S.Source.left c.args.input.now) (g.K.Sink.held c.args.out.now) _ stands c.requires.unread c.requires.waiting told past;
+  answered = λ begun bytes told held past.
+      subst (λ (before : Option (List ℕ)). Answered begun.start bytes 0 c.args.self.now.store.core (unread c.args.self.now.reader (g.S.Source.left c.args.input.now)) c.args.self.now.waiting.items begun.held before
+      (λ requests. IsPastOf g.D.Disk.seen g.D.Disk.moment g.D.Disk.left_at begun requests c.args.self.now.store (g.K.Sink.shown c.args.out.now))) held
+      (opened begun.start bytes c.args.self.now.reader c.args.self.now.waiting.items c.args.self.now.store.core (g.S.Source.left c.args.input.now) begun.held _ past.past.stands c.requires.unread c.requires.waiting told past);
   time = still g.D.Disk.moment g.D.Disk.left_at c.args.self.now.store;
   few = few_begins (g.S.Source.left c.args.input.now) c.args.self.now.reader c.requires.unread;
   going = c.requires.going;
@@ -25,12 +29,12 @@ loop-answered-init g c = record {
 }
 
 pub returns-then-not-branch-clause-run : goal.returns-then-not-branch-clause-run
-returns-then-not-branch-clause-run g c start stands bytes told ol or l r past =
-    (rw c.if-not-branch.true at c.in_ok-turn.ensures.turn).turn start bytes (g.K.Sink.held c.args.out.now) ol or l r (c.loop-answered.invariant.answered start stands bytes told ol or l r past)
+returns-then-not-branch-clause-run g c begun bytes told held past =
+    (rw c.if-not-branch.true at c.in_ok-turn.ensures.turn).turn begun bytes (c.loop-answered.invariant.answered begun bytes told held past)
 
 pub loop-answered-preserved : goal.loop-answered-preserved
 loop-answered-preserved g c = record {
-  answered = λ start stands bytes told ol or l r past. (rw c.if-not-branch.false at c.in_ok-turn.ensures.turn).turn start bytes (g.K.Sink.held c.args.out.now) ol or l r (c.loop-answered.invariant.answered start stands bytes told ol or l r past);
+  answered = λ begun bytes told held past. (rw c.if-not-branch.false at c.in_ok-turn.ensures.turn).turn begun bytes (c.loop-answered.invariant.answered begun bytes told held past);
   time = behind g.D.Disk.moment g.D.Disk.left_at _ _ _ c.loop-answered.invariant.time c.turn.ensures.shows.time;
   few = c.turn.ensures.turn.few (g.S.Source.left c.args.input.now) c.loop-answered.invariant.few;
   going = c.in_ok-turn.ensures.shows.stopped;
@@ -40,32 +44,30 @@ loop-answered-preserved g c = record {
 }
 
 pub returns-in_err-flush-clause-run : goal.returns-in_err-flush-clause-run
-returns-in_err-flush-clause-run g c start stands bytes told ol or l r past =
-    let left = g.S.Source.left c.loop-answered.input in
-    let held = g.K.Sink.held in
+returns-in_err-flush-clause-run g c begun bytes told held past =
     let halt = c.in_err-flush.field-0.0 in
-    subst (λ (end : Result (Unit {0}) Halt). Comes start end c.loop-answered.self.store.core (λ requests. IsPastOf g.D.Disk.seen g.D.Disk.moment g.D.Disk.left_at ol or l r start requests c.loop-answered.self.store)
-    (KeepsAround g.D.Disk.seen c.loop-answered.self.store.left c.loop-answered.self.store.right) (λ requests request. IsStoppedPastOf g.D.Disk.seen g.D.Disk.moment g.D.Disk.left_at ol or l r start requests request c.loop-answered.self.store) bytes left c.flush.new.waiting.items (held c.args.out.now) (held c.flush.new.out)) (sym (handed_on c.from_residual-in_err-flush.result halt c.from_residual-in_err-flush.ensures.1))
-    (answered_cut start _ _ _ (same_past g.D.Disk.seen g.D.Disk.moment g.D.Disk.left_at g.met.D.Disk.seen_may_stay ol or l r start c.loop-answered.self.store) halt bytes c.loop-answered.answered _ _ left _ c.flush.new.waiting.items _ _ _ (omega (arith, c.loop-answered.auto.answered-end)) (c.loop-answered.invariant.answered start stands bytes told ol or l r past) c.in_err-flush.ensures.written)
+    subst (λ (end : Result (Unit {0}) Halt). HasCome g.D.Disk.seen g.D.Disk.moment g.D.Disk.left_at begun bytes (record { store = c.loop-answered.self.store; taken = c.loop-answered.self.reader; left = g.S.Source.left c.loop-answered.input; waiting = c.flush.new.waiting.items; held = g.K.Sink.held c.flush.new.out; shown = g.K.Sink.shown c.flush.new.out }) end)
+    (sym (handed_on c.from_residual-in_err-flush.result halt c.from_residual-in_err-flush.ensures.1))
+    (answered_cut begun.start _ _ (λ rs. unshown_past g.D.Disk.seen g.D.Disk.moment g.D.Disk.left_at g.met.D.Disk.seen_may_stay begun rs c.loop-answered.self.store _ _ c.flush.ensures.unshown) _ _ halt bytes c.loop-answered.answered _ _ (g.S.Source.left c.loop-answered.input) _ c.flush.new.waiting.items begun.held _ _ (omega (arith, c.loop-answered.auto.answered-end)) (c.loop-answered.invariant.answered begun bytes told held past) c.in_err-flush.ensures.written)
 
 pub returns-in-Ok-None-clause-run : goal.returns-in-Ok-None-clause-run
-returns-in-Ok-None-clause-run g c start stands bytes told ol or l r past =
-    let a = answered_on start bytes c.loop-answered.answered _ _ _ c.flush.new.waiting.items (g.K.Sink.held c.args.out.now) _ (g.K.Sink.held c.flush.new.out) _ (c.loop-answered.invariant.answered start stands bytes told ol or l r past) c.in_ok-flush.ensures.written in
+returns-in-Ok-None-clause-run g c begun bytes told held past =
+    let a = answered_on begun.start bytes c.loop-answered.answered _ _ _ c.flush.new.waiting.items begun.held _ (g.K.Sink.held c.flush.new.out) _ _ (λ rs. unshown_past g.D.Disk.seen g.D.Disk.moment g.D.Disk.left_at g.met.D.Disk.seen_may_stay begun rs c.loop-answered.self.store _ _ c.flush.ensures.unshown) (c.loop-answered.invariant.answered begun bytes told held past) c.in_ok-flush.ensures.written in
     let over = rw c.in-Ok-None.field-0-is at c.in-Ok-None.ensures.byte in
-    reading_ends start _ _ _ bytes c.next_byte.new.self c.loop-answered.answered _ _ (g.S.Source.left c.next_byte.new.input) _ _ _ (omega (arith, c.loop-answered.auto.answered-end)) over.0 over.1 a
+    reading_ends begun.start _ _ _ bytes c.next_byte.new.self c.loop-answered.answered _ _ (g.S.Source.left c.next_byte.new.input) _ _ _ (omega (arith, c.loop-answered.auto.answered-end)) over.0 over.1 a
 
 pub returns-in-Ok-Some-clause-run : goal.returns-in-Ok-Some-clause-run
-returns-in-Ok-Some-clause-run g c start stands bytes told ol or l r past =
-    let a = answered_on start bytes c.loop-answered.answered _ _ _ c.flush.new.waiting.items (g.K.Sink.held c.args.out.now) _ (g.K.Sink.held c.flush.new.out) _ (c.loop-answered.invariant.answered start stands bytes told ol or l r past) c.in_ok-flush.ensures.written in
+returns-in-Ok-Some-clause-run g c begun bytes told held past =
+    let a = answered_on begun.start bytes c.loop-answered.answered _ _ _ c.flush.new.waiting.items begun.held _ (g.K.Sink.held c.flush.new.out) _ _ (λ rs. unshown_past g.D.Disk.seen g.D.Disk.moment g.D.Disk.left_at g.met.D.Disk.seen_may_stay begun rs c.loop-answered.self.store _ _ c.flush.ensures.unshown) (c.loop-answered.invariant.answered begun bytes told held past) c.in_ok-flush.ensures.written in
     let read = rw c.in-Ok-Some.field-0-is at c.in-Ok-Some.ensures.byte in
     let full : c.loop-answered.answered ≡ LINES_MOST = omega (arith, c.loop-answered-test.false, c.loop-answered.auto.answered-end) in
-    limit_halts start _ _ _ bytes c.loop-answered.answered _ _ _ _ (g.S.Source.left c.next_byte.new.input) _ _ _ c.from.result c.from.ensures full read a
+    limit_halts begun.start _ _ _ bytes c.loop-answered.answered _ _ _ _ (g.S.Source.left c.next_byte.new.input) _ _ _ c.from.result c.from.ensures full read a
 
 pub returns-in-Err-clause-run : goal.returns-in-Err-clause-run
-returns-in-Err-clause-run g c start stands bytes told ol or l r past =
-    let a = answered_on start bytes c.loop-answered.answered _ _ _ c.flush.new.waiting.items (g.K.Sink.held c.args.out.now) _ (g.K.Sink.held c.flush.new.out) _ (c.loop-answered.invariant.answered start stands bytes told ol or l r past) c.in_ok-flush.ensures.written in
+returns-in-Err-clause-run g c begun bytes told held past =
+    let a = answered_on begun.start bytes c.loop-answered.answered _ _ _ c.flush.new.waiting.items begun.held _ (g.K.Sink.held c.flush.new.out) _ _ (λ rs. unshown_past g.D.Disk.seen g.D.Disk.moment g.D.Disk.left_at g.met.D.Disk.seen_may_stay begun rs c.loop-answered.self.store _ _ c.flush.ensures.unshown) (c.loop-answered.invariant.answered begun bytes told held past) c.in_ok-flush.ensures.written in
     let failed = c.in-Err.ensures.failed in
-    reading_fails start _ _ _ bytes c.next_byte.new.self c.loop-answered.answered _ _ (g.S.Source.left c.next_byte.new.input) _ _ _ (omega (arith, c.loop-answered.auto.answered-end)) ([], tt, failed.0, failed.1, omega arith) (λ e. refl) a
+    reading_fails begun.start _ _ _ bytes c.next_byte.new.self c.loop-answered.answered _ _ (g.S.Source.left c.next_byte.new.input) _ _ _ (omega (arith, c.loop-answered.auto.answered-end)) ([], tt, failed.0, failed.1, omega arith) (λ e. refl) a
 
 -- ---- what is taken
 
@@ -97,14 +99,11 @@ returns-in-Err-clause-few g c =
     few_behind _ c.loop-answered.answered _ _ c.loop-answered.invariant.few (omega (arith, c.loop-answered.auto.answered-end)) [] _ _ failed.0 (omega (arith, c.next_byte.ensures.held))
 
 pub returns-in_err-turn-clause-run : goal.returns-in_err-turn-clause-run
-returns-in_err-turn-clause-run g c start stands bytes told ol or l r past =
+returns-in_err-turn-clause-run g c begun bytes told held past =
     let halt = c.in_err-turn.field-0.0 in
-    let store = c.turn.new.self.store in
-    let held = g.K.Sink.held in
-    subst (λ (end : Result (Unit {0}) Halt). Comes start end store.core (λ requests. IsPastOf g.D.Disk.seen g.D.Disk.moment g.D.Disk.left_at ol or l r start requests store) (KeepsAround g.D.Disk.seen store.left store.right)
-    (λ requests request. IsStoppedPastOf g.D.Disk.seen g.D.Disk.moment g.D.Disk.left_at ol or l r start requests request store) bytes (g.S.Source.left c.turn.new.input) c.turn.new.self.waiting.items (held c.args.out.now) (held c.turn.new.out))
+    subst (λ (end : Result (Unit {0}) Halt). HasCome g.D.Disk.seen g.D.Disk.moment g.D.Disk.left_at begun bytes (record { store = c.turn.new.self.store; taken = c.turn.new.self.reader; left = g.S.Source.left c.turn.new.input; waiting = c.turn.new.self.waiting.items; held = g.K.Sink.held c.turn.new.out; shown = g.K.Sink.shown c.turn.new.out }) end)
     (sym (handed_on c.from_residual.result halt c.from_residual.ensures.1))
-    (c.in_err-turn.ensures.turn.turn start bytes (held c.args.out.now) ol or l r (c.loop-answered.invariant.answered start stands bytes told ol or l r past))
+    (c.in_err-turn.ensures.turn.turn begun bytes (c.loop-answered.invariant.answered begun bytes told held past))
 
 -- ---- what it shows
 

@@ -1,21 +1,20 @@
-use Rattle.std.proofs.Common.{ℕ, List, ap, sym, subst, ◌∙◌}
-use Rattle.liq_run.specs.Calls.{KeepsAround}
-use Rattle.liq_run.specs.Passing.{IsPastOf, IsStoppedPastOf}
-use Rattle.liq_run.specs.Progress.{Comes}
-use Rattle.liq_run.proofs.Passing.{same_past}
+use Rattle.std.proofs.Common.{ℕ, List, [], Option, ap, sym, subst, ◌∙◌}
+use Rattle.liq_outside.specs.declared.showing.Showing.{Showing}
+use Rattle.liq_run.specs.Turns.{HasCome, HasEnded}
 use Rattle.liq_run.proofs.Closing.{rest_disks, rest_run, rest_source, rest_stopped}
 use Rattle.liq_run.proofs.run.Run.catch_up_at.Goals as goal
 
 pub returns-clause-run : goal.returns-clause-run
-returns-clause-run g c start bytes left before ol or l r h =
+returns-clause-run g c begun bytes left h =
     let shut = c.write_rest.ensures.shut in
-    rest_run _ _ _ c.args.end c.write_rest.result (λ is. (shut is).0) c.write_rest.ensures.written start c.args.self.now.store.core _ _ _ bytes left before
-    (λ is. ap g.K.Sink.held (shut is).1) (same_past g.D.Disk.seen g.D.Disk.moment g.D.Disk.left_at g.met.D.Disk.seen_may_stay ol or l r start c.args.self.now.store)
-    (subst (λ (w : List ℕ). Comes start c.args.end c.args.self.now.store.core
-    (λ requests. IsPastOf g.D.Disk.seen g.D.Disk.moment g.D.Disk.left_at ol or l r start requests c.args.self.now.store)
-    (KeepsAround g.D.Disk.seen c.args.self.now.store.left c.args.self.now.store.right)
-    (λ requests request. IsStoppedPastOf g.D.Disk.seen g.D.Disk.moment g.D.Disk.left_at ol or l r start requests request c.args.self.now.store)
-    bytes left w before (g.K.Sink.held c.args.out.now)) (sym c.deref.ensures.value) h)
+    let held = g.K.Sink.held in
+    let run = c.args.self.now in
+    subst (λ (shown : Option (List Showing)). HasEnded g.D.Disk.seen g.D.Disk.moment g.D.Disk.left_at begun bytes (record { store = run.store; taken = run.reader; left = left; waiting = []; held = held c.write_rest.new.out; shown = shown }) c.write_rest.result)
+    (sym c.write_rest.ensures.unshown)
+    (rest_run _ _ _ c.args.end c.write_rest.result (λ is. (shut is).0) c.write_rest.ensures.written begun.start run.store.core _ _ _ bytes left begun.held
+    (λ is. ap held (shut is).1)
+    (subst (λ (w : List ℕ). HasCome g.D.Disk.seen g.D.Disk.moment g.D.Disk.left_at begun bytes (record { store = run.store; taken = run.reader; left = left; waiting = w; held = held c.args.out.now; shown = g.K.Sink.shown c.args.out.now }) c.args.end)
+    (sym c.deref.ensures.value) h))
 
 pub returns-clause-source : goal.returns-clause-source
 returns-clause-source g c old new none h =
