@@ -532,7 +532,7 @@ static void memory(void) {
         CHECK(r[0].kind == LIQ_ACCEPTED);
         __real_free(before.at);
     }
-    CHECK(fails > 2);
+    CHECK(fails > 0);
     uint8_t out[256];
     memset(out, 0xA5, sizeof out);
     for (long k = 0;; k++) {

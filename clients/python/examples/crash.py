@@ -8,14 +8,15 @@ usage: python3 crash.py [SEED]
 import contextlib
 import random
 import sys
-import tempfile
 from pathlib import Path
+from typing import Any, Dict, Iterator, List, Union
 
 from liq import Market, NotBuilt, Refusal, Service, ether, lusd
 from liq.chart import Panel, chart
+from liq.simulate import service_in_memory
 
 OWNERS, HOURS, LIQUIDATOR = 300, 240, 1000
-MEMORY = Path("/dev/shm")
+Hours = List[Dict[str, Any]]
 
 
 def main() -> None:
@@ -27,21 +28,20 @@ def main() -> None:
 
 
 @contextlib.contextmanager
-def begun():
+def begun() -> Iterator[Union[Market, Service]]:
     """A market in this process; or, where no library is built, that of a run. What they reply is the same."""
     try:
         market = Market()
     except NotBuilt:
         # A command waits for the disk twice; files in memory cost nothing, and are gone with the folder.
-        with tempfile.TemporaryDirectory(dir=MEMORY if MEMORY.is_dir() else None) as folder:
-            with Service(folder, create=True) as service:
-                yield service
+        with service_in_memory() as service:
+            yield service
     else:
         with market:
             yield market
 
 
-def simulate(market, chance: random.Random):
+def simulate(market: Union[Market, Service], chance: random.Random) -> Hours:
     """A row of the market for each hour."""
     client = market.client(1)
     for owner in range(1, OWNERS + 1):
@@ -50,7 +50,8 @@ def simulate(market, chance: random.Random):
         client.open(owner, ether(10), borrowed)
         if owner % 2 == 0:
             client.provide(owner, borrowed)
-    price, hours = 1000.0, []
+    price: float = 1000.0
+    hours: Hours = []
     for hour in range(HOURS):
         price *= chance.gauss(0.9942 if hour < 120 else 1.001, 0.006)
         client.price(lusd(f"{price:.6f}"))
@@ -73,18 +74,15 @@ def simulate(market, chance: random.Random):
     return hours
 
 
-def draw(hours) -> str:
+def draw(hours: Hours) -> str:
     """The picture."""
-    def line(name):
-        return [(row["hour"], row[name]) for row in hours]
-
     critical = [(0, 150), (HOURS, 150)]
-    return chart("A crash of the price", "hours", [
-        Panel("LUSD for one ether", {"price": line("price")}),
-        Panel("LUSD", {"debt of all troves": line("debt"), "Stability Pool": line("pool")}),
-        Panel("ether that the Stability Pool holds", {"gained": line("gained")}),
-        Panel("percent", {"ratio of all troves": line("ratio"), "Recovery Mode below": critical}, zero=False),
-    ])
+    return chart("A crash of the price", "time", [
+        Panel("price of one ether", ["price"], unit="LUSD"),
+        Panel("debt and Stability Pool", {"debt of all troves": "debt", "Stability Pool": "pool"}, unit="LUSD"),
+        Panel("what the Stability Pool holds", {"gained": "gained"}, unit="ether"),
+        Panel("ratio", {"of all troves": "ratio", "Recovery Mode below": critical}, zero=False, unit="percent"),
+    ], hours, "hour", across_unit="hours")
 
 
 if __name__ == "__main__":

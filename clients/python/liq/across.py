@@ -1,32 +1,43 @@
 """What `audit`, `staking` and `rewards` would tell of a rotated market, whose generations an archive has kept.
 
-usage: python3 -m liq.across [--seconds N] --archive DIR audit|staking|rewards FOLDER < LINES
+usage: python3 -m liq.across [--seconds N] --archive DIR [--json|--csv] audit|staking|rewards FOLDER < LINES
 
 The word of the program ends with 9 behind a rotation, since the commands before it are gone from the files. This goes
 through all generations by `liq.model`, from the first one on, as one history, and writes what the word would write. The
 lines are those of the word; `audit` takes none. AT of a staker's line counts the records of all generations, one behind
-the other; a rotation is none of them.
+the other; a rotation is none of them. At a terminal the names of the columns come on standard error.
 
 It ends with 0; with 1 where it refuses, as of an archive that does not begin with the first generation, or where
 `audit` has a limit; and with 2 where the words are not understood.
 """
 import sys
-from typing import List, NamedTuple, Optional
+from typing import Any, Dict, List, NamedTuple, Optional, Tuple
 
 from .archive import Generations, Kept, NotArchived, named_in, sources
 from .backup import backup
+from .console import add_forms, add_seconds, as_csv, as_json, ended, parser_of, rows_of
 from .ends import Folder, TooMuch, Unfit
 from .history import begun, replay, rotated
-from .journal import BYTES_MOST
+from .journal import BYTES_MOST, RECORD_BYTES
 from .model import Market, NoRequest
 from .model.beside import rewards_text, staking_text
 from .model.owed import audit_text
 from .model.requests import read_words
+from .progress import Bar
 from .recheck import SECONDS
-from .scratch import bounded, scratch, words_of
+from .scratch import bounded, scratch
 from .service import LINES_OF_A_RUN
+from .words import AuditRow, RewardRow, StakeRow, read_rewards, read_staking
 
-SHAPES = {"audit": (), "staking": ("vawv", "stake", "unstake"), "rewards": ("waav", "tag")}
+EXAMPLES = """
+python3 -m liq.across --archive archive audit market
+echo '2 7 stake 5' | python3 -m liq.across --archive archive staking market
+python3 -m liq.across --archive archive --csv rewards market < tags > rewards.csv
+"""
+SHAPES: Dict[str, Tuple[str, ...]] = {
+    "audit": (), "staking": ("vawv", "stake", "unstake"), "rewards": ("waav", "tag"),
+}
+COLUMNS = {"audit": AuditRow._fields, "staking": StakeRow._fields, "rewards": RewardRow._fields}
 
 
 class NoLine(Unfit):
@@ -48,20 +59,24 @@ class Past(NamedTuple):
     records: int
 
 
-def past_of(folder: Folder, archive: Optional[Folder] = None, named: Optional[List[Kept]] = None) -> Past:
+def past_of(
+    folder: Folder, archive: Optional[Folder] = None, named: Optional[List[Kept]] = None, bar: Optional[Bar] = None
+) -> Past:
     """The whole past of a folder's market, by the copies that an archive has, or had (`sources`). Raises `NotArchived`
     where its first generation is not there, `DamagedFile` where a generation is not as the rules have it, or does not
     lead to the next."""
     market: Optional[Market] = None
-    records = 0
-    for disk in Generations(sources(folder, archive, named), BYTES_MOST):
+    records, bar = 0, bar or Bar()
+    found = sources(folder, archive, named)
+    bar.begin("records", sum(source.path.stat().st_size // RECORD_BYTES for source in found))
+    for disk in Generations(found, BYTES_MOST):
         if market is None and disk.checkpoint:
             why = f"the generations before {disk.generation} are missing"
             raise NotArchived(archive if archive is not None else folder, why)
         market = begun(disk) if market is None else rotated(market, disk)
         events = market.events = market.events or []
         before = len(events)
-        replay(market, disk)
+        replay(market, disk, bar.each)
         events[before:] = [event._replace(record=event.record + records) for event in events[before:]]
         records += len(disk.commands)
     assert market
@@ -82,12 +97,39 @@ def told(word: str, past: Past, lines: List[str]) -> List[str]:
     return rewards_text(past.market, lines)
 
 
-def across(word: str, folder: Folder, archive: Optional[Folder] = None, lines: Optional[List[str]] = None) -> List[str]:
+def across(
+    word: str, folder: Folder, archive: Optional[Folder] = None, lines: Optional[List[str]] = None,
+    bar: Optional[Bar] = None,
+) -> List[str]:
     """What a word tells of a folder's market and of its archive, on copies."""
     named = named_in(archive) if archive is not None else None
     with scratch(folder, "liq-across") as room:
-        backup(folder, room)
-        return told(word, past_of(room, archive, named), lines or [])
+        backup(folder, room, bar=bar)
+        return told(word, past_of(room, archive, named, bar), lines or [])
+
+
+class Parts(NamedTuple):
+    """What a word tells, in parts: its rows, the replies to lines, and what stands in its last line."""
+
+    rows: List[Any]
+    replies: List[str]
+    sums: Dict[str, int]
+
+
+def parts_of(word: str, said: List[str], count: int) -> Parts:
+    """The parts of what a word told to so many lines."""
+    if said[0].startswith("limit "):
+        return Parts([], [], {"limit": int(said[0].split(" ")[1])})
+    if word == "audit":
+        _, within, _, of = said[-1].split(" ")
+        rows = [AuditRow(*map(int, line.split(" "))) for line in said[:-1]]
+        return Parts(rows, [], {"within": int(within), "of": int(of)})
+    if word == "staking":
+        stakes = read_staking(said, count)
+        sums = {"unshared_coll": stakes.unshared_coll, "unshared_lusd": stakes.unshared_lusd}
+        return Parts(stakes.rows, said[:count], sums)
+    rewards = read_rewards(said, count)
+    return Parts(rewards.rows, said[:count], {"issued": rewards.issued, "unshared": rewards.unshared})
 
 
 def read_lines() -> List[str]:
@@ -101,24 +143,38 @@ def read_lines() -> List[str]:
 
 
 def main(words: List[str]) -> int:
-    *front, word, folder = words if len(words) > 1 else ("", "", "")
-    asked = words_of([*front, folder], SECONDS, takes_archive=True)
-    if asked is None or asked.archive is None or word not in SHAPES:
-        print("usage: python3 -m liq.across [--seconds N] --archive DIR audit|staking|rewards FOLDER", file=sys.stderr)
-        return 2
-    try:
-        with bounded(asked.seconds):
-            said = across(word, folder, asked.archive, read_lines() if word != "audit" else [])
-    except (Unfit, OSError) as fault:
-        print(f"across refuses: {fault}")
-        return 1
-    except MemoryError:
-        print("across refuses: there is not enough memory")
-        return 1
-    for line in said:
-        print(line)
-    return 1 if said[0].startswith("limit ") else 0
+    parser = parser_of("across", __doc__, EXAMPLES)
+    parser.add_argument("word", metavar="audit|staking|rewards", choices=sorted(SHAPES), help="the word of the program")
+    parser.add_argument("folder", metavar="FOLDER", help="the market's folder")
+    said_of_archive = "the generations before, as liq.archive keeps them"
+    parser.add_argument("--archive", metavar="DIR", required=True, help=said_of_archive)
+    add_seconds(parser, SECONDS)
+    add_forms(parser, rows=True)
+    asked = parser.parse_args(words)
+
+    def tell() -> int:
+        with bounded(asked.seconds), Bar() as bar:
+            lines = read_lines() if asked.word != "audit" else []
+            said = across(asked.word, asked.folder, asked.archive, lines, bar)
+        parts = parts_of(asked.word, said, len(lines))
+        if asked.json:
+            told = {"word": asked.word, "rows": rows_of(parts.rows), "replies": parts.replies, **parts.sums}
+            sys.stdout.write(as_json(told))
+        elif asked.csv:
+            sys.stdout.write(as_csv(COLUMNS[asked.word], parts.rows))
+        else:
+            if sys.stdout.isatty():
+                print(f"liq: {' '.join(COLUMNS[asked.word])}", file=sys.stderr)
+            sys.stdout.write("".join(f"{line}\n" for line in said))
+        return 1 if "limit" in parts.sums else 0
+
+    return ended("across", tell, asked.json)
+
+
+def command() -> int:
+    """The command, with the words of its process."""
+    return main(sys.argv[1:])
 
 
 if __name__ == "__main__":
-    sys.exit(main(sys.argv[1:]))
+    sys.exit(command())

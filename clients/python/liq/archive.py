@@ -1,6 +1,6 @@
 """Copies of what rotations leave behind, so that a market's commands are there from the first one on.
 
-usage: python3 -m liq.archive FOLDER DIR
+usage: python3 -m liq.archive [--json|--csv] FOLDER DIR
 
 A rotation begins the next generation in the file of the generation before the last. What stands there is gone then.
 This copies the file that the last rotation left behind into the folder DIR, which is made where it is missing; also one
@@ -24,15 +24,23 @@ import secrets
 import sys
 import time
 from pathlib import Path
-from typing import Dict, Iterator, List, NamedTuple, Optional
+from typing import Dict, Iterator, List, NamedTuple, Optional, Tuple
 
 from .backup import DAY, LARGEST, SECONDS, fronts
+from .console import add_forms, as_csv, as_json, ended, parser_of
 from .ends import Folder, NoJournal, Unfit
 from .history import begun, digest_of, read_begin, replay, rotated, what_counts
-from .journal import FRONT_BYTES, DamagedFile, Disk, files_of, is_open, open_file, pieces_of, read_file, read_header
+from .journal import FRONT_BYTES, RECORD_BYTES, DamagedFile, Disk, files_of, is_open, open_file, pieces_of
+from .journal import read_file, read_header
+from .progress import Bar
 from .scratch import bounded
 from .units import counted
 
+EXAMPLES = """
+python3 -m liq.archive market archive && echo '9 1 rotate' | (cd market && liq run)
+python3 -m liq.archive --csv market archive
+"""
+KEYS = ("generation", "name", "bytes", "sha256", "made")
 NAMED = re.compile("([0-9]{11})-([0-9a-f]{64})[.]liq").fullmatch
 
 
@@ -63,7 +71,7 @@ class Left(NamedTuple):
     before: Optional[Path]
 
 
-def archive(folder: Folder, directory: Folder) -> List[Kept]:
+def archive(folder: Folder, directory: Folder, bar: Optional[Bar] = None) -> List[Kept]:
     """Copies what the last rotation left behind into the folder `directory`, and gives the copies that this call made.
 
     There is none to make in the first generation, and where it is there already. Raises `NotArchived` where there is a
@@ -76,7 +84,7 @@ def archive(folder: Folder, directory: Folder) -> List[Kept]:
     while True:
         seen = fronts(files_of(folder))
         try:
-            return _archived(folder, directory)
+            return _archived(folder, directory, bar or Bar())
         except (Unfit, OSError) as fault:
             if fronts(files_of(folder)) != seen and time.monotonic() < end:
                 continue  # a rotation came between, so that some of what was read is of the one and some of the other
@@ -194,7 +202,7 @@ def left_in(folder: Path) -> Left:
     return Left(current, generations[current], generations.get(current - 1))
 
 
-def _archived(folder: Path, directory: Path) -> List[Kept]:
+def _archived(folder: Path, directory: Path, bar: Bar) -> List[Kept]:
     """Makes the copy, where there is one to make. Raises `NotArchived` and `DamagedFile`."""
     left, kept = left_in(folder), kept_in(directory)
     is_kept = bool(kept) and kept[-1].generation == left.generation - 1
@@ -210,8 +218,8 @@ def _archived(folder: Path, directory: Path) -> List[Kept]:
         return []
     disk = read_left(left.before)
     if kept:
-        check_link(read_kept(kept[-1]), disk)
-    check_link(disk, read_begin(left.current, LARGEST))
+        check_link(read_kept(kept[-1]), disk, bar)
+    check_link(disk, read_begin(left.current, LARGEST), bar)
     return [_keep(disk, directory)]
 
 
@@ -243,10 +251,11 @@ def check_reaches(directory: Folder, kept: List[Kept], left: Left) -> None:
         raise NotArchived(directory, f"generation {last + 1} is missing, and it is on no file")
 
 
-def check_link(disk: Disk, following: Disk) -> None:
+def check_link(disk: Disk, following: Disk, bar: Optional[Bar] = None) -> None:
     """Raises `DamagedFile` where the commands of a generation do not lead to the checkpoint of the next one."""
-    market = begun(disk)
-    replay(market, disk)
+    market, bar = begun(disk), bar or Bar()
+    bar.begin(f"generation {disk.generation}", len(disk.data) // RECORD_BYTES)
+    replay(market, disk, bar.each)
     rotated(market, following)
 
 
@@ -321,25 +330,42 @@ def said_of(folder: Path, directory: Path, made: List[Kept]) -> List[str]:
     return said + [f"{directory} has {counted(len(kept), 'generation')}, {begins}"]
 
 
+def rows_told(directory: Path, made: List[Kept]) -> List[Tuple[int, str, int, str, bool]]:
+    """What an archive has: a row for each copy, under `KEYS`. The last one says whether this call made it."""
+    names = {copy.path.name for copy in made}
+    return [
+        (kept.generation, kept.path.name, kept.path.stat().st_size, kept.digest, kept.path.name in names)
+        for kept in kept_in(directory)
+    ]
+
+
 def main(words: List[str]) -> int:
-    if len(words) != 2 or words[0].startswith("-"):
-        print("usage: python3 -m liq.archive FOLDER DIR", file=sys.stderr)
-        return 2
-    folder, directory = words
-    try:
-        with bounded(DAY):
-            made = archive(folder, directory)
-            said = said_of(Path(folder), Path(directory), made)
-    except (Unfit, OSError) as fault:
-        print(f"archive refuses: {fault}")
-        return 1
-    except MemoryError:
-        print("archive refuses: there is not enough memory")
-        return 1
-    for line in said:
-        print(line)
-    return 0
+    parser = parser_of("archive", __doc__, EXAMPLES)
+    parser.add_argument("folder", metavar="FOLDER", help="the market's folder; a run may go on")
+    parser.add_argument("directory", metavar="DIR", help="the archive, which is made where it is missing")
+    add_forms(parser, rows=True)
+    asked = parser.parse_args(words)
+    folder, directory = Path(asked.folder), Path(asked.directory)
+
+    def tell() -> int:
+        with bounded(DAY), Bar() as bar:
+            made = archive(folder, directory, bar)
+            said, rows = said_of(folder, directory, made), rows_told(directory, made)
+        if asked.json:
+            sys.stdout.write(as_json({"generations": [dict(zip(KEYS, row)) for row in rows], "said": said[-1]}))
+        elif asked.csv:
+            sys.stdout.write(as_csv(KEYS, ((*row[:4], "yes" if row[4] else "no") for row in rows)))
+        else:
+            sys.stdout.write("".join(f"{line}\n" for line in said))
+        return 0
+
+    return ended("archive", tell, asked.json)
+
+
+def command() -> int:
+    """The command, with the words of its process."""
+    return main(sys.argv[1:])
 
 
 if __name__ == "__main__":
-    sys.exit(main(sys.argv[1:]))
+    sys.exit(command())

@@ -1,6 +1,6 @@
 """A copy of a market that has all that was answered before it began, also while liq runs and rotates.
 
-usage: python3 -m liq.backup FOLDER DIR
+usage: python3 -m liq.backup [--json] FOLDER DIR
 
 Both files are copied into the folder DIR, which is made, or is there and empty. A rotation writes over one of the
 files: where one came between, all is copied again. The copies are synced, and a copy of them, made for this alone, is
@@ -10,14 +10,18 @@ It ends with 0; with 1 where nothing was copied, and then DIR is as it was, or w
 with 2 where the words are not understood.
 """
 import contextlib
+import hashlib
 import os
 import sys
 import time
 from pathlib import Path
-from typing import BinaryIO, Dict, Iterable, Iterator, List, Optional
+from typing import Any, BinaryIO, Dict, Iterable, Iterator, List, Optional
 
-from .ends import End, Folder, NoJournal, NotBuilt, TooMuch, Unfit
-from .journal import BYTES_MOST, FRONT_BYTES, HEADER_BYTES, RECORD_BYTES, files_of, is_open, open_file
+from .console import add_forms, as_json, ended, parser_of, refused
+from .ends import Folder, NoJournal, NotBuilt, TooMuch, Unfit
+from .errors import LiqError
+from .journal import BYTES_MOST, FRONT_BYTES, HEADER_BYTES, RECORD_BYTES, files_of, is_open, open_file, pieces_of
+from .progress import Bar
 from .scratch import bounded, scratch
 from .service import find_program
 from .words import State, state
@@ -26,6 +30,10 @@ LARGEST = 2**30  # bytes of a file: more than a full journal behind a checkpoint
 AT_ONCE_MOST = 2**26  # bytes of both files, which are read before they are written: that takes the shortest time
 SECONDS = 60
 DAY = 24 * 60 * 60
+EXAMPLES = """
+python3 -m liq.backup /var/lib/liq/market /backup/monday
+python3 -m liq.backup --json market copy | jq .records
+"""
 
 
 class NotEmpty(Unfit):
@@ -50,8 +58,9 @@ class Rotating(Unfit):
         return f"{self.folder} was rotated during each copy, for {SECONDS} seconds: copy it when nobody rotates"
 
 
-def backup(folder: Folder, to: Folder, most: int = BYTES_MOST) -> None:
-    """Copies both files, each of at most `most` bytes, into a new folder or an empty one, and syncs them.
+def backup(folder: Folder, to: Folder, most: int = BYTES_MOST, bar: Optional[Bar] = None) -> None:
+    """Copies both files, each of at most `most` bytes, into a new folder or an empty one, and syncs them. The bar
+    counts bytes.
 
     The copy has each command that was answered before the call, whatever a running liq does meanwhile. Raises
     `NoJournal` where liq would begin a new market, `NotEmpty`, `Rotating`, `TooMuch` or `NoRegularFile`; then the
@@ -64,7 +73,7 @@ def backup(folder: Folder, to: Folder, most: int = BYTES_MOST) -> None:
     elif any(to.iterdir()):
         raise NotEmpty(to)
     try:
-        _copy_unrotated(Path(folder), to, most)
+        _copy_unrotated(Path(folder), to, most, bar or Bar())
         for path in (*files_of(to), to):
             _sync(path)
         if is_new:
@@ -76,17 +85,17 @@ def backup(folder: Folder, to: Folder, most: int = BYTES_MOST) -> None:
         raise
 
 
-def _copy_unrotated(folder: Path, to: Path, most: int) -> None:
+def _copy_unrotated(folder: Path, to: Path, most: int, bar: Bar) -> None:
     """Copies both files until no rotation came between."""
     end = time.monotonic() + SECONDS
-    while not _copied(folder, to, most):
+    while not _copied(folder, to, most, bar):
         if time.monotonic() > end:
             raise Rotating(folder)
     if not any(is_open(front) for front in fronts(files_of(to)).values()):
         raise NoJournal(folder)
 
 
-def _copied(folder: Path, to: Path, most: int) -> bool:
+def _copied(folder: Path, to: Path, most: int, bar: Bar) -> bool:
     """Copies both files, unless a rotation comes between, and says whether it is done.
 
     A rotation begins by shutting the gate of the file that it takes, and ends with another header in it. A file's front
@@ -99,7 +108,8 @@ def _copied(folder: Path, to: Path, most: int) -> bool:
             if size > most:
                 raise TooMuch(f"{path} has", most, "bytes")
         at_once = sum(sizes.values()) <= AT_ONCE_MOST
-        pieces = {path: _pieces(file, sizes[path]) for path, file in files.items()}
+        bar.begin("copied", sum(sizes.values()))
+        pieces = {path: _pieces(file, sizes[path], bar) for path, file in files.items()}
         copies = {path: list(found) if at_once else _write(to / path.name, found) for path, found in pieces.items()}
         read = {path: found[0][:FRONT_BYTES] if found else b"" for path, found in copies.items()}
         if any(front_of(file) != read[path] for path, file in files.items()):
@@ -114,13 +124,14 @@ def _copied(folder: Path, to: Path, most: int) -> bool:
     return True
 
 
-def _pieces(file: BinaryIO, count: int) -> Iterator[bytes]:
+def _pieces(file: BinaryIO, count: int, bar: Bar) -> Iterator[bytes]:
     """So many bytes of a file. What was added to it since has no part in them."""
     while count:
         piece = file.read(min(count, AT_ONCE_MOST))
         if not piece:
             return
         count -= len(piece)
+        bar.add(len(piece))
         yield piece
 
 
@@ -190,30 +201,57 @@ def _clear(to: Path) -> None:
         path.unlink()
 
 
+def files_told(folder: Path) -> List[Dict[str, Any]]:
+    """The files of a folder: their names, how many bytes they have, and the SHA-256 of these."""
+    told = []
+    for path in files_of(folder):
+        found, size = hashlib.sha256(), 0
+        for piece in pieces_of(path, LARGEST):
+            found.update(piece)
+            size += len(piece)
+        told.append({"name": path.name, "bytes": size, "sha256": found.hexdigest()})
+    return told
+
+
 def main(words: List[str]) -> int:
-    if len(words) != 2:
-        print("usage: python3 -m liq.backup FOLDER DIR", file=sys.stderr)
-        return 2
-    folder, to = words
+    parser = parser_of("backup", __doc__, EXAMPLES)
+    parser.add_argument("folder", metavar="FOLDER", help="the market's folder; a run may go on")
+    parser.add_argument("to", metavar="DIR", help="for the copy: it is made, or is there and empty")
+    add_forms(parser)
+    asked = parser.parse_args(words)
+    return ended("backup", lambda: _told(asked.folder, asked.to, asked.json), asked.json)
+
+
+def _told(folder: str, to: str, is_json: bool) -> int:
+    """Copies, opens a copy of the copy, and tells how many commands it has."""
+    with bounded(DAY), Bar() as bar:
+        backup(folder, to, LARGEST, bar)
     try:
-        with bounded(DAY):
-            backup(folder, to, LARGEST)
-    except (Unfit, OSError) as fault:
-        print(f"backup refuses: {fault}")
-        return 1
-    try:
-        with bounded(DAY), scratch(to, "liq-backup") as room:
-            backup(to, room, LARGEST)
+        with bounded(DAY), scratch(to, "liq-backup") as room, Bar() as bar:
+            backup(to, room, LARGEST, bar)
             opened = open_copy(room)
-    except (End, Unfit, OSError) as fault:
+    except (LiqError, OSError) as fault:
+        if is_json:
+            return refused("backup", f"copied, but it does not open: {fault}", is_json)
         print(f"copied, but it does not open: {fault}")
         return 1
-    if opened is None:
+    if is_json:
+        generation, records = (opened.generation, opened.records) if opened else (None, None)
+        sys.stdout.write(as_json({
+            "to": to, "opened": opened is not None, "generation": generation, "records": records,
+            "files": files_told(Path(to)),
+        }))
+    elif opened is None:
         print("copied, and not opened: there is no program (LIQ_PROGRAM, or liq on the PATH)")
     else:
         print(f"journal {opened.generation} {opened.records}")
     return 0
 
 
+def command() -> int:
+    """The command, with the words of its process."""
+    return main(sys.argv[1:])
+
+
 if __name__ == "__main__":
-    sys.exit(main(sys.argv[1:]))
+    sys.exit(command())

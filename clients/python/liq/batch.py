@@ -4,8 +4,9 @@
     replies = market.next(calls)                            # it numbers them, and writes the numbers into them
     calls = batch.open(range(1000), ether(10), debts)
     opened = batch.columns(market.next(calls), "open")      # opened.debt, opened.fee: those of the accepted ones
-    rows = market.query(batch.queries("trove", market.trove_accounts()))
-    batch.ratios(batch.columns(rows, "trove"), price)
+    asked = batch.queries("trove", market.trove_accounts())
+    rows = batch.columns(market.query(asked), "trove", asked)       # rows.account, rows.coll, rows.debt, rows.stake
+    batch.ratios(rows, price)
 
 All columns are whole numbers without a sign, of 64 bits: 5 - 6 is 2^64 - 1, a product may pass 2^64, both without a
 word, and what is 2^63 or more is below 0 once it is made a number with a sign. Take floats for sums of your own, or
@@ -21,11 +22,13 @@ import sys
 from typing import Any, Callable, Dict, List, NamedTuple, Optional, Sequence, Tuple, Union
 
 from .client import ACCOUNTS, AMOUNTS
+from .errors import BadType, BadValue, LiqError
 from .journal import KINDS, NO_HINT, VERBS
 from .library import ACCEPTED, BAD, ITEM_BYTES, NO_MEMORY, OK, QUERY_BYTES, TOLD, TOPICS
-from .packed import check_numbers, fault_in
-from .replies import BY_QUERY, BY_VERB, Trove
-from .units import ANY_FEE
+from .optional import need
+from .packed import fault_in
+from .replies import BY_QUERY, BY_VERB, Trove, told_fields
+from .units import ANY_FEE, all_within, within
 
 Column = Any  # a number for all, or a sequence of numbers, an array or any other
 Columns = Any  # an array of rows of one of the types below
@@ -43,12 +46,9 @@ TYPES: Dict[str, List[Tuple[Any, ...]]] = {
 
 
 def need_numpy() -> Any:
-    """The package numpy. Raises an ImportError where there is none."""
-    try:
-        import numpy  # not at the top: it takes a tenth of a second, and most callers do without
-    except ImportError:
-        raise ImportError("columns want numpy, which is not there; without it a batch takes bytes") from None
-    return numpy
+    """The package numpy. Raises `NoPackage` where there is none."""
+    # Not at the top: it takes a tenth of a second, and most callers do without.
+    return need("numpy", "columns want numpy, which is not there; without it a batch takes bytes")
 
 
 @functools.lru_cache(maxsize=None)
@@ -63,7 +63,7 @@ def __getattr__(name: str) -> Any:
     raise AttributeError(f"module {__name__!r} has no attribute {name!r}")
 
 
-class BatchStopped(Exception):
+class BatchStopped(LiqError):
     """The items before this index were answered; that one changed nothing, and those behind it were not come to.
 
     `why` is the place of the byte at which the field begins that fits no command or query; of `lines` the line that is
@@ -190,21 +190,23 @@ def queries(query: str, accounts: Column = 0) -> Columns:
 
 
 def numbers(column: Column, limit: int) -> Any:
-    """A column as an array. What is no whole number is a TypeError, one that is not below the limit a ValueError."""
+    """A column as an array. What is no whole number (`liq.units`) is a TypeError, one that is not below the limit a
+    ValueError."""
     numpy = need_numpy()
-    if isinstance(column, (numpy.ndarray, numpy.generic)):
+    if hasattr(column, "__array__"):
         column = numpy.asarray(column)
+        if column.dtype.kind == "O":
+            return numpy.array(all_within(column.ravel().tolist(), limit), numpy.uint64).reshape(column.shape)
         if column.dtype.kind not in "iu":
-            raise TypeError(f"a column of {column.dtype} has no whole numbers")
+            raise BadType(
+                f"a column of {column.dtype} has no whole numbers: ether(), lusd() and rate() make them of text; "
+                "astype(\"int64\") does of floats that may be rounded")
         if column.size and (int(column.min()) < 0 or int(column.max()) >= limit):
-            raise ValueError(f"a column has numbers that are not from 0 to {limit - 1}")
+            raise BadValue(f"a column has numbers that are not from 0 to {limit - 1}")
         return column.astype(numpy.uint64)
-    if isinstance(column, int):
-        check_numbers((column,), limit)
-        return numpy.uint64(column)
-    listed = list(column)
-    check_numbers(listed, limit)
-    return numpy.array(listed, numpy.uint64)
+    if not hasattr(column, "__iter__"):
+        return numpy.uint64(within(column, limit))
+    return numpy.array(all_within(column, limit), numpy.uint64)
 
 
 # ---- replies
@@ -215,12 +217,19 @@ def accepted(replies: Columns) -> Any:
     return replies["kind"] == ACCEPTED
 
 
-def columns(replies: Columns, name: str) -> Any:
+def columns(replies: Columns, name: str, queries: Optional[Columns] = None) -> Any:
     """The values of all replies to accepted commands of a verb, or to queries of a name, as a named tuple of columns
-    (`liq.replies`). What was refused, and a trove or a deposit that there is not, has no row in them: see `has_row`."""
+    (`liq.replies`). What was refused, and a trove or a deposit that there is not, has no row in them: see `has_row`.
+
+    The accounts of troves, deposits and wallets stand in the queries, and not in the replies: with the queries that
+    were replied they are a column too, without them that one is None."""
     row = BY_VERB.get(name) or BY_QUERY[name]
-    values = replies["values"][has_row(replies, name)]
-    return row(*(values[..., place] for place in range(len(row._fields))))  # type: ignore[attr-defined]
+    there = has_row(replies, name)
+    values = replies["values"][there]
+    told = {field: values[..., place] for place, field in enumerate(told_fields(row))}
+    if name in ("wallet", "trove", "deposit"):
+        told["account"] = None if queries is None else queries["account"][there]
+    return row(**told)
 
 
 def has_row(replies: Columns, name: str) -> Any:
@@ -275,11 +284,11 @@ class Given:
     def _take_array(self, items: Any, is_written: bool) -> None:
         wanted = type_of(self.kind.type)
         if items.dtype.newbyteorder("=") != wanted.newbyteorder("="):
-            raise TypeError(f"an array of {items.dtype} has no {self.kind.what}: see liq.batch")
+            raise BadType(f"an array of {items.dtype} has no {self.kind.what}: see liq.batch")
         if items.ndim != 1:
-            raise ValueError(f"the {self.kind.what} are no row, but an array of {items.ndim} dimensions")
+            raise BadValue(f"the {self.kind.what} are no row, but an array of {items.ndim} dimensions")
         if is_written and not items.flags.writeable:
-            raise ValueError(f"numbers are written into the {self.kind.what}: copy() this array, which is read-only")
+            raise BadValue(f"numbers are written into the {self.kind.what}: copy() this array, which is read-only")
         numpy = need_numpy()
         # A copy of those that lie apart, as a slice's do, or whose bytes are turned, as by numpy's concatenate.
         self.items = numpy.ascontiguousarray(items, wanted)
@@ -291,9 +300,9 @@ class Given:
     def _take_bytes(self, items: Any, is_written: bool) -> None:
         view = memoryview(items)
         if not view.c_contiguous or view.nbytes % self.kind.size:
-            raise ValueError(f"not whole {self.kind.what} of {self.kind.size} bytes side by side")
+            raise BadValue(f"not whole {self.kind.what} of {self.kind.size} bytes side by side")
         if view.readonly and is_written:
-            raise ValueError(f"numbers are written into the {self.kind.what}: give a bytearray")
+            raise BadValue(f"numbers are written into the {self.kind.what}: give a bytearray")
         # Queries are words: what does not begin at one is copied.
         is_copied = view.readonly or self.kind is QUERIES and address_of(items) % 4 > 0
         self.items = bytearray(view) if is_copied else items
@@ -324,7 +333,8 @@ class Given:
         if status == OK:
             return None
         if status == BAD:
-            return PLACE.unpack_from(memoryview(self.replies).cast("B"), ITEM_BYTES * done)[0]
+            place: int = PLACE.unpack_from(memoryview(self.replies).cast("B"), ITEM_BYTES * done)[0]
+            return place
         return MemoryError() if status == NO_MEMORY else RuntimeError(f"the library gave {status}")
 
     def answered(self, done: int, why: Optional[Why]) -> Columns:

@@ -1,82 +1,94 @@
-"""Lines over time as an SVG picture, with nothing but the standard library."""
-import math
-from html import escape
-from typing import Iterable, List, Mapping, NamedTuple, Sequence, Tuple
+"""Lines as a picture in SVG: by matplotlib where that is there and wanted, else with nothing but the standard library.
 
-Points = Sequence[Tuple[float, float]]
-COLOURS = ("#1f5fa8", "#c2571a", "#2c7a3f", "#8a3fa0", "#6b6b6b")
-DASHES = ("", "6 3", "2 2", "8 3 2 3", "1 3")
-WIDTH, PANEL, LEFT, RIGHT, TOP, GAP = 760, 190, 84, 16, 34, 46
+    chart("A crash", "time", [Panel("debt", {"of all troves": "debt"}, unit="LUSD")], rows, "hour", across_unit="hours")
+
+The same call gives the same picture, to the byte, on each machine; where matplotlib draws, with the same matplotlib.
+"""
+from typing import Any, Iterator, Mapping, NamedTuple, Optional, Sequence, Union
+
+from .drawn import WIDTH, draw, ticks
+from .errors import BadValue
+from .plotted import plot
+from .series import Points, Scale, Table, points_of
+
+__all__ = ["OWN", "MATPLOTLIB", "Panel", "Picture", "Points", "Table", "WIDTH", "chart", "ticks"]
+
+OWN, MATPLOTLIB = "own", "matplotlib"
+WIDTH_LEAST, WIDTH_MOST = 240, 4000
 
 
 class Panel(NamedTuple):
-    """Some lines over one scale: their names and points, and what the scale is of; with a dot at each point where the
-    line between two says nothing."""
+    """Some lines over one scale: its heading, the lines by their names, and the unit of the scale.
+
+    A line is points, pairs of numbers; or, with data, the name of a column. Columns alone may be named in a list, or
+    one by itself.
+    `zero` has the scale begin at 0 or reach it, and `dots` puts a dot at each point, where the line between two says
+    nothing.
+    """
 
     title: str
-    lines: Mapping[str, Points]
+    lines: Union[Mapping[str, Union[Points, str]], Sequence[str]]
     zero: bool = True
     dots: bool = False
+    unit: str = ""
 
 
-def chart(title: str, across: str, panels: Sequence[Panel]) -> str:
-    """A picture of panels one below the other, which share what goes across."""
-    every = [x for panel in panels for points in panel.lines.values() for x, _ in points]
-    if not every:
-        raise ValueError("nothing to draw")
-    low, high = min(every), max(every)
-    height = TOP + len(panels) * (PANEL + GAP) + 12
-    drawn = [_text(LEFT, 20, title, "bold 15px sans-serif")]
-    for at, panel in enumerate(panels):
-        drawn += _panel(panel, TOP + at * (PANEL + GAP) + 14, low, high)
-    drawn.append(_text(WIDTH - RIGHT, height - 8, across, "12px sans-serif", "end"))
-    head = f'<svg xmlns="http://www.w3.org/2000/svg" viewBox="0 0 {WIDTH} {height}" width="{WIDTH}" height="{height}">'
-    back = f'<rect width="{WIDTH}" height="{height}" fill="white"/>'
-    return "\n".join([head, f"<title>{escape(title)}</title>", back, *drawn, "</svg>", ""])
+class Picture(str):
+    """A picture as the text of an SVG file. `drawn_by` is OWN or MATPLOTLIB. A notebook shows it as a picture."""
+
+    drawn_by: str
+
+    def __new__(cls, text: str, drawn_by: str = OWN) -> "Picture":
+        made = super().__new__(cls, text)
+        made.drawn_by = drawn_by
+        return made
+
+    def _repr_svg_(self) -> str:
+        return str(self)
 
 
-def _panel(panel: Panel, top: float, low: float, high: float) -> Iterable[str]:
-    """One panel: its scales, its lines, and their names."""
-    values = [y for points in panel.lines.values() for _, y in points]
-    marks = ticks(min(values + ([0.0] if panel.zero else [])), max(values))
-    least, most = min(marks[0], min(values)), max(marks[-1], max(values))
-    right, bottom = WIDTH - RIGHT, top + PANEL - 20
+def chart(
+    title: str, across: str, panels: Sequence[Panel], data: Optional[Table] = None, x: Optional[str] = None,
+    by: str = OWN, width: int = WIDTH, across_unit: str = "", label: str = "",
+) -> Picture:
+    """A picture of panels one below the other, which share what goes across: `across` is its heading.
 
-    def place(x: float, y: float) -> Tuple[float, float]:
-        across = (x - low) / (high - low) if high > low else 0.5
-        up = (y - least) / (most - least) if most > least else 0.5
-        return LEFT + across * (right - LEFT), bottom - up * (bottom - top)
+    `data` is a table whose columns the panels name: rows (mappings, named tuples or other objects with attributes), a
+    mapping or a named tuple of columns, a frame of pandas, or an array of numpy with named columns. `x` is the column
+    that goes across; without it that is a frame's index, or else the number of the row, from 0 on. A number is any that
+    is real; None, and what is not a number (NaN, NA), is a gap in the line.
 
-    for mark in marks:
-        _, y = place(low, mark)
-        yield f'<path d="M{LEFT} {y:.1f}H{right}" stroke="#dddddd"/>'
-        yield _text(LEFT - 6, y + 4, f"{mark:,.10g}", "11px sans-serif", "end")
-    for mark in ticks(low, high):
-        if low <= mark <= high:
-            x, _ = place(mark, least)
-            yield _text(x, bottom + 15, f"{mark:,.10g}", "11px sans-serif", "middle")
-    yield _text(LEFT, top - 6, panel.title, "12px sans-serif")
-    for at, (name, points) in enumerate(panel.lines.items()):
-        colour, dash = COLOURS[at % len(COLOURS)], DASHES[at % len(DASHES)]
-        path = "L".join(f"{x:.1f} {y:.1f}" for x, y in (place(*point) for point in points))
-        yield f'<path d="M{path}" fill="none" stroke="{colour}" stroke-width="1.6" stroke-dasharray="{dash}"/>'
-        for x, y in (place(*point) for point in points if panel.dots):
-            yield f'<circle cx="{x:.1f}" cy="{y:.1f}" r="2.2" fill="{colour}"/>'
-        x = right - 150 * (len(panel.lines) - at)
-        yield f'<path d="M{x} {top - 10}h22" stroke="{colour}" stroke-width="1.6" stroke-dasharray="{dash}"/>'
-        yield _text(x + 27, top - 6, name, "11px sans-serif")
+    `by=MATPLOTLIB` has matplotlib draw it, where that is there; without it the picture is drawn as by `OWN`. `width` is
+    in points, from 240 to 4,000. `label` is what a reader of the screen says of the picture, the title otherwise.
 
-
-def ticks(low: float, high: float) -> List[float]:
-    """Round numbers from below `low` to above `high`, some five of them."""
-    if high <= low:
-        high = low + 1
-    rough = (high - low) / 5
-    unit = 10 ** math.floor(math.log10(rough))
-    step = next(factor * unit for factor in (1, 2, 2.5, 5, 10) if factor * unit >= rough * 0.999)
-    first, last = math.floor(low / step), math.ceil(high / step)
-    return [at * step for at in range(first, last + 1)]
+    Raises `BadValue` where there is nothing to draw, where there is no such column, where columns are of different
+    lengths, and at a number that is infinite or above 10^300; `BadType` at what is no number.
+    """
+    if by not in (OWN, MATPLOTLIB):
+        raise BadValue(f"{by!r} draws nothing: there are {OWN!r} and {MATPLOTLIB!r}")
+    if not WIDTH_LEAST <= width <= WIDTH_MOST:
+        raise BadValue(f"a picture is from {WIDTH_LEAST} to {WIDTH_MOST} points wide, not {width}")
+    # Rows that come once are asked for by each line.
+    table: Optional[Table] = list(data) if isinstance(data, Iterator) else data
+    scales = [_scale(panel, table, x) for panel in panels]
+    if not any(points for scale in scales for _, points in scale.lines):
+        raise BadValue("nothing to draw")
+    said = label or title or ", ".join(scale.title for scale in scales)
+    below = with_unit(across, across_unit)
+    plotted = plot(title, below, scales, width, said) if by == MATPLOTLIB else None
+    if plotted is not None:
+        return Picture(plotted, MATPLOTLIB)
+    return Picture(draw(title, below, scales, width, said))
 
 
-def _text(x: float, y: float, text: str, font: str, anchor: str = "start") -> str:
-    return f'<text x="{x:.1f}" y="{y:.1f}" style="font:{font}" text-anchor="{anchor}">{escape(text)}</text>'
+def _scale(panel: Panel, data: Optional[Table], x: Optional[str]) -> Scale:
+    """A panel with its points as floats."""
+    columns = [panel.lines] if isinstance(panel.lines, str) else panel.lines
+    named: Mapping[str, Any] = columns if isinstance(columns, Mapping) else {line: line for line in columns}
+    lines = [(str(name), points_of(line, str(name), data, x)) for name, line in named.items()]
+    return Scale(with_unit(panel.title, panel.unit), lines, panel.zero, panel.dots)
+
+
+def with_unit(heading: str, unit: str) -> str:
+    """A heading with its unit, as an axis bears it."""
+    return f"{heading} ({unit})" if unit else heading

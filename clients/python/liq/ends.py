@@ -3,10 +3,12 @@ import re
 from pathlib import Path
 from typing import Dict, Optional, Type, Union
 
+from .errors import LiqError
+
 Folder = Union[str, Path]
 
 
-class Unfit(Exception):
+class Unfit(LiqError):
     """A folder is not read, or not judged; its classes say why. liq itself has not ended."""
 
 
@@ -46,7 +48,7 @@ class MarketExists(Unfit):
         )
 
 
-class End(Exception):
+class End(LiqError):
     """liq has ended before its time. What it answered stands.
 
     `status` is that of the process, negative where a signal ended it. `last` is its last line, empty where there is
@@ -87,7 +89,32 @@ class WriteFault(End):
 
 
 class DiskFault(End):
-    """5: a file met a fault, or another process holds it. The pending command may stand or not."""
+    """5: a file met a fault, or liq may not use it. The pending command may stand or not.
+
+    `why` is what a look at the folder says of the reason, empty where it says nothing (`reasons`). Where that was seen
+    before the start no run was begun, and `last` is empty."""
+
+    def __init__(self, status: int, last: str = "", pending: Optional[str] = None, why: str = "") -> None:
+        super().__init__(status, last, pending)
+        self.args = (status, last, pending, why)
+        self.why = why
+
+    def __str__(self) -> str:
+        if self.why and not self.last:
+            return f"liq can't use its files: {self.why}"
+        return super().__str__() + (f" ({self.why})" if self.why else "")
+
+
+class Locked(DiskFault):
+    """Another process holds the files: a run, or whoever looks at them by a word of liq."""
+
+
+class NoSpace(DiskFault):
+    """The file system is full. What was answered stands."""
+
+
+class NotPermitted(DiskFault):
+    """The rights on the folder or on a file don't let liq read and write there, or let others write."""
 
 
 class Damaged(End):
@@ -111,6 +138,13 @@ class NotBuilt(End):
     """70: bin/liq of a checkout found no program and could not build one."""
 
 
+class NoProgram(NotBuilt):
+    """There is no program at a path, or the system runs none there. Nothing was begun."""
+
+    def __str__(self) -> str:
+        return self.last
+
+
 class Killed(End):
     """A signal ended it. The pending command may stand or not: send it again."""
 
@@ -123,7 +157,9 @@ BY_STATUS: Dict[int, Type[End]] = {
 
 def read_end(status: int, last: str = "", pending: Optional[str] = None) -> End:
     """The end that a status says. A shell tells a signal as 128 and its number."""
-    kind = Killed if status < 0 or status > 128 else BY_STATUS.get(status, End)
+    kind: Type[End] = BY_STATUS.get(status, End)
+    if status < 0 or status > 128:
+        kind = Killed
     return kind(status, last, pending)
 
 

@@ -1,6 +1,6 @@
 """A look at a market's files before a run: what liq would take for the market, and what stands behind its end.
 
-usage: python3 -m liq.guard [--note FILE] [--mend [--answered] [--dry-run]] FOLDER
+usage: python3 -m liq.guard [--note FILE] [--mend [--answered] [--dry-run]] [--json] FOLDER
 
 One byte in front of each record, and one in front of the header, is a gate: 1 says that what follows counts. No digest
 is over it. Where it is another byte, liq takes what follows for nothing, goes on from there, and writes over it. So a
@@ -18,7 +18,6 @@ finds something or can't look, and with 2 where the words are not understood. It
 --answered   with --mend: opens also what a stop may have left, for whoever knows that it was answered.
 --dry-run    with --mend: leaves it at the copy.
 """
-import argparse
 import contextlib
 import errno
 import fcntl
@@ -27,23 +26,31 @@ import os
 import stat
 import struct
 import sys
+from argparse import Namespace
 from pathlib import Path
-from typing import BinaryIO, Dict, Iterator, List, NamedTuple, Optional, Set, Tuple
+from typing import BinaryIO, Iterator, List, NamedTuple, Optional, Set, Tuple
 
 from .backup import DAY, LARGEST, fronts, open_copy
+from .console import add_forms, as_json, ended, parser_of
 from .ends import End, Folder, TooMuch, Unfit
 from .journal import FRONT_BYTES, KINDS, PIECE_BYTES, RECORD_BYTES, SIDES
 from .journal import DamagedFile, Header, copy_file, files_of, open_file, read_checkpoint, read_command, read_header
+from .progress import Bar
+from .reasons import distrusted
 from .scratch import bounded, scratch
 from .units import counted
 
 RECORDS_READ = 1_000_001  # the gate behind a full journal's last record is that of this one, and liq reads no further
 RECORDS_AT_ONCE = 8128
 TRIES = 100
-LINKS_MOST = 40  # that the system follows, one behind the other
 CLIENT_AND_NUMBER = struct.Struct(">4xIQ")
 NOTE_TITLE = "liq.guard: generation, records, and the digest of the last record, or of the header where there is none"
 NOTE_BYTES_MOST = 1000
+EXAMPLES = """
+python3 -m liq.guard --note /var/lib/liq/note /var/lib/liq/market && echo start
+python3 -m liq.guard --mend --dry-run market
+python3 -m liq.guard --json market | jq -r .findings[]
+"""
 
 
 class Held(Unfit):
@@ -147,7 +154,7 @@ class Seen(NamedTuple):
         return self.body_of(record)[96:] if record else self.header.digest
 
 
-def look_at(path: Path) -> Seen:
+def look_at(path: Path, bar: Optional[Bar] = None) -> Seen:
     """What a regular file has. It is read in pieces, and no further than a journal can reach."""
     with open_file(path) as file:
         size = os.fstat(file.fileno()).st_size
@@ -158,7 +165,9 @@ def look_at(path: Path) -> Seen:
             header = _read_header(seen, file)
         except DamagedFile as fault:
             return seen._replace(fault=(0, fault.why))
-        return _read_records(file, seen._replace(header=header))
+        bar = bar or Bar()
+        bar.begin(path.name, (size - header.begin) // RECORD_BYTES)
+        return _read_records(file, seen._replace(header=header), bar)
 
 
 def _read_header(seen: Seen, file: BinaryIO) -> Header:
@@ -174,7 +183,7 @@ def _read_header(seen: Seen, file: BinaryIO) -> Header:
     return header
 
 
-def _read_records(file: BinaryIO, seen: Seen) -> Seen:
+def _read_records(file: BinaryIO, seen: Seen, bar: Bar) -> Seen:
     """The records, and what stands behind them."""
     assert seen.header
     head = seen.header.generation.to_bytes(8, "big")
@@ -184,6 +193,8 @@ def _read_records(file: BinaryIO, seen: Seen) -> Seen:
     counts = True
     for piece in _places(file, seen.header.begin):
         index += 1
+        if index % RECORDS_AT_ONCE == 0:
+            bar.add(RECORDS_AT_ONCE)
         gate = piece[0]
         is_whole = _is_whole(head, index, piece)
         if counts and gate == 1 and len(piece) == RECORD_BYTES:
@@ -240,54 +251,6 @@ def read_at(file: BinaryIO, at: int, count: int) -> bytes:
 BRING_BACK = "bring back a copy"
 MEND = "start no run; see --mend, or bring back a copy"
 IF_ANSWERED = "If it was answered, the gate rotted: see --mend --answered"
-
-
-def distrusted(folder: Folder) -> Iterator[str]:
-    """Files that liq does not take, or that another may write: by what they are, whose, and under which names."""
-    user = os.geteuid()
-    taken: Dict[Tuple[int, int], str] = {}
-    for path in (Path(folder, f"{side}.liq") for side in SIDES):
-        try:
-            found = path.lstat()
-        except (FileNotFoundError, NotADirectoryError):
-            continue
-        if stat.S_ISLNK(found.st_mode):
-            for owner in owners_of_links(path):
-                if owner not in (user, 0):
-                    yield f"{path.name}: it is a link of user {owner}, and liq runs as {user}: make one of your own"
-            try:
-                found = path.stat()
-            except OSError:
-                yield f"{path.name}: it is a link to nothing"
-                continue
-        if not stat.S_ISREG(found.st_mode):
-            yield f"{path.name}: it is no regular file"
-            continue
-        if user and found.st_uid != user:
-            yield f"{path.name}: it belongs to user {found.st_uid}, and liq runs as {user}: chown it"
-        if found.st_mode & stat.S_IWOTH:
-            yield f"{path.name}: every user may write it: chmod o-w"
-        inode = found.st_dev, found.st_ino
-        if inode in taken:
-            yield f"{path.name}: it is the same file as {taken[inode]}"
-        elif found.st_nlink > 1:
-            yield (
-                f"{path.name}: the file has {found.st_nlink} names, and a run over another of them writes into this"
-                " market: copy it, and move the copy in its place"
-            )
-        taken[inode] = path.name
-
-
-def owners_of_links(path: Path) -> Iterator[int]:
-    """Whose a link is, and each that it leads to."""
-    for _ in range(LINKS_MOST):
-        with contextlib.suppress(OSError):
-            found = path.lstat()
-            if stat.S_ISLNK(found.st_mode):
-                yield found.st_uid
-                path = path.parent / os.readlink(path)
-                continue
-        return
 
 
 def said_of_records(seen: Seen, current: Optional[Seen]) -> Iterator[Line]:
@@ -394,27 +357,27 @@ class Look(NamedTuple):
         return [line for line in self.lines if line.is_finding]
 
 
-def look(folder: Folder) -> Look:
+def look(folder: Folder, bar: Optional[Bar] = None) -> Look:
     """Looks at both files. Beside a run they change, so what is said is what two looks say."""
-    first = _look_unrotated(Path(folder))
+    first = _look_unrotated(Path(folder), bar)
     if not first.lines:
         return first
-    second = _look_unrotated(Path(folder))
+    second = _look_unrotated(Path(folder), bar)
     return second._replace(lines=[line for line in second.lines if line in first.lines])
 
 
-def _look_unrotated(folder: Path) -> Look:
+def _look_unrotated(folder: Path, bar: Optional[Bar]) -> Look:
     """A look in which no rotation took a file behind its front, unless one does each time."""
     for _ in range(TRIES):
-        found = _look_once(folder)
+        found = _look_once(folder, bar)
         if fronts(seen.path for seen in found.files) == {seen.name: seen.front for seen in found.files}:
             break
     return found
 
 
-def _look_once(folder: Path) -> Look:
-    lines = [Line(text) for text in distrusted(folder)]
-    files = [look_at(path) for path in files_of(folder) if path.is_file()]
+def _look_once(folder: Path, bar: Optional[Bar]) -> Look:
+    lines = [Line(found.text) for found in distrusted(folder)]
+    files = [look_at(path, bar) for path in files_of(folder) if path.is_file()]
     journals = [seen for seen in files if seen.is_open and seen.header]
     current = max(journals, key=generation_of, default=None)
     for seen in files:
@@ -669,16 +632,22 @@ def held(folder: Folder) -> Iterator[None]:
 
 
 def guard(folder: Folder, note: Optional[Folder] = None) -> List[Line]:
-    """What is said of a market. A note is compared, and written anew where nothing is found. It is read before the
-    look, since another guard may write a newer one meanwhile."""
+    """What is said of a market (`judged`)."""
+    return judged(folder, note).lines
+
+
+def judged(folder: Folder, note: Optional[Folder] = None, bar: Optional[Bar] = None) -> Look:
+    """A look at a market. A note is compared, and written anew where nothing is found. It is read before the look,
+    since another guard may write a newer one meanwhile."""
     if note is None:
-        return look(folder).lines
+        return look(folder, bar)
     try:
         noted = read_note(note)
     except (Unfit, OSError) as fault:
-        return look(folder).lines + [Line(f"the note: {fault}")]
-    found = look(folder)
-    return found.lines + list(compared(found, note, noted))
+        found = look(folder, bar)
+        return found._replace(lines=found.lines + [Line(f"the note: {fault}")])
+    found = look(folder, bar)
+    return found._replace(lines=found.lines + list(compared(found, note, noted)))
 
 
 def compared(found: Look, path: Folder, note: Optional[Note]) -> Iterator[Line]:
@@ -710,33 +679,61 @@ def mended(folder: Folder, note: Optional[Folder], answered: bool, writes: bool)
 
 
 def main(words: List[str]) -> int:
-    said = (__doc__ or "").partition("\n")[0]
-    parser = argparse.ArgumentParser(prog="python3 -m liq.guard", description=said, allow_abbrev=False)
-    parser.add_argument("folder", metavar="FOLDER")
+    parser = parser_of("guard", __doc__, EXAMPLES)
+    parser.add_argument("folder", metavar="FOLDER", help="the market's folder")
     parser.add_argument("--note", metavar="FILE", help="compare with this note, and renew it where nothing is found")
     parser.add_argument("--mend", action="store_true", help="open the gates that rotted: on a copy first")
     parser.add_argument("--answered", action="store_true", help="with --mend: also what a stop may have left")
     parser.add_argument("--dry-run", action="store_true", help="with --mend: leave it at the copy")
+    add_forms(parser)
     asked = parser.parse_args(words)
     if (asked.answered or asked.dry_run) and not asked.mend:
         parser.error("--answered and --dry-run go with --mend")
-    refused = False
-    try:
-        if asked.mend:
+    return ended("guard", lambda: _mended_and_judged(asked), asked.json)
+
+
+def _mended_and_judged(asked: Namespace) -> int:
+    """Mends where that is asked for, and looks. Gives the status."""
+    told: List[str] = []
+    refused, found = False, Look(Path(asked.folder), [], None, [])
+
+    def say(text: str) -> None:
+        if asked.json:
+            told.append(text)
+        else:
+            print(text)
+
+    if asked.mend:
+        try:
             with bounded(DAY):
                 for text in mended(asked.folder, asked.note, asked.answered, not asked.dry_run):
-                    print(text)
-    except (Unfit, OSError) as fault:
-        print(f"guard opens no gate: {fault}")
-        refused = True
+                    say(text)
+        except (Unfit, OSError) as fault:
+            say(f"guard opens no gate: {fault}")
+            refused = True
     try:
-        lines = guard(asked.folder, asked.note)
+        with Bar() as bar:
+            found = judged(asked.folder, asked.note, bar)
     except (Unfit, OSError) as fault:
-        lines = [Line(f"the guard can't look: {fault}")]
-    for line in lines:
-        print(line.text)
-    return 1 if refused or any(line.is_finding for line in lines) else 0
+        found = found._replace(lines=[Line(f"the guard can't look: {fault}")])
+    may_start = not refused and not found.found
+    if asked.json:
+        sys.stdout.write(as_json({
+            "folder": asked.folder, "may_start": may_start, "generation": generation_of(found.current) or None,
+            "records": found.current.records if found.current else None,
+            "findings": [line.text for line in found.found],
+            "left_by_a_stop": [line.text for line in found.lines if not line.is_finding], "mended": told,
+        }))
+    else:
+        for line in found.lines:
+            print(line.text)
+    return 0 if may_start else 1
+
+
+def command() -> int:
+    """The command, with the words of its process."""
+    return main(sys.argv[1:])
 
 
 if __name__ == "__main__":
-    sys.exit(main(sys.argv[1:]))
+    sys.exit(command())

@@ -71,9 +71,9 @@ def check_form(disk: Disk, made: Checkpoint) -> None:
         raise DamagedFile(disk.path, 0, f"its checkpoint has an empty row in {table}")
 
 
-def replay(market: Market, disk: Disk, each: Optional[Callable[[int], None]] = None) -> None:
-    """Carries out a generation's records, and calls `each` behind each of them. Raises `DamagedFile` at one that the
-    rules refuse, or that comes again; then the market is as the records before it leave it."""
+def replay(market: Market, disk: Disk, each: Optional[Callable[[int], object]] = None) -> None:
+    """Carries out a generation's records, and calls `each` behind each of them, with its number. Raises `DamagedFile`
+    at one that the rules refuse, or that comes again; then the market is as the records before it leave it."""
     for index, command in enumerate(disk.commands, 1):
         if is_repeated(market, command):
             raise DamagedFile(disk.path, index, f"it comes again: {command.line}")

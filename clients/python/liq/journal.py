@@ -14,7 +14,8 @@ import struct
 from pathlib import Path
 from typing import BinaryIO, Dict, Iterator, List, NamedTuple, Optional, Tuple
 
-from .ends import Folder, TooMuch, Unfit
+from .ends import Folder, NoJournal, TooMuch, Unfit
+from .errors import LiqError
 
 VERBS: Dict[str, str] = {  # in the order of their kinds; a for an account, v for an amount, h for a hint
     "price": "v", "advance": "v", "fund": "av", "take": "av", "send": "aav", "open": "avvvhh", "adjust": "avvvvvhh",
@@ -59,7 +60,7 @@ class NoRegularFile(Unfit):
         return f"{self.path} is no regular file"
 
 
-class Unknown(Exception):
+class Unknown(LiqError):
     """The records that it would take to tell are gone by two rotations."""
 
 
@@ -86,6 +87,9 @@ class Command(NamedTuple):
         return f"{self.client} {self.number} {self.call}"
 
 
+Data = bytes  # as the header below has it, a field of which has the name of the type
+
+
 class Header(NamedTuple):
     """How a file begins: how many bytes that has, where the records begin, and the digest over the fields and the
     checkpoint."""
@@ -93,8 +97,8 @@ class Header(NamedTuple):
     bytes: int
     generation: int
     begin: int
-    fields: bytes
-    digest: bytes
+    fields: Data
+    digest: Data
 
 
 def read_header(path: Path, front: bytes, size: int) -> Header:
@@ -162,13 +166,13 @@ class Disk:
 
 class Journal:
     """Both files of a market, each of at most `most` bytes. `current` counts, `earlier` is the generation before it,
-    where its file still has it."""
+    where its file still has it. Raises `NoJournal` where neither holds a journal."""
 
     def __init__(self, folder: Folder, most: int = BYTES_MOST) -> None:
         self.folder = Path(folder)
         disks = [disk for disk in (Disk(self.folder / f"{side}.liq", most) for side in SIDES) if disk.open]
         if not disks:
-            raise FileNotFoundError(f"no journal in {folder}")
+            raise NoJournal(folder)
         disks.sort(key=lambda disk: disk.generation)
         self.current = disks[-1]
         before = [disk for disk in disks if disk.generation == self.current.generation - 1]
@@ -318,15 +322,15 @@ def read_checkpoint(path: Path, data: bytes, header: int) -> Optional[Checkpoint
     reader = _Reader(path, data)
     reader.at = 8
     words = reader.numbers(*[8] * 14, 16, 16, 8, 8, 8, 16, 8, 8, 16, 8, 8)
-    made = Checkpoint(
+    made = Checkpoint._make((
         names[data[:8]], *words,
-        wallets={account: (coll, lusd) for account, (coll, lusd) in reader.table(4, 8, 8)},
-        troves={account: _trove(reader, row) for account, row in reader.table(4, 8, 8, 8, 16, 16)},
-        surpluses={account: coll for account, (coll,) in reader.table(4, 8)},
-        finished={(place >> 64, place % 2**64): grown for place, (grown,) in reader.table(16, 16)},
-        deposits={account: _deposit(reader, row) for account, row in reader.table(4, 8, 16, 16, 8, 8)},
-        clients={client: _kept(reader, row) for client, row in reader.table(4, 8, 1, *[8] * 6)},
-    )
+        {account: (coll, lusd) for account, (coll, lusd) in reader.table(4, 8, 8)},
+        {account: _trove(reader, row) for account, row in reader.table(4, 8, 8, 8, 16, 16)},
+        {account: coll for account, (coll,) in reader.table(4, 8)},
+        {(place >> 64, place % 2**64): grown for place, (grown,) in reader.table(16, 16)},
+        {account: _deposit(reader, row) for account, row in reader.table(4, 8, 16, 16, 8, 8)},
+        {client: _kept(reader, row) for client, row in reader.table(4, 8, 1, *[8] * 6)},
+    ))
     if reader.at != len(data):
         raise reader.fault("something follows")
     return made

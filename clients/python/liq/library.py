@@ -1,4 +1,9 @@
-"""libliq.so, the engine as a library: where it is, whether it fits, and what its calls take (clients/c/liq.h)."""
+"""libliq.so, the engine as a library: where it is, whether it fits, and what its calls take (clients/c/liq.h).
+
+It is looked for in this order: LIQ_LIBRARY names it; beside the modules of this package, where a wheel has it; in the
+checkout in which the package lies; and where scripts/install puts it, beside an installed package or under the prefix
+of this Python, /usr/local and /usr.
+"""
 import ctypes
 import functools
 import os
@@ -21,8 +26,9 @@ QUERY_BYTES = 8
 NEEDED = {"cx16", "lahf_lm", "pni", "popcnt", "sse4_1", "sse4_2", "ssse3"}  # x86-64-v2, as Linux calls it
 HERE = Path(__file__).resolve().parent
 TOP = HERE.parents[2]  # of a checkout
-PLACES = (  # where the library is looked for: beside the package, as installed, in a checkout
-    HERE / "libliq.so", HERE.parents[1] / "libliq.so.1", TOP / "crates/liq_c/out/libliq.so",
+PLACES = (  # where the library is looked for: beside the package, in its checkout, and installed
+    HERE / "libliq.so", TOP / "crates/liq_c/out/libliq.so", HERE.parents[1] / "libliq.so.1",
+    *(Path(prefix, "lib/libliq.so.1") for prefix in dict.fromkeys((sys.prefix, "/usr/local", "/usr"))),
 )
 
 
@@ -90,7 +96,9 @@ class Bound:
     def __init__(self, opened: ctypes.CDLL, of_items: Shape) -> None:
         for name, shape in CALLS.items():
             call = opened[f"liq_{name}"]
-            call.restype, call.argtypes = of_items if shape is ITEMS else shape
+            call.restype, takes = of_items if shape is ITEMS else shape
+            if takes is not None:
+                call.argtypes = takes
             setattr(self, name, call)
 
     def __getattr__(self, name: str) -> Any:

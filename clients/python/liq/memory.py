@@ -15,19 +15,22 @@ import struct
 import threading
 import weakref
 from array import array
+from pathlib import Path
 from types import TracebackType
-from typing import Any, Iterable, List, Optional, Sequence, Tuple, Type
+from typing import Any, List, Optional, Sequence, Tuple, Type
 
 from .batch import COMMANDS, QUERIES, BatchStopped, Given, Why, address_of
 from .client import ACCOUNTS, AMOUNTS, NO_HINTS, Calls, Row
 from .ends import Folder, NoJournal
+from .errors import BadValue, LiqError, NotReady, OutOfMemory
 from .journal import BYTES_MOST, LIMITS, RECORD_BYTES, RECORDS_MOST, DamagedFile, Disk, Journal, holds_journal
 from .library import ACCEPTED, BAD, DEPOSITS, ITEM_BYTES, NO_MEMORY, OK, SHORT, TOLD, TOUCHED, TROVES, WALLETS
 from .library import Library, Place, load_library
-from .packed import ASKED, FORMS, check_numbers, fault_in, hint_words, pack_query
+from .packed import ASKED, FORMS, fault_in, hint_words, pack_query
 from .queries import Queries
 from .refusals import JournalFull, Refusal
 from .replies import Done, System
+from .units import Whole, all_within, within
 
 ROTATING = 0  # who rotates, where no other client is named
 ROWS_AT_ONCE = 2**16
@@ -40,15 +43,15 @@ new_tuple = tuple.__new__
 ONE = ctypes.c_size_t(1)
 
 
-class MarketClosed(Exception):
+class MarketClosed(LiqError):
     """The market was closed."""
 
 
-class Busy(Exception):
+class Busy(LiqError):
     """Another thread's call is in this market, which is for one at a time. Other markets, and forks of it, are free."""
 
 
-class BadSave(ValueError):
+class BadSave(BadValue):
     """The bytes are not what `save` gave: they were damaged or cut short, or something else made them."""
 
 
@@ -92,14 +95,13 @@ class Market(Queries):
     threads has forks of all its markets; where there were other threads it may call none.
     """
 
-    def __init__(self, library: Optional[Folder] = None, rotating: Optional[int] = ROTATING) -> None:
+    def __init__(self, library: Optional[Folder] = None, rotating: Optional[Whole] = ROTATING) -> None:
         self._set_up(load_library(library), rotating)
         must(self._calls.one.open(self._held.at))
 
-    def _set_up(self, calls: Library, rotating: Optional[int]) -> None:
+    def _set_up(self, calls: Library, rotating: Optional[Whole]) -> None:
         """A place, without a market yet."""
-        check_numbers(() if rotating is None else (rotating,), ACCOUNTS)
-        self.rotating, self._calls = rotating, calls
+        self.rotating, self._calls = None if rotating is None else within(rotating, ACCOUNTS), calls
         self._held, self._sent, self._reply = Held(), bytearray(ITEM_BYTES), bytearray(ITEM_BYTES)
         sent_at, reply_at = (ctypes.c_void_p(address_of(it)) for it in (self._sent, self._reply))
         self._item = self._held.at, sent_at, ONE, reply_at, ONE  # what each call of one item takes
@@ -107,7 +109,7 @@ class Market(Queries):
         self._end.atexit = False  # at the end of the process a thread may still be in a call
 
     @classmethod
-    def _empty(cls, calls: Library, rotating: Optional[int]) -> "Market":
+    def _empty(cls, calls: Library, rotating: Optional[Whole]) -> "Market":
         made = cls.__new__(cls)
         made._set_up(calls, rotating)
         return made
@@ -121,6 +123,11 @@ class Market(Queries):
                 self._held.at = None
                 self._end.detach()
                 self._calls.one.close(at)
+
+    @property
+    def library(self) -> Path:
+        """The library that it is a market of."""
+        return self._calls.path
 
     @property
     def closed(self) -> bool:
@@ -155,7 +162,7 @@ class Market(Queries):
         return bytes(saved)
 
     @classmethod
-    def load(cls, saved: bytes, library: Optional[Folder] = None, rotating: Optional[int] = ROTATING) -> "Market":
+    def load(cls, saved: bytes, library: Optional[Folder] = None, rotating: Optional[Whole] = ROTATING) -> "Market":
         """The market that was saved. Raises `BadSave`. Nobody knows the history of one that comes in."""
         made, data = cls._empty(load_library(library), rotating), bytearray(memoryview(saved))
         status = made._calls.many.load(made._held.at, address_of(data), len(data))
@@ -170,7 +177,7 @@ class Market(Queries):
     @classmethod
     def of_folder(
         cls, folder: Folder, most: int = BYTES_MOST, library: Optional[Folder] = None,
-        rotating: Optional[int] = ROTATING,
+        rotating: Optional[Whole] = ROTATING,
     ) -> "Market":
         """The market that stands on a folder's files, each of at most `most` bytes. Nothing is written there, and no
         run may have them open: `liq.backup` copies them beside one. Raises `NoJournal`, or `DamagedFile` as
@@ -203,7 +210,7 @@ class Market(Queries):
 
     # ---- commands
 
-    def client(self, client: int) -> "MarketClient":
+    def client(self, client: Whole) -> "MarketClient":
         """A client of this market. The market numbers its commands, so there may be several of one number."""
         return MarketClient(self, client)
 
@@ -229,16 +236,14 @@ class Market(Queries):
         return read(self._reply, 8) if self._reply[2] else None
 
     def _row(self, query: str, *accounts: int) -> Optional[Sequence[int]]:
-        check_numbers(accounts, ACCOUNTS)
         with self._held:
             return self._told(query, *accounts)
 
-    def _rows(self, query: str, accounts: Iterable[int]) -> List[Optional[Sequence[int]]]:
-        asked, wanted = ASKED[query], list(accounts)
-        check_numbers(wanted, ACCOUNTS)
+    def _rows(self, query: str, accounts: Sequence[int]) -> List[Optional[Sequence[int]]]:
+        asked = ASKED[query]
         rows: List[Optional[Sequence[int]]] = []
-        for begin in range(0, len(wanted), ROWS_AT_ONCE):
-            part = array("I", wanted[begin : begin + ROWS_AT_ONCE])
+        for begin in range(0, len(accounts), ROWS_AT_ONCE):
+            part = array("I", accounts[begin : begin + ROWS_AT_ONCE])
             queries = array("I", [asked.topic, 0]) * len(part)
             queries[1::2] = part
             rows += [told[1:] if told[0] else None for told in asked.read_all(self.query(queries))]
@@ -256,7 +261,8 @@ class Market(Queries):
         and go as `do`, another market or `liq run` may take them. Where the market is full it rotates: see
         `rotating`."""
         given = Given(commands, COMMANDS, is_written=True)
-        done, why = 0, None
+        done = 0
+        why: Optional[Why] = None
         with self._held as at:
             while why is None and done < given.count:
                 try:
@@ -318,22 +324,22 @@ class Market(Queries):
     def ask(self, line: str) -> List[str]:
         """The words of the reply to a line. A client of its own numbers commands: see `client`."""
         if "\n" in line:
-            raise ValueError("more than one line")
+            raise BadValue("more than one line")
         return self.lines(line + "\n")[0].split(" ")
 
     # ---- lists of accounts
 
-    def trove_accounts(self, first: int = 0, most: Optional[int] = None) -> List[int]:
+    def trove_accounts(self, first: Whole = 0, most: Optional[Whole] = None) -> List[int]:
         """Who has a trove, in the order of the list: from the one of the lowest ratio on, which is liquidated and
         redeemed first. Those from index `first` on, and at most so many: all in one call take one walk along the list,
         and each page walks to its `first` again."""
         return self._accounts(TROVES, first, most)
 
-    def deposit_accounts(self, first: int = 0, most: Optional[int] = None) -> List[int]:
+    def deposit_accounts(self, first: Whole = 0, most: Optional[Whole] = None) -> List[int]:
         """Who has a deposit in the Stability Pool, ascending."""
         return self._accounts(DEPOSITS, first, most)
 
-    def wallet_accounts(self, first: int = 0, most: Optional[int] = None) -> List[int]:
+    def wallet_accounts(self, first: Whole = 0, most: Optional[Whole] = None) -> List[int]:
         """Whose wallet is not empty, ascending."""
         return self._accounts(WALLETS, first, most)
 
@@ -342,8 +348,8 @@ class Market(Queries):
         `liquidate_lowest` and `redeem` the owners. Nobody in a fork, and in a market that was loaded."""
         return self._accounts(TOUCHED, 0, None)
 
-    def _accounts(self, which: int, first: int, most: Optional[int]) -> List[int]:
-        check_numbers((first,) if most is None else (first, most), AMOUNTS)
+    def _accounts(self, which: int, first: Whole, most: Optional[Whole]) -> List[int]:
+        first, most = within(first, AMOUNTS), None if most is None else within(most, AMOUNTS)
         found: List[int] = []
         with self._held as at:
             # Each call walks the list of troves to where it begins, so they come in one.
@@ -366,9 +372,8 @@ class MarketClient(Calls):
     """A client of a market in memory: its commands as typed calls, each under its next number, which the market
     knows."""
 
-    def __init__(self, market: Market, client: int) -> None:
-        check_numbers((client,), ACCOUNTS)
-        self.market, self.client = market, client
+    def __init__(self, market: Market, client: Whole) -> None:
+        self.market, self.client = market, within(client, ACCOUNTS)
         self._call, self._is_numbered = market._calls.one.next, True
         self._parts = market._held, market._sent, market._reply, market._item
 
@@ -383,17 +388,19 @@ class MarketClient(Calls):
         return Preview(self.market, self.client)
 
     def _send(
-        self, row: Type[Row], verb: str, accounts: Sequence[int], amounts: Sequence[int],
-        hints: Optional[Sequence[Optional[int]]] = None,
+        self, row: Type[Row], verb: str, accounts: Sequence[Whole], amounts: Sequence[Whole],
+        hints: Optional[Sequence[Optional[Whole]]] = None,
     ) -> Row:
         # Much of it is written out, for it is all that a typed call costs beside the rules.
         kind, pack_into, read = FORMS[verb]
         for account in accounts:
             if type(account) is not int or not 0 <= account < ACCOUNTS:
-                check_numbers((account,), ACCOUNTS)
+                accounts = all_within(accounts, ACCOUNTS)
+                break
         for amount in amounts:
             if type(amount) is not int:
-                check_numbers((amount,), AMOUNTS)
+                amounts = all_within(amounts, AMOUNTS)
+                break
         words = () if hints is None else NO_WORDS if hints is NO_HINTS else hint_words(hints)
         number = 0 if self._is_numbered else self.next_number
         held, sent, reply, item = self._parts
@@ -406,14 +413,16 @@ class MarketClient(Calls):
             reply[0] = 0
             self._call(*item)
             if reply[0] == ACCEPTED and reply[1] == kind:
-                return new_tuple(row, read(reply, 8)) if read else DONE  # as row(*read(reply, 8)), in half the time
+                told: Row = new_tuple(row, read(reply, 8)) if read else DONE  # row(*read(reply, 8)), in half the time
+                return told
             fault = fault_in(reply)
         except struct.error:
-            check_numbers(amounts, AMOUNTS)
+            all_within(amounts, AMOUNTS)
             raise
         finally:
             held.lock.release()
-        return self._behind(fault, row, verb, accounts, amounts, hints)
+        sent_again: Row = self._behind(fault, row, verb, accounts, amounts, hints)
+        return sent_again
 
     def _behind(self, fault: Exception, *command: Any) -> Any:
         """What comes of a command behind a refusal: where the market was full it is sent again, behind a rotation."""
@@ -426,7 +435,7 @@ class MarketClient(Calls):
 class Preview(MarketClient):
     """What a client's next command would be replied, as typed calls; nothing changes."""
 
-    def __init__(self, market: Market, client: int) -> None:
+    def __init__(self, market: Market, client: Whole) -> None:
         super().__init__(market, client)
         self._call, self._is_numbered = market._calls.one.preview, False
 
@@ -460,6 +469,6 @@ def load_again(saved: bytes, rotating: Optional[int]) -> Market:
 def must(status: int) -> None:
     """Raises what a status says that may be none but that there was no memory."""
     if status == NO_MEMORY:
-        raise MemoryError("there was no memory for it, and nothing changed")
+        raise OutOfMemory("there was no memory for it, and nothing changed")
     if status != OK:
-        raise RuntimeError(f"the library gave {status}")
+        raise NotReady(f"the library gave {status}")

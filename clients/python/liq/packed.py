@@ -3,11 +3,13 @@
 import struct
 from typing import Any, Callable, Dict, Iterable, Iterator, NamedTuple, Optional, Sequence, Tuple, Type
 
-from .client import ACCOUNTS, pair, spelt
+from .client import ACCOUNTS, pair
+from .errors import NotReady, OutOfMemory
 from .journal import FIELDS, KINDS, NO_HINT, VERBS
 from .library import ITEM_BYTES, OUT_OF_MEMORY, REFUSED, TOPICS
 from .refusals import refusal_of
-from .replies import BY_QUERY, BY_VERB
+from .replies import BY_QUERY, BY_VERB, told_fields
+from .units import Whole, within
 
 Numbers = Tuple[int, ...]
 FIELD = {"a": (4, "I"), "v": (8, "Q"), "h": (4, "I")}
@@ -49,8 +51,8 @@ def asked_by(topic: int, count: int) -> Asked:
 
 
 def width(row: Optional[Type[Any]]) -> int:
-    """How many numbers a row has; that of a client's next number is one."""
-    return len(row._fields) if row else 1
+    """How many numbers a reply has for a row; for a client's next number it is one."""
+    return len(told_fields(row)) if row else 1
 
 
 FORMS: Dict[str, Form] = {verb: form_of(verb) for verb in VERBS}
@@ -65,19 +67,11 @@ def fault_in(reply: Any) -> Exception:
         words = struct.unpack_from(f"<{2 * count}Q", reply, 8)
         return refusal_of(which, [low | high << 64 for low, high in zip(words[::2], words[1::2])])
     if kind == OUT_OF_MEMORY:
-        return MemoryError("there was no memory for it, and nothing changed")
-    return RuntimeError(f"no reply to this: {bytes(reply[:16]).hex()}")
+        return OutOfMemory("there was no memory for it, and nothing changed")
+    return NotReady(f"no reply to this: {bytes(reply[:16]).hex()}")
 
 
-def check_numbers(numbers: Iterable[int], limit: int) -> None:
-    """Raises the error of the first that is no whole number below the limit: a TypeError or a ValueError."""
-    for number in numbers:
-        if type(number) is not int or not 0 <= number < limit:
-            spelt((number,), limit)
-
-
-def hint_words(hints: Sequence[Optional[int]]) -> Tuple[int, int]:
+def hint_words(hints: Sequence[Optional[Whole]]) -> Tuple[int, int]:
     """Two hints as they are packed."""
-    before, after = pair(hints)
-    check_numbers([hint for hint in hints if hint is not None], ACCOUNTS)
-    return NO_HINT if before is None else before, NO_HINT if after is None else after
+    before, after = (NO_HINT if hint is None else within(hint, ACCOUNTS) for hint in pair(hints))
+    return before, after

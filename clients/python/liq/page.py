@@ -1,6 +1,6 @@
-"""A market on one page of HTML, without scripts and without parts from elsewhere.
+"""A market on one page of HTML, without scripts and without parts from elsewhere; or the same numbers as JSON.
 
-usage: python3 -m liq.page [--seconds N] FOLDER > page.html
+usage: python3 -m liq.page [--json] [--seconds N] FOLDER > page.html
 
 It works on copies, so liq may run meanwhile. What it shows is what `liq report` tells, beside the pools; the order of
 the list of troves is read from a checkpoint, which the copy is made to write. What is liquidated at other prices is
@@ -8,47 +8,41 @@ tried out on further copies (`risk`).
 
 The folder may be anybody's. Each file may have 2^28 bytes, and the whole may take N seconds, an hour unless another
 number is said: what passes that is refused (`TooMuch`). The copies are gone behind it, also where a signal ends it.
+
+It ends with 0, with 1 where a folder is refused, and with 2 where its words are not understood.
 """
+import json
 import sys
 from fractions import Fraction
-from html import escape
 from pathlib import Path
-from typing import Dict, Iterator, List, NamedTuple, Optional, Sequence, Tuple
+from typing import Any, Dict, List, NamedTuple, Optional, Sequence, Tuple
 
 from .backup import backup
 from .chart import Panel, chart
-from .ends import End, Folder, Unfit, Usage
+from .console import add_seconds, ended, parser_of, refused
+from .ends import Folder, Usage
+from .errors import LiqError
 from .journal import SIDES
+from .progress import Bar
 from .recheck import market, unused_client
 from .replies import Pools, System
 from .risk import Tried, try_prices
-from .scratch import bounded, scratch, words_of
+from .scratch import bounded, scratch
 from .service import Service
-from .units import GWEI, show_ether, show_lusd
+from .template import Form, Markup, Templates, head_of
+from .units import GWEI, WHOLE, show_ether, show_lusd
 from .words import Report, ReportedTrove, report
 
+PAGE = 1  # the form of the page's JSON
 SECONDS = 3600
 ROWS_MOST = 1000
 PRICE_LEAST, PRICE_MOST = 100 * 10**6, 10**6 * 10**6
 LEAST_RATIO, CRITICAL_RATIO = 110, 150
-STYLE = """
-body { font: 15px/1.5 system-ui, sans-serif; color: #1b1f24; background: #fff }
-body { max-width: 64rem; margin: 2rem auto; padding: 0 1rem }
-h1 { font-size: 1.6rem; margin: 0 }
-h2 { font-size: 1.15rem; margin: 2.2rem 0 .4rem }
-p { margin: .3rem 0; max-width: 46rem }
-.soft { color: #57606a }
-.words { display: flex; flex-wrap: wrap; gap: .6rem; margin: 1rem 0 }
-.words div { border: 1px solid #d0d7de; border-radius: 6px; padding: .5rem .9rem; min-width: 8rem }
-.words b { display: block; font-size: 1.2rem; font-variant-numeric: tabular-nums }
-.words span { color: #57606a; font-size: .85rem }
-table { border-collapse: collapse; width: 100%; font-variant-numeric: tabular-nums }
-th, td { text-align: right; padding: .25rem .6rem; border-bottom: 1px solid #e4e8ec }
-th { font-weight: 600; color: #57606a }
-th:first-child, td:first-child { text-align: left }
-tr.now td { background: #fdebe3 }
-.mark { color: #a33b0b; font-weight: 600 }
-svg { max-width: 100%; height: auto }
+LABEL = "Debt and number of the troves that liquidate_lowest takes, over the price"
+WIDE, NARROW = 960, 360  # of a picture, for a screen that has room and for one that has little
+EXAMPLES = """
+python3 -m liq.page /var/lib/liq > page.html
+python3 -m liq.page --json /var/lib/liq > page.json
 """
 
 
@@ -73,7 +67,7 @@ class Market(NamedTuple):
         return sum(each.troves for each in self.tried if each.price == self.report.system.price)
 
 
-def read_market(folder: Folder, program: Optional[Folder] = None) -> Market:
+def read_market(folder: Folder, program: Optional[Folder] = None, bar: Optional[Bar] = None) -> Market:
     """A market, read from copies of a folder's files."""
     with scratch(folder, "liq-page") as room:
         backup(folder, room)
@@ -89,16 +83,15 @@ def read_market(folder: Folder, program: Optional[Folder] = None) -> Market:
         low, high = range_of_prices(shown)
         return shown._replace(tried=try_prices(
             file, [debts[account] for account in reversed(shown.order)], unused_client(found.clients), low, high,
-            reported.system.price, program))
+            reported.system.price, program, bar))
 
 
 # ---- who can be liquidated at which price
 
 
-def percent(coll: int, debt: int, price: int) -> str:
-    """The ratio of collateral to debt in percent, cut off behind two places."""
-    hundredths = 10_000 * coll * price // (debt * GWEI)
-    return f"{hundredths // 100:,}.{hundredths % 100:02} %"
+def ratio_of(coll: int, debt: int, price: int) -> int:
+    """The ratio of collateral to debt in hundredths of a percent, cut off."""
+    return 10_000 * coll * price // (debt * GWEI)
 
 
 def highest_price_below(ratio: int, coll: int, debt: int) -> int:
@@ -129,142 +122,133 @@ def range_of_prices(shown: Market) -> Tuple[int, int]:
     return max(PRICE_LEAST, min(own[1], now)), min(PRICE_MOST, max(high, now))
 
 
+# ---- what is told
+
+
+def told(shown: Market) -> Dict[str, Any]:
+    """What is shown, as JSON has it: whole numbers, under names. The page shows these, some of them cut off."""
+    system, pools, found = shown.report.system, shown.pools, shown.report
+    by_ratio = _by_ratio(shown)
+    return {
+        "liq_page": PAGE,
+        "units": "LUSD, debt and prices in millionths, ether and stakes in gwei, ratios and parts in hundredths of a "
+        "percent and cut off, the base rate over 10^18",
+        "records": system.records,
+        "minute": system.minute,
+        "price": system.price,
+        "mode": "recovery" if system.recovery else "normal",
+        "ratio": ratio_of(system.coll, system.debt, system.price) if system.debt else None,
+        "troves": system.troves,
+        "taken_now": shown.taken_now,
+        "marked_now": sum(row["now"] for row in by_ratio),
+        "base_rate": system.base_rate,
+        "fee_minute": system.fee_minute,
+        "stakes": system.stakes,
+        "pool": {
+            "lusd": pools.pool_lusd, "coll": pools.pool_coll, "p": found.p, "scale": found.scale,
+            "epoch": found.epoch, "sum": found.sum,
+        },
+        "tried": [row._asdict() for row in shown.tried],
+        "by_ratio": by_ratio,
+        "by_list": _by_list(shown),
+        "deposits": _deposits(shown),
+        "homes": _homes(shown),
+    }
+
+
+def _by_ratio(shown: Market) -> List[Dict[str, Any]]:
+    """All troves, the lowest ratio first. `now` is whether one can be liquidated by itself at the price of now."""
+    prices, price = shown.prices, shown.report.system.price
+    rows = []
+    for trove in sorted(shown.report.troves, key=lambda trove: Fraction(trove.coll, trove.debt)):
+        at_most = prices[trove.account]
+        rows.append({
+            "account": trove.account, "coll": trove.coll, "debt": trove.debt,
+            "ratio": ratio_of(trove.coll, trove.debt, price), "at_most": at_most,
+            "now": at_most is not None and at_most >= price,
+        })
+    return rows
+
+
+def _by_list(shown: Market) -> List[Dict[str, Any]]:
+    """All troves from the end of the list."""
+    found, price = {trove.account: trove for trove in shown.report.troves}, shown.report.system.price
+    rows = []
+    for place, account in enumerate(reversed(shown.order), 1):
+        trove = found[account]
+        rows.append({
+            "place": place, "account": account, "coll": trove.coll, "debt": trove.debt, "stake": trove.stake,
+            "ratio": ratio_of(trove.coll, trove.debt, price),
+        })
+    return rows
+
+
+def _deposits(shown: Market) -> List[Dict[str, Any]]:
+    """All deposits, the greatest first. `part` is that of the whole pool."""
+    whole = shown.pools.pool_lusd
+    return [
+        {
+            "account": row.account, "balance": row.balance, "part": 10_000 * row.balance // whole if whole else None,
+            "gain": row.gain,
+        }
+        for row in sorted(shown.report.deposits, key=lambda deposit: (-deposit.balance, deposit.account))]
+
+
+def _homes(shown: Market) -> List[Dict[str, Any]]:
+    """Where all ether and LUSD of the market is."""
+    system, pools = shown.report.system, shown.pools
+    rows: List[Tuple[str, Optional[int], Optional[int]]] = [
+        ("all troves", system.coll, system.debt),
+        ("of these recorded (active pool)", pools.active_coll, pools.active_debt),
+        ("and spread since (default pool)", pools.default_coll, pools.default_debt),
+        ("Stability Pool", pools.pool_coll, pools.pool_lusd),
+        ("reserve for liquidators", None, pools.reserve),
+        ("surplus to claim", pools.surplus, None),
+        ("fees", pools.fee_coll, pools.fee_lusd),
+    ]
+    return [{"home": home, "coll": coll, "lusd": lusd} for home, coll, lusd in rows]
+
+
+def as_json(shown: Market) -> str:
+    """What the page shows, as JSON: all rows, exactly."""
+    return json.dumps(told(shown), indent=1) + "\n"
+
+
 # ---- the page
 
 
 def page(shown: Market) -> str:
     """The page."""
-    prices = shown.prices
-    parts = [
-        '<!DOCTYPE html><html lang="en"><head><meta charset="utf-8">',
-        '<meta name="viewport" content="width=device-width"><title>A liq market</title>',
-        f"<style>{STYLE}</style></head><body>",
-        *_head(shown),
-        *_risk(shown),
-        *_by_ratio(shown, prices),
-        *_by_list(shown),
-        *_pool(shown),
-        *_totals(shown),
-        "</body></html>",
-    ]
-    return "\n".join(parts) + "\n"
+    values = told(shown)
+    cut = {name: _cut(values[name]) for name in ("tried", "by_ratio", "by_list", "deposits")}
+    return Templates(FORMS).fill("market.html", {
+        **values, **cut, **head_of("A liq market"), "contents": [
+            {"name": name, "title": title} for name, title in CONTENTS if name != "risk" or shown.tried],
+        "wide": _picture(shown.tried, WIDE), "narrow": _picture(shown.tried, NARROW),
+    })
 
 
-def _head(shown: Market) -> Iterator[str]:
-    system = shown.report.system
-    mode = "Recovery Mode" if system.recovery else "Normal Mode"
-    ratio = percent(system.coll, system.debt, system.price) if system.debt else "no debt"
-    yield "<h1>The market</h1>"
-    yield f'<p class="soft">after {system.records:,} commands of this generation, at minute {system.minute:,}</p>'
-    yield '<div class="words">'
-    for name, value in [
-        ("LUSD for one ether", _lusd(system.price)), (mode, ratio), ("troves", f"{system.troves:,}"),
-        ("that liquidate_lowest takes now", f"{shown.taken_now:,}"),
-        ("LUSD in the Stability Pool", _lusd(shown.pools.pool_lusd)),
-    ]:
-        yield f"<div><b>{value}</b><span>{escape(name)}</span></div>"
-    yield "</div>"
+def _cut(rows: List[Dict[str, Any]]) -> Dict[str, Any]:
+    """As many rows as a table shows, and how many are left out."""
+    return {"rows": rows[:ROWS_MOST], "all": len(rows), "left_out": max(0, len(rows) - ROWS_MOST)}
 
 
-def _risk(shown: Market) -> Iterator[str]:
-    """What is liquidated at which price."""
-    if not shown.tried:
-        return
-    yield "<h2>What is liquidated at which price</h2>"
-    yield f"<p>Each of the {len(shown.tried)} dots was tried on a copy: the price was set, and <code>liquidate_lowest"
-    yield "</code> sent until it was refused. A dot shows how many troves it liquidated, and the debt that these have "
-    yield "now. Between two dots nothing was tried; they are closer where more changes. Where <code>liquidate_lowest"
-    yield "</code> stops, a <code>liquidate</code> of a single trove may still be accepted.</p>"
-    debts = [(each.price / 10**6, each.debt / 10**6) for each in shown.tried]
-    counts = [(each.price / 10**6, float(each.troves)) for each in shown.tried]
-    yield chart("", "LUSD for one ether", [
-        Panel("LUSD of debt", {"liquidated": debts}, dots=True), Panel("troves", {"liquidated": counts}, dots=True),
-    ])
+def _picture(tried: Sequence[Tried], width: int) -> Markup:
+    """What is liquidated at which price, drawn by the own hand: so the page is the same on each machine."""
+    if not tried:
+        return Markup()
+    debts = [(each.price / 10**6, each.debt / 10**6) for each in tried]
+    counts = [(each.price / 10**6, each.troves) for each in tried]
+    return Markup(chart("", "price of one ether", [
+        Panel("debt of the troves", {"liquidated": debts}, dots=True, unit="LUSD"),
+        Panel("how many troves", {"liquidated": counts}, dots=True),
+    ], width=width, across_unit="LUSD", label=LABEL))
 
 
-def _by_ratio(shown: Market, prices: Dict[int, Optional[int]]) -> Iterator[str]:
-    found, system = shown.report, shown.report.system
-    can_be = sum(price is not None and price >= system.price for price in prices.values())
-    yield "<h2>Troves by ratio</h2>"
-    yield "<p>The lowest ratio first. The last column is the highest price at which the trove can be liquidated by "
-    yield f"itself, all else as it is. Marked ones can be now, each as the first one: there are {can_be:,}. Each one "
-    yield "that is liquidated changes the pool, the other troves and the mode for the next, so the prices do not add "
-    yield f"up: <code>liquidate_lowest</code> takes {shown.taken_now:,} now.</p>"
-    rows, marked = [], []
-    ordered = sorted(found.troves, key=lambda trove: Fraction(trove.coll, trove.debt))
-    for trove in ordered[:ROWS_MOST]:
-        price = prices[trove.account]
-        now = price is not None and price >= system.price
-        told = "the last one stays" if price is None else _price(price)
-        marked.append(now)
-        rows.append([
-            str(trove.account), _ether(trove.coll), _lusd(trove.debt),
-            percent(trove.coll, trove.debt, system.price), f'<span class="mark">now,</span> {told}' if now else told,
-        ])
-    yield from _table(["account", "ether", "LUSD owed", "ratio", "by itself at most at"], rows, len(ordered), marked)
-
-
-def _by_list(shown: Market) -> Iterator[str]:
-    found = {trove.account: trove for trove in shown.report.troves}
-    system = shown.report.system
-    yield "<h2>Troves in the list's order</h2>"
-    yield "<p>From the list's end: redemptions and <code>liquidate_lowest</code> begin there. The order is by debt per "
-    yield "unit of stake, fixed at a trove's own operation: by rounding it may differ a little from the ratios.</p>"
-    rows = []
-    for place, account in enumerate(reversed(shown.order), 1):
-        if place > ROWS_MOST:
-            break
-        trove = found[account]
-        ratio = percent(trove.coll, trove.debt, system.price)
-        rows.append([f"{place:,}", str(account), _ether(trove.coll), _lusd(trove.debt), f"{trove.stake:,}", ratio])
-    yield from _table(["from the end", "account", "ether", "LUSD owed", "stake", "ratio"], rows, len(shown.order))
-
-
-def _pool(shown: Market) -> Iterator[str]:
-    deposits, pools, found = shown.report.deposits, shown.pools, shown.report
-    yield "<h2>The Stability Pool</h2>"
-    yield f"<p>{_lusd(pools.pool_lusd)} LUSD, and {_ether(pools.pool_coll)} ether that waits for its depositors. "
-    yield f"Product {found.p}, scale {found.scale}, epoch {found.epoch}, sum {found.sum}.</p>"
-    ordered = sorted(deposits, key=lambda deposit: (-deposit.balance, deposit.account))
-    rows = []
-    for deposit in ordered[:ROWS_MOST]:
-        part = f"{100 * deposit.balance / pools.pool_lusd:,.2f} %" if pools.pool_lusd else "-"
-        rows.append([str(deposit.account), _lusd(deposit.balance), part, _ether(deposit.gain)])
-    yield from _table(["account", "LUSD", "part", "ether gained"], rows, len(ordered))
-
-
-def _totals(shown: Market) -> Iterator[str]:
-    system, pools = shown.report.system, shown.pools
-    yield "<h2>Totals</h2>"
-    yield from _table(["", "ether", "LUSD"], [
-        ["all troves", _ether(system.coll), _lusd(system.debt)],
-        ["of these recorded (active pool)", _ether(pools.active_coll), _lusd(pools.active_debt)],
-        ["and spread since (default pool)", _ether(pools.default_coll), _lusd(pools.default_debt)],
-        ["Stability Pool", _ether(pools.pool_coll), _lusd(pools.pool_lusd)],
-        ["reserve for liquidators", "", _lusd(pools.reserve)],
-        ["surplus to claim", _ether(pools.surplus), ""],
-        ["fees", _ether(pools.fee_coll), _lusd(pools.fee_lusd)],
-    ], 7)
-    yield f'<p class="soft">Base rate {system.base_rate / 10**18:.4%}, last fee at minute {system.fee_minute:,}; '
-    yield f"stakes {system.stakes:,}.</p>"
-
-
-def _table(heads: List[str], rows: List[List[str]], count: int, marked: Sequence[bool] = ()) -> Iterator[str]:
-    """A table; of more rows than fit it says how many are left out."""
-    if not rows:
-        yield '<p class="soft">None.</p>'
-        return
-    yield "<table><tr>" + "".join(f"<th>{escape(head)}</th>" for head in heads) + "</tr>"
-    for at, row in enumerate(rows):
-        kind = ' class="now"' if at < len(marked) and marked[at] else ""
-        yield f"<tr{kind}>" + "".join(f"<td>{cell}</td>" for cell in row) + "</tr>"
-    yield "</table>"
-    if count > len(rows):
-        yield f'<p class="soft">{count - len(rows):,} more are left out.</p>'
-
-
-def _price(price: int) -> str:
-    return _lusd(price) if price >= PRICE_LEAST else "no price"
+def _grouped(text: str, places: int) -> str:
+    """Decimal text with a comma at each thousand, cut off behind some places."""
+    whole, _, part = text.partition(".")
+    return f"{int(whole):,}.{part[:places]:0<{places}}"
 
 
 def _ether(gwei: int) -> str:
@@ -275,32 +259,73 @@ def _lusd(millionths: int) -> str:
     return _grouped(show_lusd(millionths), 2)
 
 
-def _grouped(text: str, places: int) -> str:
-    """Decimal text with a comma at each thousand, cut off behind some places."""
-    whole, _, part = text.partition(".")
-    return f"{int(whole):,}.{part[:places]:0<{places}}"
+def _price(price: int) -> str:
+    return _lusd(price) if price >= PRICE_LEAST else "no price"
+
+
+def _percent(hundredths: int) -> str:
+    return f"{hundredths // 100:,}.{hundredths % 100:02} %"
+
+
+def _rate(rate: int) -> str:
+    """A rate in percent, cut off behind four places."""
+    parts = rate * 10**6 // WHOLE
+    return f"{parts // 10**4:,}.{parts % 10**4:04} %"
+
+
+def _mode(mode: str) -> str:
+    return f"{mode.capitalize()} Mode"
+
+
+FORMS: Dict[str, Form] = {
+    "count": "{:,}".format, "ether": _ether, "lusd": _lusd, "price": _price, "percent": _percent, "rate": _rate,
+    "mode": _mode,
+}
+CONTENTS = [
+    ("risk", "What is liquidated at which price"), ("ratios", "Troves by ratio"),
+    ("list", "Troves in the list's order"), ("pool", "The Stability Pool"), ("totals", "Totals"),
+]
+
+
+# ---- the command
 
 
 def main(words: List[str]) -> int:
-    asked = words_of(words, SECONDS)
-    if asked is None:
-        print("usage: python3 -m liq.page [--seconds N] FOLDER > page.html", file=sys.stderr)
-        return 2
-    try:
-        with bounded(asked.seconds):
-            made = page(read_market(asked.folder))
+    parser = parser_of("page", __doc__, EXAMPLES)
+    parser.add_argument("folder", metavar="FOLDER", help="the market's folder, which may be anybody's; a run may go on")
+    parser.add_argument("--json", action="store_true", help="the numbers of the page as one object, all rows, exactly")
+    add_seconds(parser, SECONDS)
+    asked = parser.parse_args(words)
+
+    def tell() -> int:
+        try:
+            with bounded(asked.seconds), Bar() as bar:
+                found = read_market(asked.folder, bar=bar)
+                made = as_json(found) if asked.json else page(found)
+        except Usage:
+            return _refused("this program does not have the word report", asked.json)
+        except (LiqError, OSError) as fault:
+            return _refused(str(fault), asked.json)
+        except MemoryError:
+            return _refused("there is not enough memory", asked.json)
         sys.stdout.write(made)
-    except Usage:
-        print("page: this program does not have the word report", file=sys.stderr)
-        return 1
-    except (Unfit, OSError, End) as fault:
-        print(f"page: {fault}", file=sys.stderr)
-        return 1
-    except MemoryError:
-        print("page: there is not enough memory", file=sys.stderr)
-        return 1
-    return 0
+        return 0
+
+    return ended("page", tell, asked.json)
+
+
+def _refused(why: str, is_json: bool) -> int:
+    """Tells why there is no page: on standard error, since standard output is the page; or as an object."""
+    if is_json:
+        return refused("page", why, is_json)
+    print(f"page: {why}", file=sys.stderr)
+    return 1
+
+
+def command() -> int:
+    """The command, with the words of its process."""
+    return main(sys.argv[1:])
 
 
 if __name__ == "__main__":
-    sys.exit(main(sys.argv[1:]))
+    sys.exit(command())

@@ -10,7 +10,8 @@ WIDTH = 40
 
 
 class Bar:
-    """How far a step is, of as many parts as it has. Nothing is shown where standard error is no terminal."""
+    """How far a step is, of as many parts as it has. Nothing is shown where standard error is no terminal, and nothing
+    of what is done within two seconds."""
 
     def __init__(self) -> None:
         self.what, self.count, self.done, self.shown = "", 1, 0, 0
@@ -27,6 +28,10 @@ class Bar:
         if self.wanted and time.monotonic() >= self.next:
             self.next = time.monotonic() + BETWEEN_SECONDS
             self._show()
+
+    def each(self, _: int) -> None:
+        """One part more is done, whichever it is."""
+        self.add()
 
     def _show(self) -> None:
         part = min(1.0, self.done / self.count)

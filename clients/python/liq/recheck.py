@@ -1,6 +1,6 @@
 """An audit with arithmetic of its own, beside that of `liq audit`.
 
-usage: python3 -m liq.recheck [--seconds N] [--archive DIR] FOLDER
+usage: python3 -m liq.recheck [--seconds N] [--archive DIR] [--json|--csv] FOLDER
 
 It copies both files, reads the commands, and has the program carry them out again in a folder of its own. From the
 replies it takes what each depositor put in and was paid, and what each liquidation took from the Stability Pool and
@@ -16,8 +16,8 @@ The folder may be anybody's. Each file may have 2^28 bytes, the exact shares may
 and the whole may take N seconds, an hour unless another number is said: what passes that is refused (`TooMuch`).
 The copies are gone behind it, also where a signal ends it.
 
-It writes a line `ACCOUNT BALANCE EXACT ALLOWANCE GAIN EXACT ALLOWANCE` for each depositor, the exact values cut off
-behind three places, and then what that comes to.
+It writes a row for each depositor: balance and gain beside the exact values, cut off behind three places, and by how
+much each may be short; and then what that comes to. As JSON the exact values stand there whole, as fractions too.
 """
 import sys
 from fractions import Fraction
@@ -28,10 +28,12 @@ from typing import Any, Container, Dict, Iterable, Iterator, List, NamedTuple, O
 from .archive import Generations, named_in, sources
 from .backup import backup
 from .client import ACCOUNTS, LOWEST_MOST
-from .ends import End, Folder, Limit, Rotated, TooMuch, Unfit
-from .journal import BYTES_MOST, SIDES, Checkpoint, Command, Disk, Journal
+from .console import add_forms, add_seconds, aligned, as_csv, as_json, ended, parser_of
+from .ends import Folder, Limit, Rotated, TooMuch, Unfit
+from .journal import BYTES_MOST, RECORD_BYTES, SIDES, Checkpoint, Command, Disk, Journal
+from .progress import Bar
 from .refusals import Refusal
-from .scratch import bounded, scratch, words_of
+from .scratch import bounded, scratch
 from .service import Service
 from .shares import Allowances, PlainLedger, Share, share_in
 from .units import counted
@@ -40,6 +42,13 @@ from .words import Audit, AuditRow, audit
 SAME = ("generation", "clients")  # the fields of a checkpoint in which a replay may differ
 SECONDS = 3600
 SHARES_BYTES_MOST, SHARES_PLACES_MOST = 2**30, 2**22
+HEADS = ("account", "balance", "exactly", "may be short by", "gain", "exactly", "may be short by")
+KEYS = ("account", "balance", "balance_exact", "balance_allowance", "gain", "gain_exact", "gain_allowance")
+EXAMPLES = """
+python3 -m liq.recheck market
+python3 -m liq.recheck --archive archive --csv market > depositors.csv
+python3 -m liq.recheck --seconds 600 --json market | jq .holds
+"""
 
 
 class Differs(Unfit):
@@ -68,17 +77,24 @@ class Row(NamedTuple):
         allowed = (self.balance_allowance, self.gain_allowance)
         return all(0 <= short and (most is None or short <= most) for short, most in zip(self.short, allowed))
 
-    def __str__(self) -> str:
-        allowed = ["-" if most is None else str(most) for most in (self.balance_allowance, self.gain_allowance)]
+    @property
+    def cells(self) -> Tuple[object, ...]:
+        """Its cells, under `HEADS` or `KEYS`: the exact shares are cut off."""
         balance, gain = (cut_off(part) for part in self.share)
-        return f"{self.account} {self.balance} {balance} {allowed[0]} {self.gain} {gain} {allowed[1]}"
+        return (
+            self.account, self.balance, balance, self.balance_allowance, self.gain, gain, self.gain_allowance)
+
+    def __str__(self) -> str:
+        return " ".join("-" if cell is None else str(cell) for cell in self.cells)
 
 
 class Replay:
     """The commands of a journal, carried out again, and each depositor followed through them."""
 
-    def __init__(self, disks: Iterable[Disk], folder: Path, program: Optional[Folder] = None) -> None:
-        reading = iter(disks)
+    def __init__(
+        self, disks: Iterable[Disk], folder: Path, program: Optional[Folder] = None, bar: Optional[Bar] = None
+    ) -> None:
+        reading, self.bar = iter(disks), bar or Bar()
         first = next(reading)
         self.ledger, self.allowances = PlainLedger(), Allowances()
         self.paid: Dict[int, int] = {}
@@ -94,13 +110,17 @@ class Replay:
                 for command in disk.commands:
                     self._carry_out(command)
                     self.commands += 1
+                    self.bar.add()
             accounts = self.ledger.accounts
-            self.deposits = {a: found or (0, 0) for a, found in zip(accounts, self.service.deposits(accounts))}
+            found = zip(accounts, self.service.deposits(accounts))
+            self.deposits = {account: (row.balance, row.gain) if row else (0, 0) for account, row in found}
 
     def rows(self) -> List[Row]:
         """A row for each depositor."""
         rows = []
+        self.bar.begin("exact shares", len(self.deposits))
         for account, (balance, gain) in self.deposits.items():
+            self.bar.add()
             allowed = (None, None) if self.start else self.allowances.of(account)
             rows.append(Row(account, balance, self.paid.get(account, 0) + gain, self.ledger.share(account), *allowed))
         return rows
@@ -205,22 +225,28 @@ class Result(NamedTuple):
     faults: List[str]
 
 
-def recheck(folder: Folder, program: Optional[Folder] = None, archive: Optional[Folder] = None) -> Result:
+def recheck(
+    folder: Folder, program: Optional[Folder] = None, archive: Optional[Folder] = None, bar: Optional[Bar] = None
+) -> Result:
     """Rechecks the market of a folder, on copies. Raises `Differs` where its replay does not lead there.
 
     With an archive all its generations are carried out too. The program opens the copies before they are followed, and
     refuses what the rules do not allow. There is no bound on time here: `main` calls it within `scratch.bounded`.
     """
-    named = named_in(archive) if archive is not None else None
+    named, bar = named_in(archive) if archive is not None else None, bar or Bar()
     with scratch(folder, "liq-recheck") as room:
         copied, again = room / "copy", room / "again"
         copied.mkdir()
         again.mkdir()
-        backup(folder, copied)
-        disks = Generations(sources(copied, archive, named), BYTES_MOST) if archive else Journal(copied).chain
+        backup(folder, copied, bar=bar)
+        disks: Iterable[Disk] = Journal(copied).chain
+        found_in = sources(copied, archive, named)
+        if archive:
+            disks = Generations(found_in, BYTES_MOST)
         numbers = last_numbers(disks)
         found, why = audited(copied, program)
-        replay = Replay(disks, again, program)
+        bar.begin("commands", sum(source.path.stat().st_size // RECORD_BYTES for source in found_in))
+        replay = Replay(disks, again, program, bar)
         compare_markets(market(copied, program), market(again, program), numbers)
     rows = replay.rows()
     faults = [f"does not hold: {row}" for row in rows if not row.holds]
@@ -321,8 +347,14 @@ def cut_off(part: Fraction) -> str:
 
 def said_of(result: Result) -> Iterator[str]:
     """What a recheck comes to, line by line."""
+    if result.rows:
+        yield from aligned(HEADS, (row.cells for row in result.rows))
+    yield from summed_up(result)
+
+
+def summed_up(result: Result) -> Iterator[str]:
+    """What its rows come to, line by line."""
     replay, rows = result.replay, result.rows
-    yield from map(str, rows)
     yield from result.faults
     if replay.start:
         yield f"the commands before generation {replay.start.generation} are gone: shares count from its checkpoint on,"
@@ -342,25 +374,51 @@ def said_of(result: Result) -> Iterator[str]:
     yield "this shows one journal and proves nothing: the replies are those of the program that it checks"
 
 
+def as_object(result: Result) -> Dict[str, Any]:
+    """What a recheck comes to, as an object."""
+    from .stated import spelt  # not at the top: the page of a statement stands on that of a market, and that on this
+
+    rows = []
+    for row in result.rows:
+        told: Dict[str, object] = dict(zip(KEYS, row.cells))
+        told["balance_fraction"], told["gain_fraction"] = spelt(row.share.balance), spelt(row.share.gain)
+        told["holds"] = row.holds
+        rows.append(told)
+    replay = result.replay
+    return {
+        "holds": not result.faults, "depositors": rows, "faults": result.faults, "commands": replay.commands,
+        "offsets": replay.offsets, "shares_since_generation": replay.start.generation if replay.start else 1,
+        "why_no_audit": result.why_no_audit, "said": list(summed_up(result)),
+    }
+
+
 def main(words: List[str]) -> int:
-    asked = words_of(words, SECONDS, takes_archive=True)
-    if asked is None:
-        print("usage: python3 -m liq.recheck [--seconds N] [--archive DIR] FOLDER", file=sys.stderr)
-        return 2
-    try:
-        with bounded(asked.seconds):
-            result = recheck(asked.folder, archive=asked.archive)
-            said = list(said_of(result))
-    except (Unfit, OSError, End) as fault:
-        print(f"recheck refuses: {fault}")
-        return 1
-    except MemoryError:
-        print("recheck refuses: there is not enough memory")
-        return 1
-    for line in said:
-        print(line)
-    return 1 if result.faults else 0
+    parser = parser_of("recheck", __doc__, EXAMPLES)
+    parser.add_argument("folder", metavar="FOLDER", help="the market's folder, which may be anybody's")
+    parser.add_argument("--archive", metavar="DIR", help="the generations before, as liq.archive keeps them")
+    add_seconds(parser, SECONDS)
+    add_forms(parser, rows=True)
+    asked = parser.parse_args(words)
+
+    def tell() -> int:
+        with bounded(asked.seconds), Bar() as bar:
+            result = recheck(asked.folder, archive=asked.archive, bar=bar)
+            if asked.json:
+                said = as_json(as_object(result))
+            elif asked.csv:
+                said = as_csv(KEYS, (row.cells for row in result.rows))
+            else:
+                said = "".join(f"{line}\n" for line in said_of(result))
+        sys.stdout.write(said)
+        return 1 if result.faults else 0
+
+    return ended("recheck", tell, asked.json)
+
+
+def command() -> int:
+    """The command, with the words of its process."""
+    return main(sys.argv[1:])
 
 
 if __name__ == "__main__":
-    sys.exit(main(sys.argv[1:]))
+    sys.exit(command())

@@ -3,10 +3,15 @@
 The advice is that of docs/REFUSALS.md, which says of each code when it comes and what its values mean. Ether is in
 gwei, LUSD and prices are in millionths of a LUSD.
 """
+import logging
 from typing import ClassVar, Dict, Sequence, Tuple, Type, get_type_hints
 
+from .errors import BadValue, LiqError
 
-class Refusal(Exception):
+LOG = logging.getLogger("liq")
+
+
+class Refusal(LiqError):
     """A command was refused: it changed nothing, and its number may be used again."""
 
     code: ClassVar[int]
@@ -371,9 +376,11 @@ def read_refusal(words: Sequence[str]) -> Refusal:
 def refusal_of(code: int, values: Sequence[int]) -> Refusal:
     """The refusal of a code, with its values in their order."""
     if code not in BY_CODE:
-        unknown = Refusal(*values)
-        unknown.code = code  # type: ignore[misc]
-        return unknown
-    if len(values) != len(BY_CODE[code].fields):
-        raise ValueError(f"not the values of refusal {code}: {' '.join(map(str, values))}")
-    return BY_CODE[code](*values)
+        refusal = Refusal(*values)
+        refusal.code = code  # type: ignore[misc]  # one that a later program has: its class is not known here
+    elif len(values) != len(BY_CODE[code].fields):
+        raise BadValue(f"not the values of refusal {code}: {' '.join(map(str, values))}")
+    else:
+        refusal = BY_CODE[code](*values)
+    LOG.debug("refused: %s", refusal)
+    return refusal

@@ -75,7 +75,7 @@ class Liquidated(NamedTuple):
 class LowestLiquidated(NamedTuple):
     """`liquidate_lowest`: how many, and the sums of the first three values of each."""
 
-    count: int
+    count: int  # type: ignore[assignment]  # tuples have a call of that name, which is of no use for a row
     gas: int
     pool_debt: int
     pool_coll: int
@@ -108,21 +108,25 @@ class NextGeneration(NamedTuple):
 class Wallet(NamedTuple):
     """The ether and the LUSD of an account."""
 
+    account: int
     coll: int
     lusd: int
 
 
 class Trove(NamedTuple):
-    """A trove with all that is pending for it."""
+    """An account's trove with all that is pending for it."""
 
+    account: int
     coll: int
     debt: int
     stake: int
 
 
 class Deposit(NamedTuple):
-    """What a deposit in the Stability Pool is worth, and what it has gained since its owner's last operation."""
+    """What an account's deposit in the Stability Pool is worth, and what it has gained since its owner's last
+    operation."""
 
+    account: int
     balance: int
     gain: int
 
@@ -172,3 +176,9 @@ BY_VERB: Dict[str, Type[Tuple[Any, ...]]] = {
 BY_QUERY: Dict[str, Type[Tuple[Any, ...]]] = {
     "wallet": Wallet, "trove": Trove, "deposit": Deposit, "pools": Pools, "system": System,
 }
+
+
+def told_fields(row: Type[Tuple[Any, ...]]) -> Tuple[str, ...]:
+    """The fields of a row that a reply has numbers for: all but the account that was asked for."""
+    fields: Tuple[str, ...] = row._fields  # type: ignore[attr-defined]  # all rows are named tuples, and share no class
+    return tuple(name for name in fields if name != "account")

@@ -7,6 +7,7 @@ from typing import Callable, Dict, List, NamedTuple, Optional, Sequence
 from .client import LOWEST_MOST
 from .ends import Folder
 from .journal import copy_file
+from .progress import Bar
 from .refusals import Refusal
 from .service import Service
 
@@ -24,20 +25,25 @@ class Tried(NamedTuple):
 
 
 def try_prices(
-    file: Path, debts: Sequence[int], client: int, low: int, high: int, now: int, program: Optional[Folder] = None
+    file: Path, debts: Sequence[int], client: int, low: int, high: int, now: int, program: Optional[Folder] = None,
+    bar: Optional[Bar] = None,
 ) -> List[Tried]:
     """What `liquidate_lowest` does at prices from `low` to `high` and at `now`, ascending, by their number as
     `choose_prices` has it.
 
     `file` holds the market as a checkpoint alone, `debts` are those of its troves from the end of the list, and
-    `client` is one that is not in use.
+    `client` is one that is not in use. `bar` shows how many prices are done.
     """
     most = max(TRIED_LEAST, min(TRIED_MOST, TROVES_OF_ALL // len(debts)))
     owed = [0, *accumulate(debts)]
     room = file.parent / "tried"
+    if bar:
+        bar.begin("prices", most)
 
     def at(price: int) -> Tried:
         count = liquidated(file, room, client, price, program)
+        if bar:
+            bar.add()
         return Tried(price, count, owed[count])
 
     return choose_prices(at, low, high, now, most)

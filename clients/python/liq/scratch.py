@@ -6,7 +6,7 @@ import signal
 import tempfile
 from pathlib import Path
 from types import FrameType
-from typing import Iterator, List, NamedTuple, Optional
+from typing import Iterator, Optional
 
 from .ends import Folder, TooMuch
 from .journal import files_of
@@ -17,9 +17,15 @@ STOPS = (signal.SIGINT, signal.SIGTERM, signal.SIGHUP)
 
 @contextlib.contextmanager
 def scratch(folder: Folder, name: str) -> Iterator[Path]:
-    """A new folder for copies of a folder's files: in memory, where there is room for them many times over; else where
-    temporary files go. It is removed at the end, whatever that is but `kill -9`; for signals see `bounded`."""
-    size = sum(path.stat().st_size for path in files_of(folder))
+    """A new folder for copies of a folder's files: see `passing_folder`."""
+    with passing_folder(name, sum(path.stat().st_size for path in files_of(folder))) as made:
+        yield made
+
+
+@contextlib.contextmanager
+def passing_folder(name: str, size: int) -> Iterator[Path]:
+    """A new folder: in memory, where there is room for so many bytes many times over; else where temporary files go. It
+    is removed at the end, whatever that is but `kill -9`; for signals see `bounded`."""
     roomy = MEMORY.is_dir() and shutil.disk_usage(MEMORY).free > 8 * size + 2**26
     made = (MEMORY if roomy else Path(tempfile.gettempdir())) / f"{name}-{secrets.token_hex(8)}"
     try:
@@ -55,24 +61,3 @@ def bounded(seconds: int) -> Iterator[None]:
         signal.signal(signal.SIGALRM, alarm)
         for number, handler in zip(handled, before):
             signal.signal(number, handler)
-
-
-class Asked(NamedTuple):
-    """What words ask for: a folder, a bound on time in seconds, and an archive, where one is named."""
-
-    folder: str
-    seconds: int
-    archive: Optional[str] = None
-
-
-def words_of(words: List[str], seconds: int, takes_archive: bool = False) -> Optional[Asked]:
-    """What `[--seconds N] FOLDER` asks for, where N is from 1 on, with `--archive DIR` in front of the folder too,
-    where that is taken; None where the words are others."""
-    if len(words) == 1:
-        return Asked(words[0], seconds)
-    asked = words_of(words[2:], seconds, takes_archive) if len(words) > 2 else None
-    if asked and words[0] == "--seconds" and words[1].isdecimal() and 1 <= int(words[1]) <= 10**9:
-        return asked._replace(seconds=int(words[1]))
-    if asked and words[0] == "--archive" and takes_archive:
-        return asked._replace(archive=words[1])
-    return None

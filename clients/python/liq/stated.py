@@ -1,4 +1,5 @@
-"""What a statement of a market says, and its three forms: text, JSON, and a page of HTML. All have the same numbers.
+"""What a statement of a market says, and two of its forms, text and JSON; `statement_page` makes a page of HTML. All
+have the same numbers.
 
 Debt and LUSD are in millionths, collateral and gains are in gwei, as everywhere in liq.
 """
@@ -6,13 +7,11 @@ import hashlib
 import json
 import re
 from fractions import Fraction
-from html import escape
-from typing import Any, Callable, Dict, Iterator, List, NamedTuple, Optional, Sequence, Tuple, Union
+from typing import Any, Dict, Iterator, List, NamedTuple, Optional, Sequence, Tuple, Union
 
 from .model import Market
 from .model.amounts import RESERVE
 from .model.troves import entire, pending
-from .page import STYLE
 from .shares import Share
 from .units import counted
 
@@ -367,37 +366,3 @@ def _object(keys: Sequence[str], row: Sequence[Cell]) -> Dict[str, Any]:
         if isinstance(value, Fraction) and shown(value) != made[key]:
             made[f"{key}_shown"] = shown(value)
     return made
-
-
-def page(statement: Statement) -> str:
-    """A statement as a page of HTML, without scripts and without parts from elsewhere."""
-    parts = [
-        '<!DOCTYPE html><html lang="en"><head><meta charset="utf-8">',
-        '<meta name="viewport" content="width=device-width"><title>A statement of a liq market</title>',
-        f"<style>{STYLE}td {{ overflow-wrap: anywhere }}</style></head><body>",
-        "<h1>A statement of a market</h1>",
-    ]
-    if statement.faults:
-        parts.append('<p class="mark">It does not hold: see below.</p>')
-    parts += _html([], [[name.replace("_", " "), cell(value)] for name, value in facts_of(statement)])
-    for title, said in lists(statement):
-        parts += [f"<h2>{escape(title)}</h2><ul>", *(f"<li>{escape(line)}</li>" for line in said), "</ul>"]
-    for table in tables(statement):
-        parts.append(f"<h2>{escape(table.title)}</h2>")
-        parts += _html(table.heads, [[cell(value) for value in row] for row in table.rows])
-    return "\n".join([*parts, "</body></html>"]) + "\n"
-
-
-def _html(heads: Sequence[str], rows: List[List[str]]) -> Iterator[str]:
-    if not rows:
-        yield '<p class="soft">None.</p>'
-        return
-    yield "<table>"
-    if heads:
-        yield "<tr>" + "".join(f"<th>{escape(head)}</th>" for head in heads) + "</tr>"
-    for row in rows:
-        yield "<tr>" + "".join(f"<td>{escape(value)}</td>" for value in row) + "</tr>"
-    yield "</table>"
-
-
-FORMS: Dict[str, Callable[[Statement], str]] = {"text": text, "json": as_json, "page": page}

@@ -1,7 +1,7 @@
 """A statement of a market: who has what by its files, worked out without the program.
 
-usage: python3 -m liq.statement [--archive DIR] [--earlier FILE] [--date YYYY-MM-DD] [--form text|json|page]
-                                [--seconds N] FOLDER
+usage: python3 -m liq.statement [--archive DIR] [--earlier FILE] [--date YYYY-MM-DD]
+                                [--form text|json|page | --json | --csv TABLE] [--seconds N] FOLDER
 
 It copies both files, goes through all commands by `liq.model`, and writes for each depositor the balance, the gain, the
 exact shares as fractions, what is short of these, and what may be; for each trove and wallet what it has; and totals.
@@ -11,26 +11,29 @@ same text, JSON or page, to the byte.
 --archive DIR   the generations before those on the files, as `liq.archive` has kept them: then it is one history
 --earlier FILE  an earlier statement of this market, as JSON: the files have to go on from those that it was made of
 --date DATE     the date that it bears; that of today (UTC) unless one is said
---form FORM     text, unless another is said
+--form FORM     text, unless another is said; --json is --form json
+--csv TABLE     one table alone, as rows: that of `balances`, `gains`, `troves`, `wallets` and so on
 --seconds N     the most time that it may take, an hour unless another number is said
 
 It refuses damaged files, and those that are no history of one market: it names the record, and says what the records
 before it stand for. It ends with 0 where all holds, with 1 where something does not or where it refuses, and with 2
 where the words are not understood. The folder and the archive may be anybody's: `liq.recheck` has the bounds.
 """
-import argparse
 import contextlib
 import hashlib
 import json
 import re
 import sys
 from datetime import date, datetime, timezone
+from fractions import Fraction
 from pathlib import Path
-from typing import Any, Dict, Iterator, List, NamedTuple, Optional, Tuple
+from typing import Any, Callable, Dict, Iterator, List, NamedTuple, Optional, Tuple
 
 from .archive import Kept, NotArchived, Source, named_in, sources
 from .backup import backup
+from .console import add_seconds, as_csv, ended, parser_of, refused
 from .ends import Folder, TooMuch, Unfit
+from .errors import BadValue
 from .guard import generation_of, look_at, said_of_records, said_of_shut
 from .history import begun, digest_of, replay, rotated
 from .journal import BYTES_MOST, FRONT_BYTES, RECORD_BYTES, DamagedFile, Disk
@@ -43,10 +46,21 @@ from .progress import Bar
 from .recheck import SECONDS, SHARES_BYTES_MOST, SHARES_PLACES_MOST
 from .scratch import bounded, scratch
 from .shares import Allowances, PlainLedger, share_in
-from .stated import FORMS, STATEMENT, Depositor, FileRow, GenerationRow, Statement
+from .stated import STATEMENT, Depositor, FileRow, GenerationRow, Statement, as_json, spelt, tables, text
+from .statement_page import page
 from .units import counted
 
+FORMS: Dict[str, Callable[[Statement], str]] = {"text": text, "json": as_json, "page": page}
 NOTHING = ("nothing stands before that",)
+TABLES = (
+    "balances", "gains", "troves", "wallets", "homes", "files", "generations", "last_records", "equal", "within",
+)
+EXAMPLES = """
+python3 -m liq.statement --date 2026-11-30 market > statement.txt
+python3 -m liq.statement --archive archive --form page market > statement.html
+python3 -m liq.statement --csv balances market > balances.csv
+python3 -m liq.statement --earlier monday.json --json market > tuesday.json
+"""
 IS_DIGEST = re.compile("[0-9a-f]{64}").fullmatch
 
 
@@ -219,18 +233,18 @@ def read_earlier(path: Folder) -> Earlier:
         made = json.loads(read_file(path))
         rows = dict(_earlier_row(row["generation"], row["records"], row["sha256"]) for row in made["generations"])
         if made["liq_statement"] != STATEMENT or not rows:
-            raise ValueError
+            raise BadValue("the form is another, or there is no generation")
         return Earlier(read_day(made["date"]), rows)
     except (ValueError, KeyError, TypeError, RecursionError):
         raise NotStated(f"{path} is no statement of this form, as JSON") from None
 
 
 def _earlier_row(generation: Any, records: Any, digest: Any) -> Tuple[int, Tuple[int, str]]:
-    """A generation of an earlier statement. Raises ValueError and TypeError."""
+    """A generation of an earlier statement. Raises BadValue, or TypeError."""
     if type(generation) is not int or type(records) is not int or not IS_DIGEST(digest):
-        raise ValueError
+        raise BadValue("it is no row of a generation")
     if not 1 <= generation <= GENERATIONS_MOST or not 0 <= records <= RECORDS_MOST:
-        raise ValueError
+        raise BadValue("a number of it is out of range")
     return generation, (records, digest)
 
 
@@ -247,7 +261,7 @@ def statement(
     """
     named = named_in(archive) if archive is not None else []
     with scratch(folder, "liq-statement") as room:
-        backup(folder, room)
+        backup(folder, room, bar=bar)
         return _stated(room, archive, named, day or today(), earlier, bar or Bar())
 
 
@@ -318,9 +332,10 @@ def left_beside(room: Path) -> List[str]:
 
 
 def digest_of_modules() -> str:
-    """The SHA-256 of the package's modules, one behind the other by their names: each name, length, and its bytes."""
+    """The SHA-256 of the package's modules and templates, one behind the other by their names: each name, length, and
+    its bytes."""
     package, found = Path(__file__).parent, hashlib.sha256()
-    for path in sorted([*package.glob("*.py"), *package.glob("model/*.py")]):
+    for path in sorted([*package.glob("*.py"), *package.glob("model/*.py"), *package.glob("templates/*.*")]):
         data = path.read_bytes()
         found.update(f"{path.relative_to(package)} {len(data)}\n".encode() + data)
     return found.hexdigest()
@@ -334,39 +349,49 @@ def today() -> str:
 def read_day(word: str) -> str:
     """A date, as YYYY-MM-DD. Raises ValueError."""
     if date.fromisoformat(word).isoformat() != word:
-        raise ValueError(word)
+        raise BadValue(f"{word} is no date YYYY-MM-DD")
     return word
 
 
 def main(words: List[str]) -> int:
-    parser = argparse.ArgumentParser(
-        prog="python3 -m liq.statement", description=(__doc__ or "").partition("\n")[0], allow_abbrev=False)
-    parser.add_argument("folder", metavar="FOLDER")
+    parser = parser_of("statement", __doc__, EXAMPLES)
+    parser.add_argument("folder", metavar="FOLDER", help="the market's folder, which may be anybody's")
     parser.add_argument("--archive", metavar="DIR", help="the generations before, as liq.archive keeps them")
     parser.add_argument("--earlier", metavar="FILE", help="an earlier statement, as JSON, from which the files go on")
     parser.add_argument("--date", metavar="YYYY-MM-DD", type=read_day, default=today(), help="the date that it bears")
-    parser.add_argument("--form", choices=sorted(FORMS), default="text", help="text, unless another is said")
-    parser.add_argument("--seconds", metavar="N", type=int, default=SECONDS, help="the most time that it may take")
+    forms = parser.add_mutually_exclusive_group()
+    forms.add_argument("--form", choices=sorted(FORMS), default="text", help="text, unless another is said")
+    forms.add_argument("--json", action="store_const", dest="form", const="json", help="as --form json")
+    forms.add_argument("--csv", metavar="TABLE", choices=TABLES, help=f"one table alone, as rows: {', '.join(TABLES)}")
+    add_seconds(parser, SECONDS)
     asked = parser.parse_args(words)
-    if not 1 <= asked.seconds <= 10**9:
-        parser.error("N is from 1 to 1,000,000,000")
-    try:
-        with bounded(asked.seconds), Bar() as bar:
-            earlier = read_earlier(asked.earlier) if asked.earlier else None
-            made = statement(asked.folder, asked.archive, asked.date, earlier, bar)
-            said = FORMS[asked.form](made)
-    except NotStated as fault:
-        print("\n".join([f"statement refuses: {fault}", *fault.before]))
-        return 1
-    except (Unfit, OSError) as fault:
-        print(f"statement refuses: {fault}")
-        return 1
-    except MemoryError:
-        print("statement refuses: there is not enough memory")
-        return 1
-    sys.stdout.write(said)
-    return 1 if made.faults else 0
+    is_json = asked.form == "json"
+
+    def tell() -> int:
+        try:
+            with bounded(asked.seconds), Bar() as bar:
+                earlier = read_earlier(asked.earlier) if asked.earlier else None
+                made = statement(asked.folder, asked.archive, asked.date, earlier, bar)
+                said = table_of(made, asked.csv) if asked.csv else FORMS[asked.form](made)
+        except NotStated as fault:
+            return refused("statement", str(fault), is_json, fault.before)
+        sys.stdout.write(said)
+        return 1 if made.faults else 0
+
+    return ended("statement", tell, is_json)
+
+
+def table_of(made: Statement, name: str) -> str:
+    """One table of a statement as CSV, each fraction whole."""
+    (table,) = [each for each in tables(made) if each.name == name]
+    rows = ([spelt(cell) if isinstance(cell, Fraction) else cell for cell in row] for row in table.rows)
+    return as_csv(table.keys, rows)
+
+
+def command() -> int:
+    """The command, with the words of its process."""
+    return main(sys.argv[1:])
 
 
 if __name__ == "__main__":
-    sys.exit(main(sys.argv[1:]))
+    sys.exit(command())

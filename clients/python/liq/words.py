@@ -7,10 +7,14 @@ import json
 import subprocess
 from typing import Dict, Iterable, Iterator, List, Mapping, NamedTuple, Optional, Sequence, Tuple
 
+from .client import AMOUNTS
 from .ends import Folder, is_reply, read_end
+from .errors import BadValue
+from .reasons import explained
 from .refusals import Refusal, read_refusal
 from .replies import Pools, System
-from .service import Create, find_program, prepare
+from .service import Create, begin_program, find_program, log_end, prepare
+from .units import Whole, within
 
 
 class Served(NamedTuple):
@@ -182,9 +186,10 @@ def audit(folder: Folder, program: Optional[Folder] = None) -> Audit:
     return Audit([AuditRow(*_numbers(row)) for row in rows], int(within), int(of))
 
 
-def generate(seed: int, count: int, program: Optional[Folder] = None) -> Generated:
+def generate(seed: Whole, count: Whole, program: Optional[Folder] = None) -> Generated:
     """Runs a generated load, on no disk."""
-    (line,) = _run(None, ["gen", str(seed), str(count)], b"", program)
+    words = [str(within(number, AMOUNTS)) for number in (seed, count)]
+    (line,) = _run(None, ["gen", *words], b"", program)
     return Generated(*map(int, line.split(" ")[1::2]))
 
 
@@ -264,7 +269,7 @@ def joined(lines: Iterable[str]) -> bytes:
     given = list(lines)
     for line in given:
         if "\n" in line or not line.isascii():
-            raise ValueError(f"no line: {line!r}")
+            raise BadValue(f"no line: {line!r}")
     return "".join(f"{line}\n" for line in given).encode("ascii")
 
 
@@ -278,9 +283,17 @@ def _lines(
 
 def _run(folder: Optional[Folder], words: List[str], given: bytes, program: Optional[Folder]) -> List[str]:
     """What a word writes. Raises how it ended, where that is not with 0."""
-    ran = subprocess.run([find_program(program), *words], cwd=folder, input=given, stdout=subprocess.PIPE)
-    lines = ran.stdout.decode("ascii", "replace").splitlines()
-    if ran.returncode != 0:
-        last = lines[-1] if lines and not is_reply(lines[-1]) else ""
-        raise read_end(ran.returncode, last)
+    pipe = subprocess.PIPE
+    with begin_program([find_program(program), *words], folder, stdin=pipe, stdout=pipe) as ran:
+        try:
+            told, _ = ran.communicate(given)
+        except BaseException:  # as a bound on time: what was begun goes with it
+            ran.kill()
+            raise
+    lines = told.decode("ascii", "replace").splitlines()
+    last = lines[-1] if ran.returncode and lines and not is_reply(lines[-1]) else ""
+    end = explained(read_end(ran.returncode, last), folder)
+    log_end(ran.pid, end)
+    if end.status != 0:
+        raise end
     return lines

@@ -1,11 +1,51 @@
 """The cases of a market, whichever it is: a run of the program, or the engine in this process. Each verb once, with its
 values by name; what is refused; what is not sent."""
+import importlib.util
 import unittest
-from typing import Any
+from decimal import Decimal
+from typing import Any, Iterator, Tuple
 
 from liq import ANY_FEE, refusals
 from liq.replies import Adjusted, Advanced, Claimed, Closed, Deposit, Done, Liquidated, LowestLiquidated, Moved
 from liq.replies import NextGeneration, Opened, Pools, Provided, Redeemed, System, Trove, Wallet, Withdrawn
+
+
+HAS_NUMPY = importlib.util.find_spec("numpy") is not None
+
+
+class Five:
+    """A whole number that is no int."""
+
+    def __index__(self) -> int:
+        return 5
+
+
+def fives() -> Iterator[Tuple[Any, str]]:
+    """The number 5 as simulators have it, each with its name."""
+    yield Five(), "what has __index__"
+    yield Decimal(5), "a Decimal"
+    yield Decimal("5.000"), "a Decimal with zeros behind its point"
+    yield Decimal("0.5E1"), "a Decimal with an exponent"
+    if HAS_NUMPY:
+        import numpy
+
+        for kind in (numpy.int8, numpy.uint8, numpy.int64, numpy.uint64):
+            yield kind(5), str(kind)
+        yield numpy.arange(6)[5], "an item of an array"
+        yield numpy.array(5), "an array of no dimension"
+
+
+def no_whole_numbers() -> Iterator[Tuple[Any, type]]:
+    """What is no whole number, and the error that it is."""
+    yield from ((wrong, TypeError) for wrong in (1.5, 1.0, "5", True, None, b"5", 5j))
+    for text in ("0.5", "NaN", "Infinity", "-1", "1E+999999999", "1E-999999999"):
+        yield Decimal(text), ValueError
+    if HAS_NUMPY:
+        import numpy
+
+        for wrong in (numpy.float64(5), numpy.float32(5), numpy.bool_(True), numpy.arange(2)):
+            yield wrong, TypeError
+        yield numpy.int64(-5), ValueError
 
 
 class Cases(unittest.TestCase):
@@ -65,8 +105,9 @@ class EveryVerb(Cases):
 
     def ask(self) -> None:
         market = self.market
-        self.assertEqual(market.wallet(2), Wallet(coll=1888391254, lusd=460000000))
-        self.assertEqual(market.trove(2), Trove(coll=36133806392, debt=8691458239, stake=31286743018))
+        self.assertEqual(market.wallet(2), Wallet(account=2, coll=1888391254, lusd=460000000))
+        trove = Trove(account=2, coll=36133806392, debt=8691458239, stake=31286743018)
+        self.assertEqual((market.trove(2), market.troves([2, 77])), (trove, [trove, None]))
         self.assertIsNone(market.trove(77))
         self.assertIsNone(market.deposit(2))
         self.assertEqual(market.pools(), Pools(
@@ -94,7 +135,7 @@ class EveryVerb(Cases):
         one.provide(2, 3 * 10**9)
         one.price(560000000)
         self.assertTrue(self.market.system().recovery)
-        self.assertEqual(self.market.deposit(2), Deposit(balance=3 * 10**9, gain=0))
+        self.assertEqual(self.market.deposit(2), Deposit(account=2, balance=3 * 10**9, gain=0))
         with self.assertRaises(refusals.PoolTooSmall) as refused:
             three.liquidate(3, 1)
         self.assertEqual((refused.exception.total, refused.exception.debt), (3 * 10**9, 4220000000))
@@ -132,6 +173,44 @@ class Refused(Cases):
             for account, kind in ((2**20, ValueError), (-1, ValueError), (1.0, TypeError), ("1", TypeError)):
                 self.assertRaises(kind, ask, account)
         self.assertEqual(market.wallet(2**20 - 1).coll, 1)
+
+    def test_whole_numbers_of_every_kind(self) -> None:
+        """Each is taken as an account, a client, an amount, a price and a hint, and rows have an int of Python."""
+        for five, name in fives():
+            with self.subTest(name):
+                market = self.begin()
+                client = market.client(five)
+                client.price(five * 10**8 if isinstance(five, Decimal) else 5 * 10**8)
+                self.assertEqual((client.advance(five), client.next_number), (Advanced(5), 3))
+                client.fund(five, 10**11)
+                client.open(five, 10**11, 4 * 10**9, hints=(five, None))
+                client.provide(five, five)
+                client.send(five, 6, lusd=five)
+                client.adjust(five, coll_in=0, coll_out=five)
+                self.assertEqual(market.next_number(five), 8)
+                self.assertEqual((market.wallet(five).lusd, market.deposit(five)), (4 * 10**9 - 10, Deposit(5, 5, 0)))
+                rows = [market.wallet(five), market.trove(five), *market.troves([five]), *market.wallets(iter([five]))]
+                self.assertEqual([type(number) for row in rows for number in row], [int] * 14)
+                self.assertEqual({row.account for row in rows}, {5})
+
+    def test_a_number_that_is_none_says_what_to_do(self) -> None:
+        market = self.begin()
+        client = market.client(1)
+        for wrong, kind in no_whole_numbers():
+            with self.subTest(repr(wrong)):
+                for call in (
+                    lambda: client.fund(1, wrong), lambda: client.fund(wrong, 1), lambda: client.price(wrong),
+                    lambda: market.wallet(wrong), lambda: market.troves([1, wrong]), lambda: market.client(wrong),
+                    lambda: market.next_number(wrong),
+                ):
+                    self.assertRaises(kind, call)
+                if wrong is not None:
+                    self.assertRaises(kind, client.open, 1, 10**10, 4 * 10**9, hints=(wrong, 1))
+        with self.assertRaises(TypeError) as refused:
+            client.fund(1, 1.5)
+        self.assertIn('1.5 is a float, which rounds: write it as text, ether("1.5")', str(refused.exception))
+        self.assertRaises(ValueError, client.open, 1, 10**10, 4 * 10**9, hints=(1,))
+        self.assertEqual((client.next_number, market.system().records), (1, 0))
 
     def test_lines_of_ones_own_may_name_any_account(self) -> None:
         """The program refuses one that is out of range; the typed calls don't come to that."""

@@ -234,7 +234,7 @@ class Full(Cases):
             debt = market.trove(4).debt
             adjusted = market.client(1).adjust(4, borrow=lusd(10), hints=hints)
             self.assertGreater(adjusted.debt, debt + lusd(10))
-            self.assertEqual(market.trove(4), (adjusted.coll, adjusted.debt, market.trove(4).stake))
+            self.assertEqual(market.trove(4), (4, adjusted.coll, adjusted.debt, market.trove(4).stake))
 
     def test_nobody_rotates_unasked(self) -> None:
         market = self.full(0, rotating=None)

@@ -85,6 +85,14 @@ class OverStandIn(InFolder):
         return Market()
 
 
+def status_of(main: Callable[[List[str]], int], *words: object) -> int:
+    """The status of a command, also where its words are not understood."""
+    try:
+        return main([str(word) for word in words])
+    except SystemExit as end:
+        return int(end.code or 0)
+
+
 @functools.lru_cache(maxsize=1)
 def forge() -> Callable[[str, List[str]], Any]:
     """What makes both disks, of scripts/forge: a start of Python for each would take longer than all that it does."""

@@ -1,5 +1,5 @@
 """What stands in for the library where none is built: its calls over liq.model, at the same addresses, by the text of
-clients/c/liq.h.
+clients/c/liq.h. And what stands in for the program where it has to be late.
 
 It is slow, and tells nothing of the library; with it the package over the library has its cases, and faults that a
 library of plenty of memory never shows: behind `fails` more items there is no memory."""
@@ -20,6 +20,35 @@ from liq.model.sound import first_unsound
 from liq.refusals import Refusal
 
 OPEN = 0x6C69715F6F70656E
+
+# A program that reads lines, and never answers; one that does not even end with its input.
+NEVER_ANSWERS = """
+import sys, time
+for line in sys.stdin:
+    pass
+time.sleep(600 * STAYS)
+"""
+# A program that answers by the model, in memory: late where account 77 is named, after a second and a half.
+ANSWERS_LATE = """
+import sys, time
+sys.path.insert(0, PACKAGE)
+from liq.model import Market, answer
+market = Market()
+for line in sys.stdin:
+    if " 77" in line:
+        time.sleep(1.5)
+    print(answer(market, line[:-1]), flush=True)
+"""
+
+
+def never_answers(stays: bool = False) -> str:
+    """The text of a program that never answers; one that `stays` does not end where its input does."""
+    return NEVER_ANSWERS.replace("STAYS", str(int(stays)))
+
+
+def answers_late() -> str:
+    """The text of a program that answers late where account 77 is named."""
+    return ANSWERS_LATE.replace("PACKAGE", repr(str(Path(__file__).resolve().parents[1])))
 
 
 def value(at: Any) -> int:

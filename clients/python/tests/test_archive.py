@@ -7,7 +7,7 @@ import subprocess
 import sys
 import threading
 from pathlib import Path
-from typing import List, Tuple
+from typing import List, Optional, Tuple
 from unittest import mock
 
 from liq import Journal, NoJournal, Service, Unfit, archive, statement
@@ -15,9 +15,10 @@ from liq.archive import NotArchived, kept_in
 from liq.history import digest_of
 from liq.journal import Command, Disk
 from liq.model import market_on
+from liq.progress import Bar
 
 from . import modelled
-from .market import TOP, InFolder, OverProgram
+from .market import TOP, InFolder, OverProgram, status_of
 
 GONE = "generation 2 is missing, and it is on no file"
 
@@ -52,7 +53,7 @@ class Copies(InFolder):
 
     def run_archive(self, *words: str) -> Tuple[int, str]:
         with contextlib.redirect_stdout(io.StringIO()) as said, contextlib.redirect_stderr(said):
-            status = archive.main([str(word) for word in words])
+            status = status_of(archive.main, *words)
         return status, said.getvalue()
 
     def test_each_generation_once(self) -> None:
@@ -212,7 +213,7 @@ class Copies(InFolder):
         self.made.write()
         real, turned = archive.check_link, []
 
-        def rotated(disk: Disk, following: Disk) -> None:
+        def rotated(disk: Disk, following: Disk, bar: Optional[Bar] = None) -> None:
             if not turned:
                 turned.append(True)
                 if archives:

@@ -14,7 +14,7 @@ from liq.ends import Damaged, TooMuch
 from liq.journal import NoRegularFile, open_file
 from liq.words import state
 
-from .market import PROGRAM, OverProgram
+from .market import PROGRAM, OverProgram, status_of
 
 MANY = 60
 
@@ -61,7 +61,7 @@ class Copies(OverProgram):
         """The status of a call, and what it writes."""
         written = io.StringIO()
         with contextlib.redirect_stdout(written):
-            status = backup.main([str(word) for word in words])
+            status = status_of(backup.main, *words)
         return status, written.getvalue()
 
     def test_both_files_beside_a_run(self) -> None:

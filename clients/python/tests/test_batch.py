@@ -14,6 +14,7 @@ from liq.model.told import generated
 from liq.packed import FORMS
 from liq.replies import Adjusted, Opened, Trove, Wallet
 
+from .calls import fives, no_whole_numbers
 from .inmemory import busy_market
 from .market import TOP, OverLibrary, OverStandIn
 
@@ -43,18 +44,19 @@ class Without(unittest.TestCase):
 import sys
 sys.modules["numpy"] = None
 from liq import batch
+from liq.errors import NoPackage
 for call in lambda: batch.fund(1, 5), lambda: batch.queries("trove"), lambda: batch.COMMAND:
     try:
         call()
-    except ImportError as fault:
-        print(fault)
+    except NoPackage as fault:
+        print(fault.name, fault)
 try:
     batch.NOTHING_OF_THE_KIND
 except AttributeError:
     print("no such name")
 """)
         self.assertEqual(told.split("\n"),
-            ["columns want numpy, which is not there; without it a batch takes bytes"] * 3 + ["no such name"])
+            ["numpy columns want numpy, which is not there; without it a batch takes bytes"] * 3 + ["no such name"])
 
 
 class Columns:
@@ -111,13 +113,16 @@ class Columns:
 
     def test_rows_of_many_accounts(self) -> None:
         market = self.begin_with_owners()
-        told = market.query(batch.queries("trove", [5, 99, 7]))
+        asked = batch.queries("trove", [5, 99, 7])
+        told = market.query(asked)
         self.assertEqual(batch.has_row(told, "trove").tolist(), [True, False, True])
-        rows = batch.columns(told, "trove")
+        rows = batch.columns(told, "trove", asked)
         self.assertIsInstance(rows, Trove)
         self.assertEqual(list(zip(*map(numpy.ndarray.tolist, rows))), [market.trove(5), market.trove(7)])
         self.assertEqual(batch.ratios(rows, lusd(1000)).round(6).tolist(), [2.369668] * 2)
-        wallets = batch.columns(market.query(batch.queries("wallet", range(3))), "wallet")
+        self.assertIsNone(batch.columns(told, "trove").account)
+        asked = batch.queries("wallet", range(3))
+        wallets = batch.columns(market.query(asked), "wallet", asked)
         self.assertEqual([Wallet(*map(int, row)) for row in zip(*wallets)], market.wallets(range(3)))
         self.assertEqual(batch.columns(market.query(batch.queries("system")), "system").troves.tolist(), [OWNERS])
         self.assertEqual(market.query(batch.queries("next_number", [1, 2]))["values"][:, 0].tolist(),
@@ -155,6 +160,20 @@ class Columns:
         self.assertRaises(ValueError, batch.fund, [1, 2, 3], [1, 2])
         self.assertEqual(batch.fund(1, [10**19, 1])["amounts"][:, 0].tolist(), [10**19, 1])
         self.assertEqual(len(batch.fund([], 5)), 0)
+
+    def test_columns_of_whole_numbers_of_every_kind(self) -> None:
+        for five, name in fives():
+            with self.subTest(name):
+                made = batch.fund(five, [five, 2**63], client=numpy.array([five, 6], object))
+                self.assertEqual(made["account"].tolist(), [5, 5])
+                self.assertEqual((made["amounts"][:, 0].tolist(), made["client"].tolist()), ([5, 2**63], [5, 6]))
+        for wrong, kind in no_whole_numbers():
+            with self.subTest(repr(wrong)):
+                self.assertRaises(kind, batch.fund, 1, [1, wrong])
+                self.assertRaises(kind, batch.fund, 1, numpy.array([1, wrong], object))
+        with self.assertRaises(TypeError) as refused:
+            batch.fund(1, numpy.array([1.5]))
+        self.assertIn("a column of float64 has no whole numbers: ether(), lusd()", str(refused.exception))
 
     def test_arrays_that_are_no_commands(self) -> None:
         market = self.begin()

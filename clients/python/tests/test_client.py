@@ -23,7 +23,11 @@ class Refused(OverProgram, calls.Refused):
     """Refusals."""
 
     def begin(self):
-        return self.service()
+        """A new market, in a folder of its own each time: a run holds its files."""
+        self.begun += 1
+        return self.service(f"market {self.begun}")
+
+    begun = 0
 
     def test_a_number_that_another_has_used(self) -> None:
         service = self.service()

@@ -1,4 +1,7 @@
-"""Every exception of the package goes to another process and back, as a pool of processes sends it."""
+"""Every exception of the package is a `LiqError`, and goes to another process and back, as a pool of processes sends
+it."""
+import ast
+import builtins
 import copy
 import importlib
 import multiprocessing
@@ -14,6 +17,11 @@ from liq.across import NoLine
 from liq.archive import NotArchived
 from liq.batch import BatchStopped
 from liq.ends import End, MarketExists, NoJournal, TooMuch
+from liq.errors import LiqError, TimedOut
+from liq.gateway.book import BadBook
+from liq.gateway.desk import Stopped
+from liq.gateway.lines import Refused
+from liq.gateway.sockets import BadSocket
 from liq.guard import Parted
 from liq.journal import DamagedFile, NoRegularFile
 from liq.refusals import Refusal, read_refusal
@@ -23,16 +31,49 @@ MADE = {  # by what an exception is made where that is not a message alone
     NoJournal: (Path("a"),), MarketExists: ("a",), NoRegularFile: (Path("a/left.liq"),),
     DamagedFile: (Path("a/left.liq"), 3, "its digest is another"), TooMuch: ("a/left.liq has", 5, "bytes"),
     Parted: (1, 2), NotArchived: (Path("a"), "generation 2 is missing"), NoLine: ("staking", 3),
-    BatchStopped: (3, 8, (1, 2)), NotStated: ("left.liq is damaged at 3: its digest is another", ("nothing stands before that",)),
+    BatchStopped: (3, 8, (1, 2)), TimedOut: (2.5, "1 1 fund 1 5"),
+    BadBook: ("a/book", "it is none"), Stopped: (5, "disk fault"), Refused: ("verb", "it is none of yours"),
+    BadSocket: ("a/callers", "it is heard"),
+    NotStated: ("left.liq is damaged at 3: its digest is another", ("nothing stands before that",)),
 }
+
+
+NOT_OURS = {  # raised by the package, and of Python alone: what a method without a body, an attribute or a signal is
+    "NotImplementedError", "AttributeError", "SystemExit",
+}
+
+
+def modules() -> Iterator[str]:
+    """The modules of the package. What runs a command where it is imported has `__main__` for its name."""
+    for module in pkgutil.walk_packages(liq.__path__, "liq."):
+        if not module.name.endswith("__main__"):
+            yield module.name
 
 
 def classes() -> Iterator[Type[BaseException]]:
     """The exceptions that the modules of the package define."""
-    for module in pkgutil.iter_modules(liq.__path__, "liq."):
-        for name, each in sorted(vars(importlib.import_module(module.name)).items()):
-            if isinstance(each, type) and issubclass(each, BaseException) and each.__module__ == module.name:
+    for module in modules():
+        for name, each in sorted(vars(importlib.import_module(module)).items()):
+            if isinstance(each, type) and issubclass(each, BaseException) and each.__module__ == module:
                 yield each
+
+
+class OneBase(unittest.TestCase):
+    """Who catches `LiqError` catches all that the package raises of its own."""
+
+    def test_each_class_derives_from_it(self) -> None:
+        for kind in classes():
+            self.assertTrue(issubclass(kind, LiqError), kind)
+
+    def test_no_module_raises_a_class_of_python(self) -> None:
+        package = Path(liq.__file__).parent
+        for path in sorted(package.rglob("*.py")):
+            for node in ast.walk(ast.parse(path.read_text())):
+                raised = node.exc.func if isinstance(node, ast.Raise) and isinstance(node.exc, ast.Call) else None
+                if isinstance(node, ast.Raise) and isinstance(node.exc, ast.Name):
+                    raised = node.exc
+                if isinstance(raised, ast.Name) and hasattr(builtins, raised.id) and raised.id not in NOT_OURS:
+                    self.fail(f"{path.relative_to(package)}:{node.lineno} raises {raised.id}")
 
 
 def sample(kind: Type[BaseException]) -> BaseException:

@@ -18,7 +18,7 @@ from liq.journal import Checkpoint, DamagedFile, DepositRow, KeptReply
 from liq.shares import PlainLedger, Share
 
 from . import foreign
-from .market import TOP, InFolder, OverProgram
+from .market import TOP, InFolder, OverProgram, status_of
 
 LATE = 60  # seconds, far more than any of these takes
 TOOLS = ("recheck", "page")
@@ -35,7 +35,7 @@ def run(tool: str, *words: str) -> Tuple[int, str]:
     tenth of a second each time."""
     main = {"recheck": recheck.main, "page": page.main, "statement": statement.main}[tool]
     with contextlib.redirect_stdout(io.StringIO()) as told, contextlib.redirect_stderr(io.StringIO()) as said:
-        status = main(list(words))
+        status = status_of(main, *words)
     return status, said.getvalue() or told.getvalue()
 
 
@@ -82,7 +82,7 @@ class Small(OverProgram):
         """It is sound, as the rules bound a scale by all records that there may have been. No step is made for each."""
         folder = self.made("scale", foreign.bytes_of(self.small._replace(scale=2**24)))
         status, said = run_within("recheck", folder)
-        self.assertEqual((status, said.splitlines()[0]), (0, "1 0 0.000 - 0 0.000 -"))
+        self.assertEqual((status, said.splitlines()[1].split()), (0, ["1", "0", "0.000", "-", "0", "0.000", "-"]))
         self.assertEqual(run_within("page", folder)[0], 0)
         self.assertEqual(run_within("statement", folder)[0], 0)
 

@@ -10,7 +10,7 @@ import time
 import unittest
 from typing import List
 
-from liq import Journal
+from liq import Journal, TimedOut
 from liq.gateway.caller import Caller, Gone
 from liq.gateway.lines import Refused, read_line
 from liq.gateway.log import Counts, Log
@@ -255,7 +255,7 @@ class Connections(Gateways):
         listening.listen(0)
         first = Caller(self.socket)
         self.addCleanup(first.close)
-        self.assertRaises(BlockingIOError, Caller, self.socket, None, 0.05)
+        self.assertRaises(TimedOut, Caller, self.socket, None, 0.05)
 
         def take() -> None:
             time.sleep(0.1)

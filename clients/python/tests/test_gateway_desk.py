@@ -9,7 +9,7 @@ import unittest
 from typing import Any, Callable, List
 from unittest import mock
 
-from liq import Service, refusals
+from liq import NoProgram, Service, refusals
 from liq.gateway import book as books
 from liq.gateway import desk as desks
 from liq.gateway.book import BadBook, Book, Order, Settled
@@ -230,6 +230,29 @@ class Ends(Desks):
         with mock.patch.object(desks, "SECONDS_BETWEEN_STARTS", 0), mock.patch.object(self.desk.run, "_spawn", spawned):
             self.assertEqual(self.ask("b fund 1 6", "a fund 10 1"), ["ok", "ok"])
         self.assertEqual(self.accepted(), ["fund 1 5", "fund 1 6", "fund 10 1"])
+
+    def test_a_program_that_is_gone_for_a_moment(self) -> None:
+        """As while another one is installed. Where it stays away that is no end of liq's own."""
+        self.ask("a fund 1 5")
+        spawn, faults = self.desk.run._spawn, [NoProgram(70, "none")] * (desks.STARTS_MOST - 1)
+
+        def spawned() -> Any:
+            if faults:
+                raise faults.pop()
+            return spawn()
+
+        quick = mock.patch.object(desks, "SECONDS_BETWEEN_STARTS", 0)
+        with quick, mock.patch.object(self.desk.run, "_spawn", spawned):
+            for wanted in ("ok", None):
+                assert self.desk.run._process
+                self.desk.run._process.kill()
+                if wanted:
+                    self.assertEqual(self.ask("b fund 1 6"), [wanted])
+                    faults += [NoProgram(70, "none")] * desks.STARTS_MOST
+                    continue
+                with self.assertRaises(Stopped) as stopped:
+                    self.ask("c fund 1 7")
+                self.assertEqual((stopped.exception.status, faults), (1, []))
 
     def test_a_disk_fault_while_a_table_is_looked_at(self) -> None:
         """No run is begun behind it."""

@@ -8,12 +8,13 @@ import subprocess
 import time
 import unittest
 from pathlib import Path
-from typing import Dict, Iterator, List, Tuple
+from typing import Dict, Iterator, List, Optional, Tuple
 from unittest import mock
 
 from liq import Journal, guard
 from liq.ends import Damaged, Unfit
 from liq.journal import SIDES
+from liq.progress import Bar
 from liq.words import state
 
 from .market import PROGRAM, READY, InFolder, OverProgram
@@ -336,8 +337,8 @@ class Notes(Looking):
         self.put(forged(FUNDS[:4]))
         self.run_guard("--note", self.note)
 
-        def slowly(folder: Path) -> guard.Look:
-            found = look(folder)
+        def slowly(folder: Path, bar: Optional[Bar] = None) -> guard.Look:
+            found = look(folder, bar)
             guard.write_note(self.note, newer)
             return found
 

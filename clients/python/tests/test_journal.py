@@ -6,7 +6,7 @@ from pathlib import Path
 
 from liq import Journal, journal
 from liq.backup import backup
-from liq.ends import TooMuch
+from liq.ends import NoJournal, TooMuch
 from liq.journal import DamagedFile, KeptReply, NoRegularFile, Unknown, copy_file, read_file
 
 from .market import TOP, InFolder, OverProgram, forged
@@ -138,9 +138,9 @@ class Forged(OfForge):
             self.assertEqual(damaged.exception.record, 0 if place < 65 else 1)
 
     def test_no_journal(self) -> None:
-        self.assertRaises(FileNotFoundError, Journal, self.folder)
+        self.assertRaises(NoJournal, Journal, self.folder)
         (self.folder / "left.liq").write_bytes(bytes(65))
-        self.assertRaises(FileNotFoundError, Journal, self.folder)
+        self.assertRaises(NoJournal, Journal, self.folder)
 
 
 class Extends(OfForge):

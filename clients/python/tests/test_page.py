@@ -1,22 +1,24 @@
 """The page, and what it says is liquidated at which price."""
+import contextlib
+import io
+import json
 import random
 import re
 import shutil
 import unittest
-from html.parser import HTMLParser
 from pathlib import Path
-from typing import List, Tuple
+from typing import Callable, List, Sequence, Tuple
 from unittest import mock
 
 from liq import Refusal, Service, page, risk, words
-from liq.chart import Panel, chart, ticks
 from liq.ends import Usage
 from liq.refusals import NotLiquidatable
 from liq.replies import Pools, System
 from liq.risk import Tried, choose_prices
 from liq.words import Report, ReportedDeposit, ReportedTrove
 
-from .market import OverProgram
+from . import shown
+from .market import InFolder, OverProgram, status_of
 
 TROVES = [ReportedTrove(1, 10**10, 4220000000, 10**10), ReportedTrove(2, 10**11, 4220000000, 10**11)]
 
@@ -29,68 +31,143 @@ def market_of(price: int = 10**9, pool: int = 3 * 10**9) -> page.Market:
     return page.Market(Report(system, 10**18, 0, 0, 0, TROVES, deposits), pools, [2, 1], tried)
 
 
-class Tags(HTMLParser):
-    """Whether all tags are closed, and what they name."""
-
-    def __init__(self) -> None:
-        super().__init__()
-        self.open, self.seen = [], set()
-
-    def handle_starttag(self, tag, attrs) -> None:
-        self.seen.add(tag)
-        self.seen.update(name for name, _ in attrs)
-        if tag != "meta":
-            self.open.append(tag)
-
-    def handle_startendtag(self, tag, attrs) -> None:
-        self.seen.add(tag)
-
-    def handle_endtag(self, tag) -> None:
-        assert self.open.pop() == tag, tag
+def run_main(main: Callable[[List[str]], int], *words: str) -> str:
+    """What a command writes that ends with 0."""
+    with contextlib.redirect_stdout(io.StringIO()) as told:
+        assert main(list(words)) == 0
+    return told.getvalue()
 
 
 class Pages(unittest.TestCase):
-    def test_it_is_whole_and_has_no_part_from_elsewhere(self) -> None:
-        text = page.page(market_of())
-        tags = Tags()
-        tags.feed(text)
-        self.assertEqual(tags.open, [])
-        self.assertFalse(tags.seen & {"script", "link", "img", "src", "href", "iframe"})
-        self.assertNotIn("url(", text)
+    def rows_of(self, shown: page.Market, table: str) -> List[List[str]]:
+        """The cells of a table, as they are shown."""
+        _, _, rest = page.page(shown).partition(f'<table id="{table}">')
+        body = rest.partition("<tbody>")[2].partition("</tbody>")[0]
+        return [
+            [" ".join(re.sub(r"<[^>]+>", " ", cell).split()) for cell in re.findall(r"<t[hd].*?</t[hd]>", row, re.S)]
+            for row in re.findall(r"<tr.*?</tr>", body, re.S)]
 
     def test_what_it_shows(self) -> None:
-        text = re.sub(r"<[^>]+>", " ", page.page(market_of()))
-        for shown in ("1,000.00", "Normal Mode", "1,303.31 %", "3,000.00", "236.96 %", "464.19", "2,369.66 %"):
+        text = " ".join(re.sub(r"<[^>]+>", " ", page.page(market_of())).split())
+        for shown in ("1,000.00", "Normal Mode", "1,303.31 %", "3,000.00"):
             self.assertIn(shown, text)
-        self.assertIn("no price", text)
+        self.assertEqual(self.rows_of(market_of(), "by_ratio"), [
+            ["1", "10.0000", "4,220.00", "236.96 %", "464.19"],
+            ["2", "100.0000", "4,220.00", "2,369.66 %", "no price"],
+        ])
+        self.assertEqual(self.rows_of(market_of(), "deposits"), [["2", "3,000.00", "100.00 %", "0.0000"]])
 
     def test_the_list_is_shown_from_its_end(self) -> None:
-        listed = page.page(market_of()).partition("list's order")[2]
-        self.assertIn("<td>1</td><td>1</td><td>10.0000</td>", listed)
-        self.assertIn("<td>2</td><td>2</td><td>100.0000</td>", listed)
+        self.assertEqual(self.rows_of(market_of(), "by_list"), [
+            ["1", "1", "10.0000", "4,220.00", "10,000,000,000", "236.96 %"],
+            ["2", "2", "100.0000", "4,220.00", "100,000,000,000", "2,369.66 %"],
+        ])
 
     def test_troves_that_can_be_liquidated_now_are_marked(self) -> None:
-        below, at = page.page(market_of(price=464199999)), page.page(market_of(price=464200000))
-        self.assertIn('class="now"', below)
-        self.assertIn("each as the first one: there are 1.", below)
-        self.assertIn("<b>1</b><span>that liquidate_lowest takes now</span>", below)
-        self.assertNotIn('class="now"', at)
-        self.assertIn("each as the first one: there are 0.", at)
-        self.assertIn("<b>0</b><span>that liquidate_lowest takes now</span>", at)
+        below, at = market_of(price=464199999), market_of(price=464200000)
+        self.assertIn('<tr class="now">', page.page(below))
+        self.assertNotIn('<tr class="now">', page.page(at))
+        self.assertEqual(self.rows_of(below, "by_ratio")[0][4], "now, 464.19")
+        for shown, count in ((below, 1), (at, 0)):
+            told = page.told(shown)
+            self.assertEqual((told["taken_now"], told["marked_now"]), (count, count))
+            text = " ".join(page.page(shown).split())
+            self.assertIn(f'there are <data value="{count}">{count}</data>. Each one', text)
+            self.assertIn(f'takes <data value="{count}">{count}</data> now.', text)
 
-    def test_each_price_that_was_tried_is_a_dot(self) -> None:
+    def test_each_price_that_was_tried_is_a_dot_and_a_row(self) -> None:
         text = page.page(market_of())
-        self.assertEqual(text.count("<circle "), 4)
+        for part, width in (("wide", page.WIDE), ("narrow", page.NARROW)):
+            picture = text.partition(f'<div class="{part}">')[2].partition("</div>")[0]
+            self.assertEqual((picture.count("<circle "), picture.count(f' width="{width}"')), (4, 2))
         self.assertIn("Each of the 2 dots was tried on a copy", text)
+        self.assertEqual(self.rows_of(market_of(), "tried"), [["1,000.00", "0", "0.00"], ["10,000.00", "0", "0.00"]])
 
     def test_nothing_is_drawn_where_no_trove_can_be_liquidated(self) -> None:
         text = page.page(market_of()._replace(tried=()))
         self.assertNotIn("<circle ", text)
-        self.assertIn("<b>0</b><span>that liquidate_lowest takes now</span>", text)
+        self.assertNotIn('"#risk"', text)
+        self.assertEqual(self.rows_of(market_of()._replace(tried=()), "tried"), [])
+
+    def test_an_empty_market(self) -> None:
+        empty = shown.an_empty_market()
+        text = page.page(empty)
+        self.assertIn("no debt", text)
+        self.assertEqual(text.count('<p class="soft">None.</p>'), 3)
+        self.assertEqual((page.told(empty)["ratio"], page.told(empty)["deposits"]), (None, []))
+
+    def test_of_many_rows_the_first_are_shown(self) -> None:
+        with mock.patch.object(page, "ROWS_MOST", 1):
+            text = page.page(market_of())
+            self.assertEqual([row[0] for row in self.rows_of(market_of(), "by_ratio")], ["1"])
+            self.assertEqual(len(page.told(market_of())["by_ratio"]), 2)
+        self.assertEqual(text.count("1 more are left out."), 2)
+
+    def test_numbers_are_cut_off_and_never_rounded(self) -> None:
+        for form, value, expected in (
+            ("ether", 1_999_999_999, "1.9999"), ("lusd", 1_999_999_999, "1,999.99"), ("percent", 10_999, "109.99 %"),
+            ("rate", 5_559_999_999_999_999, "0.5559 %"), ("rate", 10**18, "100.0000 %"),
+            ("count", 10**9, "1,000,000,000"), ("price", 10**8 - 1, "no price"), ("price", 10**8, "100.00"),
+            ("mode", "recovery", "Recovery Mode"),
+        ):
+            self.assertEqual(page.FORMS[form](value), expected)
+        uneven = market_of()._replace(pools=market_of().pools._replace(pool_lusd=3 * 10**9 + 1))
+        self.assertEqual(page.told(uneven)["deposits"][0]["part"], 9999)
+
+    def test_json_has_all_that_the_rules_tell(self) -> None:
+        told = json.loads(page.as_json(market_of()))
+        self.assertEqual((told["liq_page"], told["mode"], told["ratio"], told["records"]), (1, "normal", 130331, 5))
+        self.assertEqual(told["by_ratio"], [
+            {"account": 1, "coll": 10**10, "debt": 4220000000, "ratio": 23696, "at_most": 464199999, "now": False},
+            {"account": 2, "coll": 10**11, "debt": 4220000000, "ratio": 236966, "at_most": 46419999, "now": False},
+        ])
+        self.assertEqual(told["pool"], {
+            "lusd": 3 * 10**9, "coll": 0, "p": 10**18, "scale": 0, "epoch": 0, "sum": 0})
+
+    def test_it_is_the_same_each_time_and_draws_by_its_own_hand(self) -> None:
+        with mock.patch("liq.chart.plot", side_effect=AssertionError("a library is asked")):
+            self.assertEqual(page.page(market_of()), page.page(market_of()))
+
+
+class Command(InFolder):
+    """The words that the command takes."""
+
+    def run_page(self, *words: str) -> Tuple[int, str, str]:
+        with contextlib.redirect_stdout(io.StringIO()) as told, contextlib.redirect_stderr(io.StringIO()) as said:
+            status = status_of(page.main, *words)
+        return status, told.getvalue(), said.getvalue()
+
+    def test_help(self) -> None:
+        status, told, _ = self.run_page("--help")
+        self.assertEqual(status, 0)
+        for said in ("usage: python3 -m liq.page", "--json", "--seconds N", "FOLDER", "examples:", "page.html"):
+            self.assertIn(said, told)
+
+    def test_words_that_are_not_understood(self) -> None:
+        cases: List[List[str]] = [
+            [], ["a", "b"], ["--seconds", "0", "a"], ["--seconds", "x", "a"], ["--seconds", str(10**10), "a"],
+            ["--jso", "a"],
+        ]
+        for words in cases:
+            status, told, said = self.run_page(*words)
+            self.assertEqual((status, told, said[:7]), (2, "", "usage: "))
+
+    def test_a_folder_without_a_journal(self) -> None:
+        status, told, said = self.run_page(str(self.folder))
+        self.assertEqual((status, told), (1, ""))
+        self.assertRegex(said, "^page: no journal in .*\n$")
+        status, told, said = self.run_page("--json", str(self.folder))
+        self.assertEqual((status, said), (1, ""))
+        self.assertRegex(json.loads(told)["refused"], "^no journal in ")
+
+    def test_page_and_json(self) -> None:
+        with mock.patch.object(page, "read_market", lambda folder, bar: market_of()):
+            self.assertEqual(self.run_page("x"), (0, page.page(market_of()), ""))
+            self.assertEqual(self.run_page("--json", "x"), (0, page.as_json(market_of()), ""))
 
 
 class Prices(OverProgram):
-    def check(self, name: str, opened) -> None:
+    def check(self, name: str, opened: Sequence[Tuple[int, int]]) -> None:
         """Each trove can be liquidated at the price that is told, and not at the next one."""
         with Service(self.folder / name, create=True) as market:
             client = market.client(1)
@@ -99,10 +176,15 @@ class Prices(OverProgram):
                 client.open(account, coll, lusd)
             client.provide(1, 4 * 10**9)
             system, pools = market.system(), market.pools()
-            troves = [ReportedTrove(account, *market.trove(account)) for account in range(1, len(opened) + 1)]
-        for trove in troves:
-            price = page.liquidation_price(trove, system, pools.pool_lusd)
-            self.assertEqual([self.liquidated(name, trove.account, price + more) for more in (0, 1)], [True, False])
+            troves = []
+            for account in range(1, len(opened) + 1):
+                trove = market.trove(account)
+                assert trove
+                troves.append(ReportedTrove(account, trove.coll, trove.debt, trove.stake))
+        for row in troves:
+            price = page.liquidation_price(row, system, pools.pool_lusd)
+            assert price is not None
+            self.assertEqual([self.liquidated(name, row.account, price + more) for more in (0, 1)], [True, False])
 
     def liquidated(self, name: str, account: int, price: int) -> bool:
         copy = self.folder / f"{name}-{account}-{price}"
@@ -141,7 +223,7 @@ class Prices(OverProgram):
             self.skipTest("the program does not have the word report")
         self.assertEqual(found.order, [1, 2])
         self.assertEqual(found.report, words.report(self.folder / "market"))
-        self.assertIn("<td>2</td><td>10.0000</td><td>4,220.00</td>", page.page(found))
+        self.assertIn('<data value="4220000000">4,220.00</data>', page.page(found))
 
 
 class Chosen(unittest.TestCase):
@@ -176,6 +258,14 @@ class Chosen(unittest.TestCase):
 
     def test_one_price_alone(self) -> None:
         self.assertEqual(self.chosen([], 10**8, 10**8, 10**8), [Tried(10**8, 0, 0)])
+
+    def test_a_bar_shows_how_many_are_done(self) -> None:
+        bar = mock.Mock()
+        with mock.patch.object(risk, "liquidated", lambda file, room, client, price, program: int(price < 500)):
+            found = risk.try_prices(Path("left.liq"), [7, 9], 1, 100, 900, 333, bar=bar)
+        self.assertEqual((found[0].debt, found[-1].debt), (7, 0))
+        self.assertEqual(bar.begin.call_args_list, [mock.call("prices", 64)])
+        self.assertEqual(bar.add.call_count, len(found))
 
     def test_fewer_in_a_large_market(self) -> None:
         for troves, most in ((2, 64), (10**4, 64), (31_250, 32), (10**5, 16), (2**20, 16)):
@@ -219,7 +309,7 @@ class Liquidated(OverProgram):
         with Service(self.folder / str(seed), create=True) as market:
             client = market.client(1)
 
-            def attempt(call, *words) -> None:
+            def attempt(call: Callable[..., object], *words: int) -> None:
                 try:
                     call(*words)
                 except Refusal:
@@ -282,18 +372,3 @@ class Liquidated(OverProgram):
             self.assertEqual((each.troves, each.debt), self.one_by_one("market", each.price)[:2])
         near = [each for each in shown.tried if lower <= each.price]
         self.assertLessEqual(max(each.troves for each in near), count)
-
-
-class Charts(unittest.TestCase):
-    def test_a_picture(self) -> None:
-        drawn = chart("a < b", "hours", [Panel("LUSD", {"debt": [(0, 1), (5, 3)], "pool": [(0, 2), (5, 0)]})])
-        tags = Tags()
-        tags.feed(drawn)
-        self.assertEqual(tags.open, [])
-        self.assertIn("a &lt; b", drawn)
-        self.assertRaises(ValueError, chart, "", "", [])
-
-    def test_round_numbers(self) -> None:
-        self.assertEqual(ticks(0, 10), [0, 2, 4, 6, 8, 10])
-        self.assertEqual(ticks(3, 3), [3.0, 3.2, 3.4000000000000004, 3.6, 3.8000000000000003, 4.0])
-        self.assertEqual((ticks(130, 219)[0], ticks(130, 219)[-1]), (120, 220))

@@ -12,7 +12,7 @@ from liq.recheck import Allowances, Differs, cut_off, said_of
 from liq.service import find_program
 from liq.shares import PlainLedger, Share
 
-from .market import OverProgram
+from .market import OverProgram, status_of
 
 
 class Shares(unittest.TestCase):
@@ -156,7 +156,7 @@ class OfMarkets(OverProgram):
 
     def test_what_is_no_market(self) -> None:
         with contextlib.redirect_stdout(io.StringIO()) as said, contextlib.redirect_stderr(said):
-            self.assertEqual((recheck.main([]), recheck.main([str(self.folder)])), (2, 1))
+            self.assertEqual((status_of(recheck.main), recheck.main([str(self.folder)])), (2, 1))
             (self.folder / "left.liq").write_bytes(b"\1LIQJRNL2" + bytes(100))
             self.assertEqual(recheck.main([str(self.folder)]), 1)
         self.assertEqual(said.getvalue().count("recheck refuses: "), 2)

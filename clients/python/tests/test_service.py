@@ -175,11 +175,11 @@ class Again(OverProgram):
     def test_killed_behind_the_reply(self) -> None:
         market = self.service()
         client = market.client(1)
-        read = market._read
 
-        def lose():
-            read()
+        def lose(until=None):
+            market._poll.poll()
             os.kill(market.pid, signal.SIGKILL)
+            os.read(market._out, 1000)
             raise market._end()
 
         with mock.patch.object(market, "_read", lose):
@@ -231,6 +231,21 @@ class Many(OverProgram):
         for account in range(50):
             client.fund(account, account + 1)
         self.assertEqual([wallet.coll for wallet in market.wallets(range(50))], list(range(1, 51)))
+
+    def test_what_is_sent_together_and_left(self) -> None:
+        """A run that may have half a line is not asked any more."""
+        market = self.service()
+
+        def take(_: object) -> None:
+            raise KeyboardInterrupt
+
+        lines = [f"{client} 1 fund 1 1" for client in range(2000)]
+        self.assertRaises(KeyboardInterrupt, market.ask_together, lines, take)
+        self.assertEqual((market.pid, market.pending is None), (None, False))
+        market.start()
+        replies: "list[str]" = []
+        market.ask_together(lines, replies.extend)
+        self.assertEqual((set(replies), market.wallet(1).coll), ({"ok"}, 2000))
 
     def test_commands_are_not_taken(self) -> None:
         self.assertRaises(ValueError, self.service().ask_many, ["? pools", "1 1 fund 1 5"])

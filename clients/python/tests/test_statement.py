@@ -22,13 +22,14 @@ from liq.model.amounts import ONE
 from liq.model.owed import audit_text
 from liq.model.sound import first_unsound
 from liq.model.told import report_text, state_text
+from liq.progress import Bar
 from liq.service import Service, find_program
 from liq.shares import Share
 from liq.stated import Depositor, Statement
 from liq.words import report
 
 from . import modelled
-from .market import TOP, InFolder, OverProgram
+from .market import TOP, InFolder, OverProgram, status_of
 from .modelled import Made
 
 DAY = "2026-01-01"
@@ -37,10 +38,7 @@ DAY = "2026-01-01"
 def run_statement(*words: object) -> Tuple[int, str]:
     """The status and the output of the module, with a date."""
     with contextlib.redirect_stdout(io.StringIO()) as said, contextlib.redirect_stderr(said):
-        try:
-            status = statement.main(["--date", DAY, *map(str, words)])
-        except SystemExit as end:
-            status = int(end.code or 0)
+        status = status_of(statement.main, "--date", DAY, *words)
     return status, said.getvalue()
 
 
@@ -143,7 +141,7 @@ class WhatItSays(InFolder):
         shutil.copytree(self.folder, self.folder.with_name(self.folder.name + "-copy"))
         again = self.folder.with_name(self.folder.name + "-copy")
         self.addCleanup(shutil.rmtree, again)
-        for form in stated.FORMS:
+        for form in statement.FORMS:
             here = run_statement("--form", form, "--archive", self.directory, self.market)
             self.assertEqual(here, run_statement("--form", form, "--archive", again / "archive", again / "market"))
             self.assertEqual(here[0], 0)
@@ -192,11 +190,11 @@ class WhatItSays(InFolder):
             made.rotate()
             archive.archive(self.market, self.directory)
 
-        def behind(folder: Path, room: Path) -> None:
+        def behind(folder: Path, room: Path, bar: Optional[Bar] = None) -> None:
             real(folder, room)
             turn()
 
-        def before(folder: Path, room: Path) -> None:
+        def before(folder: Path, room: Path, bar: Optional[Bar] = None) -> None:
             turn()
             real(folder, room)
 
@@ -332,7 +330,7 @@ class WhatItSays(InFolder):
             source = io.TextIOWrapper(io.BytesIO(lines.encode()))
             with mock.patch.object(sys, "stdin", source), contextlib.redirect_stdout(io.StringIO()) as said:
                 with contextlib.redirect_stderr(said):
-                    return across.main([str(word) for word in words]), said.getvalue()
+                    return status_of(across.main, *words), said.getvalue()
 
         words, lines = ["--archive", self.directory, "staking", self.market], "9 1 stake 7\n12 1 stake 3"
         status, said = ran(*words, lines=lines)
@@ -755,7 +753,7 @@ class OverTheProgram(OverProgram):
         with Service(market) as service:
             rows = tables["wallets"].rows
             wallets = service.wallets([int(str(row[0])) for row in rows])
-            self.assertEqual([tuple(wallet) for wallet in wallets], [row[1:3] for row in rows])
+            self.assertEqual([tuple(wallet) for wallet in wallets], [row[:3] for row in rows])
 
     def test_recheck_says_the_same_over_an_archive(self) -> None:
         directory, market = self.folder / "archive", self.folder / "market"

@@ -1,7 +1,11 @@
 """Decimal text and whole numbers."""
 import unittest
 
-from liq.units import ether, lusd, rate, show_ether, show_lusd
+from decimal import Decimal
+
+from liq.units import ether, lusd, rate, show_ether, show_lusd, whole, within
+
+from .calls import fives, no_whole_numbers
 
 
 class Units(unittest.TestCase):
@@ -21,6 +25,25 @@ class Units(unittest.TestCase):
             self.assertRaises(ValueError, lusd, wrong)
         for wrong in (1.5, 1.0, True, None):
             self.assertRaises(TypeError, ether, wrong)
+
+    def test_decimals_are_as_their_text(self) -> None:
+        self.assertEqual((ether(Decimal("1.5")), lusd(Decimal("1E+3"))), (1_500_000_000, 1_000_000_000))
+        self.assertEqual((lusd(Decimal("0.0000010000")), lusd(Decimal("0E-50"))), (1, 0))
+        self.assertEqual(rate(Decimal(1) / 8), 125 * 10**15)
+        for wrong in ("-1", "NaN", "sNaN", "Infinity", "1E-10", "1E+999999999", "1E-999999999", "-0"):
+            self.assertRaises(ValueError, ether, Decimal(wrong))
+
+    def test_whole_numbers_of_every_kind(self) -> None:
+        for five, name in fives():
+            with self.subTest(name):
+                found = [whole(five), within(five, 6), ether(five), lusd(five)]
+                self.assertEqual((found, [type(it) for it in found]), ([5, 5, 5 * 10**9, 5 * 10**6], [int] * 4))
+                self.assertEqual(show_lusd(five), "0.000005")
+                self.assertRaises(ValueError, within, five, 5)
+        for wrong, kind in no_whole_numbers():
+            with self.subTest(repr(wrong)):
+                self.assertRaises(kind, within, wrong, 10)
+        self.assertEqual((whole(-3), whole(Decimal(-3)), whole(Decimal(2**70))), (-3, -3, 2**70))
 
     def test_whole_numbers_become_text(self) -> None:
         self.assertEqual(show_ether(1_500_000_000), "1.5")

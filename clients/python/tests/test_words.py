@@ -1,5 +1,6 @@
 """The other words of the command line: as rows by their formats, and over the built program where it has them."""
 import unittest
+from decimal import Decimal
 from unittest import mock
 
 from liq import MarketExists, NoJournal, ends, refusals, words
@@ -50,6 +51,11 @@ class Formats(unittest.TestCase):
         self.assertEqual(found.rows[0], words.RewardRow(1, reward=39999, allowance=8, kept=9999, front=9, given=30000))
         self.assertIsNone(found.rows[1].front)
         self.assertEqual((found.issued, found.unshared), (120000, 0))
+
+    def test_numbers_of_a_load_that_are_none(self) -> None:
+        for wrong, kind in ((1.5, TypeError), ("7", TypeError), (True, TypeError), (-1, ValueError)):
+            self.assertRaises(kind, words.generate, wrong, 5)
+            self.assertRaises(kind, words.generate, 5, wrong)
 
 
 class OfProgram(OverProgram):
@@ -136,7 +142,7 @@ class OfProgram(OverProgram):
 
     def test_a_generated_load(self) -> None:
         told = document("SIMULATING.md").partition("$ liq gen 7 20000\n")[2].partition("\n")[0]
-        self.assertEqual(words.generate(7, 20000), words.Generated(*map(int, told.split(" ")[1::2])))
+        self.assertEqual(words.generate(Decimal("7.0"), 20000), words.Generated(*map(int, told.split(" ")[1::2])))
 
     def test_report(self) -> None:
         self.borrow()

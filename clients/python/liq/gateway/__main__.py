@@ -1,10 +1,12 @@
 """A market for several callers: a Unix socket in front of one run of liq.
 
-usage: python3 -m liq.gateway FOLDER --socket PATH --table FILE [--counts PATH] [--archive DIR] [--book FILE] [--log
-FILE]
-                              [--idle SECONDS] [--mode MODE] [--adopt]
+usage: python3 -m liq.gateway FOLDER --socket PATH --table FILE [--counts PATH] [--archive DIR] [--book FILE]
+                              [--log FILE] [--idle SECONDS] [--mode MODE] [--adopt]
 
-See docs/OPERATING.md. It ends with 0 where it is stopped by TERM or INT; with 1 where it can't begin or can't go on;
+Who connects is known by the system's word, and the table says what each may do: `python3 -m pydoc liq.gateway.table`
+has its words, docs/OPERATING.md its routines. It writes nothing to standard output; the log is a JSON object a line.
+
+It ends with 0 where it is stopped by TERM or INT; with 1 where it can't begin or can't go on;
 with 2 where its words are not understood; with 5 or 6 where the run of liq has: then look first, and begin nothing by
 itself. HUP has it read the table again and open its log anew, USR1 has it archive and rotate.
 """
@@ -19,9 +21,11 @@ import sys
 from pathlib import Path
 from typing import List, Optional
 
+from ..console import parser_of
 from ..ends import End, Unfit
+from ..errors import BadValue
 from .book import Book
-from .desk import HOPELESS, Desk, Parts, Stopped
+from .desk import Desk, Parts, Stopped, is_hopeless
 from .door import SECONDS_BETWEEN_SWEEPS, SECONDS_IDLE, Door
 from .keeper import Keeper
 from .log import Counts, Log
@@ -31,6 +35,10 @@ from .table import Table, read_table
 
 BOOK = "gateway.book"
 CALLERS, COUNTS = "callers", "counts"  # the names of systemd's sockets
+EXAMPLES = """
+python3 -m liq.gateway market --socket callers --table table --archive archive --log log
+python3 -m liq.gateway market --socket callers --table table --counts counts --mode 666
+"""
 SWITCH_SECONDS = 0.0005  # between the desk's thread and the door's
 
 
@@ -112,13 +120,13 @@ async def serve(asked: argparse.Namespace, log: Log) -> Stopped:
         opened.callback(run.kill)
         keeper = Keeper(asked.folder, asked.archive) if asked.archive else None
         gateway = Gateway(asked, table, log, Parts(run, book, log, Counts(), keeper))
-        return await gateway.serve(callers, counts)
+        why = await gateway.serve(callers, counts)
+    return why
 
 
 def parsed(words: List[str]) -> argparse.Namespace:
-    said = (__doc__ or "").partition("\n")[0]
-    parser = argparse.ArgumentParser(prog="python3 -m liq.gateway", description=said, allow_abbrev=False)
-    parser.add_argument("folder", metavar="FOLDER", type=Path)
+    parser = parser_of("gateway", __doc__, EXAMPLES)
+    parser.add_argument("folder", metavar="FOLDER", type=Path, help="the market's folder, which has a journal")
     parser.add_argument("--socket", metavar="PATH", type=Path, help="for callers; systemd's `callers` if left out")
     parser.add_argument("--table", metavar="FILE", type=Path, required=True, help="who may do what")
     parser.add_argument("--counts", metavar="PATH", type=Path, help="a second socket, which tells counts")
@@ -134,14 +142,14 @@ def parsed(words: List[str]) -> argparse.Namespace:
 def positive(word: str) -> float:
     seconds = float(word)
     if not 0 < seconds <= 10**6:
-        raise ValueError
+        raise BadValue(f"{word} is no time above 0")
     return seconds
 
 
 def rights(word: str) -> int:
     mode = int(word, 8)
     if not 0 <= mode <= 0o777:
-        raise ValueError
+        raise BadValue(f"{word} has more than rights")
     return mode
 
 
@@ -160,7 +168,7 @@ def main(words: List[str]) -> int:
     except Stopped as stopped:
         why = stopped
     except End as end:
-        why = Stopped(end.status if isinstance(end, HOPELESS) else 1, str(end))
+        why = Stopped(end.status if is_hopeless(end) else 1, str(end))
     except (Unfit, OSError, sqlite3.Error) as fault:
         why = Stopped(1, str(fault))
     log.write("ended", status=why.status, why=why.why)
@@ -168,5 +176,10 @@ def main(words: List[str]) -> int:
     return why.status
 
 
+def command() -> int:
+    """The command, with the words of its process."""
+    return main(sys.argv[1:])
+
+
 if __name__ == "__main__":
-    sys.exit(main(sys.argv[1:]))
+    sys.exit(command())

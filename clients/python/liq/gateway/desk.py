@@ -20,7 +20,8 @@ import traceback
 from collections import deque
 from typing import Any, Callable, Deque, Dict, List, Mapping, NamedTuple, Optional, Tuple
 
-from ..ends import BadLine, Damaged, DiskFault, End, NotBuilt, Unfit, Usage
+from ..ends import BadLine, Damaged, DiskFault, End, NoProgram, NotBuilt, Unfit, Usage
+from ..errors import LiqError
 from .book import BadBook, Book, Order, Settled, Slot
 from .jobs import Answers, Job, Queue, Sent
 from .keeper import Keeper
@@ -40,7 +41,12 @@ FULL, OUT_OF_TURN = "no 81 ", "no 70 "
 STOPPED = Refused("stopped", "the gateway has ended: send it again, with its key, once it is back")
 
 
-class Stopped(Exception):
+def is_hopeless(end: End) -> bool:
+    """Whether nothing is begun behind an end. A program that can't be begun may be one that is being installed."""
+    return isinstance(end, HOPELESS) and not isinstance(end, NoProgram)
+
+
+class Stopped(LiqError):
     """The gateway can't go on: with which status it ends, and why."""
 
     def __init__(self, status: int, why: str) -> None:
@@ -134,7 +140,7 @@ class Desk:
             self.run.close()
         except End as end:
             self._ended(end)
-            why = why if why.status else Stopped(end.status if isinstance(end, HOPELESS) else 1, str(end))
+            why = why if why.status else Stopped(end.status if is_hopeless(end) else 1, str(end))
         self.book.close()
         return why
 
@@ -215,7 +221,7 @@ class Desk:
             except End as end:
                 self._ended(end)
                 first = left[0] if left else None
-                if isinstance(end, HOPELESS):
+                if is_hopeless(end):
                     raise self._hopeless(end) from None
                 self._begin_again(sent)
                 if first and self._gives_up(first, end):
@@ -306,13 +312,13 @@ class Desk:
                 self._check(sent)
                 self._begun()
                 return
-            except End as end:
-                self._ended(end)
-                if isinstance(end, HOPELESS):
-                    raise self._hopeless(end) from None
-            except OSError as fault:  # as for want of processes or of open files
+            except (OSError, NoProgram) as fault:  # as for want of processes or of open files
                 self.run.kill()
                 self.log.write("run not begun", why=str(fault))
+            except End as end:
+                self._ended(end)
+                if is_hopeless(end):
+                    raise self._hopeless(end) from None
             time.sleep(SECONDS_BETWEEN_STARTS * count)
         raise Stopped(1, f"liq was begun {STARTS_MOST} times, and ended before it answered")
 
@@ -365,7 +371,7 @@ class Desk:
             except End as end:
                 self._ended(end)
                 told(str(end))
-                if isinstance(end, HOPELESS):
+                if is_hopeless(end):
                     raise self._hopeless(end) from None
                 self._begin_again([])
             else:
@@ -453,7 +459,7 @@ class Desk:
             self.log.write_all([(event, dict(about)) for event, about in events])
 
 
-class _Known(Exception):
+class _Known(LiqError):
     """A key has a reply already."""
 
     def __init__(self, reply: str) -> None:

@@ -11,7 +11,8 @@ from collections import Counter
 from typing import Callable, Dict, Optional, Set
 
 from ..replies import System
-from .desk import STOPPED, Answers, Desk, Job
+from .desk import STOPPED, Desk
+from .jobs import Answers, Job
 from .lines import LINE_BYTES_MOST, Line, Refused, read_line
 from .log import Counts, Log
 from .table import Table, own_caller

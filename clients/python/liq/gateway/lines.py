@@ -11,14 +11,16 @@ bytes.
 import re
 from typing import NamedTuple, Optional, Tuple
 
-from ..model.requests import Command, NoRequest, read_request
+from ..errors import LiqError
+from ..journal import Command
+from ..model.requests import NoRequest, Query, read_request
 
 LINE_BYTES_MOST = 250
 NO_KEY = "-"
 IS_KEY = re.compile(r"[A-Za-z0-9._:][A-Za-z0-9._:-]{0,63}", re.ASCII).fullmatch
 
 
-class Refused(Exception):
+class Refused(LiqError):
     """A line that the gateway does not pass on, by a name that stays and a reason for whoever reads it.
 
     It concerns this line alone: what came before it stands, and what comes behind it is read."""
@@ -49,7 +51,8 @@ def read_line(data: bytes) -> Line:
         text = data.decode("ascii")
         if text.startswith("? "):
             query = read_request(text)
-            return Line(None, query.name, query.accounts, text, True)  # type: ignore[union-attr]
+            assert isinstance(query, Query)
+            return Line(None, query.name, query.accounts, text, True)
         key, _, call = text.partition(" ")
         if key != NO_KEY and not IS_KEY(key):
             raise Refused("bad_line", "it begins with no key: a word of letters, digits and ._:-, or - for none, or ?")

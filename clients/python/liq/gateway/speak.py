@@ -16,7 +16,14 @@ import sys
 import threading
 from typing import List
 
+from ..console import parser_of
+
 PIECE_BYTES = 65536
+EXAMPLES = """
+echo 'order-1 fund 1 1000' | python3 -m liq.gateway.speak /run/liq/callers
+echo '? wallet 1' | python3 -m liq.gateway.speak callers alice
+python3 -m liq.gateway.speak counts < /dev/null
+"""
 
 
 def send_all(to: socket.socket) -> None:
@@ -31,14 +38,15 @@ def send_all(to: socket.socket) -> None:
 
 
 def main(words: List[str]) -> int:
-    if not 1 <= len(words) <= 2:
-        print("usage: python3 -m liq.gateway.speak SOCKET [NAME]", file=sys.stderr)
-        return 2
+    parser = parser_of("gateway.speak", __doc__, EXAMPLES)
+    parser.add_argument("socket", metavar="SOCKET", help="that of the gateway, or of its counts")
+    parser.add_argument("name", metavar="NAME", nargs="?", help="for whom it speaks, which the relay's user may say")
+    asked = parser.parse_args(words)
     to = socket.socket(socket.AF_UNIX, socket.SOCK_STREAM)
     try:
-        to.connect(words[0])
-        if len(words) == 2:
-            to.sendall(f"as {words[1]}\n".encode("ascii"))
+        to.connect(asked.socket)
+        if asked.name is not None:
+            to.sendall(f"as {asked.name}\n".encode("ascii"))
         threading.Thread(target=send_all, args=(to,), daemon=True).start()
         while True:
             piece = to.recv(PIECE_BYTES)
@@ -51,5 +59,10 @@ def main(words: List[str]) -> int:
         return 1
 
 
+def command() -> int:
+    """The command, with the words of its process."""
+    return main(sys.argv[1:])
+
+
 if __name__ == "__main__":
-    sys.exit(main(sys.argv[1:]))
+    sys.exit(command())

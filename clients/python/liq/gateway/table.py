@@ -22,7 +22,7 @@ import os
 import pwd
 import re
 import stat
-from typing import Dict, List, NamedTuple, Optional, Tuple
+from typing import Dict, List, NamedTuple, Optional, Set, Tuple
 
 from ..client import ACCOUNTS
 from ..ends import Folder, Unfit
@@ -59,8 +59,8 @@ class Accounts(NamedTuple):
     first: Tuple[int, ...]
     last: Tuple[int, ...]
 
-    def __contains__(self, account: object) -> bool:
-        assert isinstance(account, int)
+    def has(self, account: int) -> bool:
+        """Whether an account is one of them."""
         at = bisect.bisect_right(self.first, account) - 1
         return at >= 0 and account <= self.last[at]
 
@@ -84,7 +84,7 @@ class Caller(NamedTuple):
         if line.verb == "next_number":
             if line.accounts[0] != self.client:
                 raise Refused("client", f"your client is {self.client}")
-        elif line.accounts and line.accounts[0] not in (self.sees if line.is_query else self.accounts):
+        elif line.accounts and not (self.sees if line.is_query else self.accounts).has(line.accounts[0]):
             raise Refused("account", f"{line.accounts[0]} is none of your accounts")
 
 
@@ -127,10 +127,16 @@ def read_table(path: Folder) -> Table:
     return parse_table(data.decode("utf-8", "replace"))
 
 
+class Exactly(configparser.ConfigParser):
+    """A parser that takes words as they are written."""
+
+    def optionxform(self, optionstr: str) -> str:
+        return optionstr
+
+
 def parse_table(text: str) -> Table:
     """A table of its text."""
-    parser = configparser.ConfigParser(interpolation=None, inline_comment_prefixes=("#",), empty_lines_in_values=False)
-    parser.optionxform = str  # type: ignore[assignment,method-assign]
+    parser = Exactly(interpolation=None, inline_comment_prefixes=("#",), empty_lines_in_values=False)
     try:
         parser.read_string(text)
     except configparser.Error as fault:
@@ -162,7 +168,7 @@ def _check_once(names: List[str], what: str, table: Table) -> None:
             raise BadTable(f"{name} is relayed, and there is no relay")
 
 
-def _known(name: str, row: Dict[str, str], known: set) -> None:  # type: ignore[type-arg]
+def _known(name: str, row: Dict[str, str], known: Set[str]) -> None:
     for word in row:
         if word not in known:
             raise BadTable(f"[{name}] has {word!r}, which is none of {', '.join(sorted(known))}")

@@ -5,7 +5,7 @@ from ..refusals import AmountLimit, AmountZero, LastTrove, NoTrove, NotLiquidata
 from ..replies import Liquidated
 from .amounts import CAP_WORTH, ETHER, GAS_PART, LEAST_RATIO, LOWEST_MOST, RESERVE, SUM_MOST, refuse
 from .pool import offset
-from .state import Market, Values, row_of
+from .state import Fate, Market, Values, row_of
 from .troves import entire, growth, lift
 
 
@@ -66,6 +66,12 @@ def strike(market: Market, liquidator: int, account: int, struck: Liquidated) ->
     market.leave(account, struck.surplus)
     market.reserve -= RESERVE
     market.pay(liquidator, struck.gas, RESERVE)
+    if market.fates is not None:
+        gas, pool_debt, pool_coll, spread_debt, spread_coll, surplus = struck
+        coll, debt = gas + pool_coll + spread_coll + surplus, pool_debt + spread_debt
+        market.fates.append(Fate(
+            market.records, market.minute, liquidator, account, coll, debt, gas, pool_debt, pool_coll, spread_debt,
+            spread_coll, 0, 0, surplus, False))
 
 
 def liquidate(market: Market, liquidator: int, account: int) -> Values:

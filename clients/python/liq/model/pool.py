@@ -36,7 +36,8 @@ def balance_by(deposit: DepositRow, place: Place) -> int:
     rise = place.scale - deposit.scale
     if place.epoch != deposit.epoch or rise >= SCALES_READ:
         return 0
-    return deposit.amount * place.p // (deposit.p * STEP**rise)
+    left: int = deposit.amount * place.p // (deposit.p * STEP**rise)
+    return left
 
 
 def gain_by(deposit: DepositRow, place: Place, current: int, finished: Dict[Tuple[int, int], int]) -> int:

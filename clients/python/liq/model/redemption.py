@@ -4,7 +4,7 @@ from typing import List, NamedTuple, Tuple
 from ..refusals import AmountZero, Bootstrap, FeeEatsAll, NothingRedeemed, NoSurplus, ShortTokens, SystemUnder
 from .amounts import BOOTSTRAP, ETHER, LEAST_NET_DEBT, LEAST_RATIO, RESERVE, part_of, refuse, refuse_below
 from .rate import base_rate_now, check_bound, check_fee, redeem_rate, risen
-from .state import Fee, Market, Values
+from .state import Fate, Fee, Market, Values
 from .troves import entire, lift, place
 
 
@@ -71,6 +71,10 @@ def redeem(market: Market, account: int, lusd: int, bound: int) -> Values:
             market.leave(cut.account, left)
         else:
             place(market, cut.account, left, cut.debt - cut.taken)
+        if market.fates is not None:
+            market.fates.append(Fate(
+                market.records, market.minute, account, cut.account, cut.coll, cut.debt, 0, 0, 0, 0, 0, cut.taken,
+                cut.drawn, left if cut.is_whole else 0, not cut.is_whole))
     market.base_rate, market.fee_minute = base_rate, market.minute
     market.fee_coll += fee
     if fee:

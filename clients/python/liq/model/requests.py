@@ -2,6 +2,7 @@
 import re
 from typing import Any, Callable, Dict, Iterable, Iterator, List, NamedTuple, Tuple, Union
 
+from ..errors import LiqError
 from ..journal import CHECKPOINT_BYTES_MOST, NO_HINT, VERBS, Command, KeptReply
 from ..refusals import (
     AccountRange, AmountLimit, AmountZero, OutOfTurn, PriceRange, Refusal, ShortCollateral, ShortTokens,
@@ -22,7 +23,7 @@ QUERIES = {"wallet": 1, "trove": 1, "deposit": 1, "pools": 0, "system": 0, "next
 SYSTEM = ("price", "minute", "base", "fee_minute", "mode", "troves", "stakes", "coll", "debt", "records")
 
 
-class NoRequest(ValueError):
+class NoRequest(LiqError, ValueError):
     """A line is no request."""
 
 

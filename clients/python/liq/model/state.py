@@ -39,6 +39,31 @@ class Fee(NamedTuple):
     lusd: int
 
 
+class Fate(NamedTuple):
+    """What becomes of a trove at somebody else's command, `by` an account: a liquidation, or what a redemption takes.
+
+    `coll` and `debt` are what it had. Of these `gas` goes to the liquidator; the pool and the other troves take over or
+    are redeemed their parts; the owner may claim the surplus. What is left of both, the trove has: it stays where
+    `stays` is set.
+    """
+
+    record: int
+    minute: int
+    by: int
+    account: int
+    coll: int
+    debt: int
+    gas: int
+    pool_debt: int
+    pool_coll: int
+    spread_debt: int
+    spread_coll: int
+    redeemed: int
+    drawn: int
+    surplus: int
+    stays: bool
+
+
 Event = Union[Own, Offset, Fee]
 Row = TypeVar("Row")
 Values = Tuple[int, ...]  # of a reply
@@ -59,7 +84,8 @@ class Market:
     """All that the rules know of a market. It begins empty, or with a checkpoint.
 
     `order` is the list of troves as keys and accounts, that of the lowest ratio last. `events` is what became of the
-    Stability Pool and of fees, where somebody keeps it; None where nobody does.
+    Stability Pool and of fees, and `fates` what became of troves at somebody else's command, where somebody keeps it;
+    None where nobody does.
     """
 
     def __init__(self, limit: int = LIMIT) -> None:
@@ -78,6 +104,7 @@ class Market:
         self.clients: Dict[int, KeptReply] = {}
         self.order: List[Tuple[int, int]] = []
         self.events: Optional[List[Event]] = None
+        self.fates: Optional[List[Fate]] = None
 
     @classmethod
     def begun_with(cls, checkpoint: Checkpoint) -> "Market":
