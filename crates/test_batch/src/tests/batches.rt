@@ -90,7 +90,7 @@ fn batches_are_answered(rt: HostRuntime) {
 }
 
 /// A text of two lines, a line that is none, and one that is not ended.
-fn lines(alloc: Global, market: &mut Market) -> [bool; 3] {
+fn lines(alloc: Global, market: &mut Market) -> [bool; 4] {
     let mut out = [0; 600];
     let told = answer_lines(
         alloc,
@@ -98,17 +98,19 @@ fn lines(alloc: Global, market: &mut Market) -> [bool; 3] {
         b"1 1 fund 5 7\n? wallet 5\n!\n? pools",
         &mut out,
     );
-    let more = answer_lines(alloc, market, b"? next_number 1\n? pools", &mut out[..256]);
+    let mut then = [0; 256];
+    let more = answer_lines(alloc, market, b"? next_number 1\n? pools", &mut then);
     [
         told.taken == 24 && told.written == 7 && told.fault.is_some(),
+        out.starts_with(b"ok\n7 0\n"),
         more.taken == 16 && more.written == 2 && more.fault.is_none(),
-        out.starts_with(b"2\n\n7 0\n"),
+        then.starts_with(b"2\n"),
     ]
 }
 
 #[test]
 fn lines_are_answered(rt: HostRuntime) {
     let mut market = Market::new(rt.alloc());
-    let is_right = lines(rt.alloc(), &mut market) == [true; 3];
+    let is_right = lines(rt.alloc(), &mut market) == [true; 4];
     shows(&rt, "lines", is_right);
 }
