@@ -250,8 +250,9 @@ uint32_t liq_load(liq_market *m, const uint8_t *bytes, size_t n);
 
 /* Writes the accounts of one of liq_list, from index `from` on; `done` says how many. LIQ_SHORT:
  * there are more behind them. LIQ_BAD: there is no such list. A market that was opened, forked or
- * loaded has touched nobody. Each call walks the list up to `from`, so many small pages are slow:
- * LIQ_SYSTEM tells how many troves there are, and one call takes them all. */
+ * loaded has touched nobody. Each call walks the troves up to `from`, and makes the rows of all
+ * deposits or wallets, so a list in many small pages costs its square. One call takes it whole:
+ * LIQ_SYSTEM tells how many troves there are, and LIQ_ACCOUNTS places hold any of the first three. */
 liq_done liq_accounts(liq_market *m, uint32_t which, size_t from, uint32_t *accounts,
                       size_t places);
 

@@ -364,7 +364,7 @@ class Market(Queries):
                 found += room[: answered.done]
                 if answered.status == OK:
                     break
-                places *= 2
+                places = ACCOUNTS  # each call goes through the whole list, so the second takes all that there can be
         return found
 
 
