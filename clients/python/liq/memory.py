@@ -19,7 +19,7 @@ from pathlib import Path
 from types import TracebackType
 from typing import Any, List, Optional, Sequence, Tuple, Type
 
-from .batch import COMMANDS, QUERIES, BatchStopped, Given, Why, address_of
+from .batch import COMMANDS, QUERIES, BatchStopped, Given, Why, address_of, locked
 from .client import ACCOUNTS, AMOUNTS, NO_HINTS, Calls, Row
 from .ends import Folder, NoJournal
 from .errors import BadValue, LiqError, NotReady, OutOfMemory
@@ -40,7 +40,7 @@ SAVE_NAME = b"LIQSNAP1"
 NO_WORDS = hint_words(NO_HINTS)
 DONE: Any = Done()
 new_tuple = tuple.__new__
-ONE = ctypes.c_size_t(1)
+ONE: Any = ctypes.c_size_t.from_param(1)
 
 
 class MarketClosed(LiqError):
@@ -103,8 +103,9 @@ class Market(Queries):
         """A place, without a market yet."""
         self.rotating, self._calls = None if rotating is None else within(rotating, ACCOUNTS), calls
         self._held, self._sent, self._reply = Held(), bytearray(ITEM_BYTES), bytearray(ITEM_BYTES)
-        sent_at, reply_at = (ctypes.c_void_p(address_of(it)) for it in (self._sent, self._reply))
-        self._item = self._held.at, sent_at, ONE, reply_at, ONE  # what each call of one item takes
+        # What each call of one item takes: arguments that are ready, in half the time of numbers that are made some.
+        place, sent, reply = map(ctypes.byref, (self._held.place, locked(self._sent), locked(self._reply)))
+        self._item = place, sent, ONE, reply, ONE
         self._end = weakref.finalize(self, self._held.let_go, calls)
         self._end.atexit = False  # at the end of the process a thread may still be in a call
 

@@ -59,7 +59,8 @@ def value(at: Any) -> int:
 
 
 def number(count: Any) -> int:
-    return count if isinstance(count, int) else count.value
+    """A count. That of a single item comes as an argument that is ready, which tells no number."""
+    return count if isinstance(count, int) else 1
 
 
 def reply(kind: int, which: int = 0, numbers: Tuple[int, ...] = (), size: int = 8) -> bytes:
