@@ -8,6 +8,7 @@ import importlib
 import sys
 from typing import Dict, List, NamedTuple
 
+from .console import as_process
 from .version import __version__
 
 
@@ -56,4 +57,4 @@ def main(words: List[str]) -> int:
 
 
 if __name__ == "__main__":
-    sys.exit(main(sys.argv[1:]))
+    sys.exit(as_process(main))

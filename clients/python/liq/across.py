@@ -15,7 +15,7 @@ from typing import Any, Dict, List, NamedTuple, Optional, Tuple
 
 from .archive import Generations, Kept, NotArchived, named_in, sources
 from .backup import backup
-from .console import add_forms, add_seconds, as_csv, as_json, ended, parser_of, rows_of
+from .console import add_forms, add_seconds, as_csv, as_json, as_process, ended, parser_of, rows_of
 from .ends import Folder, TooMuch, Unfit
 from .history import begun, replay, rotated
 from .journal import BYTES_MOST, RECORD_BYTES
@@ -173,7 +173,7 @@ def main(words: List[str]) -> int:
 
 def command() -> int:
     """The command, with the words of its process."""
-    return main(sys.argv[1:])
+    return as_process(main)
 
 
 if __name__ == "__main__":

@@ -27,7 +27,7 @@ from pathlib import Path
 from typing import Dict, Iterator, List, NamedTuple, Optional, Tuple
 
 from .backup import DAY, LARGEST, SECONDS, fronts
-from .console import add_forms, as_csv, as_json, ended, parser_of
+from .console import add_forms, as_csv, as_json, as_process, ended, parser_of
 from .ends import Folder, NoJournal, Unfit
 from .history import begun, digest_of, read_begin, replay, rotated, what_counts
 from .journal import FRONT_BYTES, RECORD_BYTES, DamagedFile, Disk, files_of, is_open, open_file, pieces_of
@@ -364,7 +364,7 @@ def main(words: List[str]) -> int:
 
 def command() -> int:
     """The command, with the words of its process."""
-    return main(sys.argv[1:])
+    return as_process(main)
 
 
 if __name__ == "__main__":

@@ -17,7 +17,7 @@ import time
 from pathlib import Path
 from typing import Any, BinaryIO, Dict, Iterable, Iterator, List, Optional
 
-from .console import add_forms, as_json, ended, parser_of, refused
+from .console import add_forms, as_json, as_process, ended, parser_of, refused
 from .ends import Folder, NoJournal, NotBuilt, TooMuch, Unfit
 from .errors import LiqError
 from .journal import BYTES_MOST, FRONT_BYTES, HEADER_BYTES, RECORD_BYTES, files_of, is_open, open_file, pieces_of
@@ -250,7 +250,7 @@ def _told(folder: str, to: str, is_json: bool) -> int:
 
 def command() -> int:
     """The command, with the words of its process."""
-    return main(sys.argv[1:])
+    return as_process(main)
 
 
 if __name__ == "__main__":

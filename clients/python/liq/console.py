@@ -8,7 +8,6 @@ import argparse
 import csv
 import io
 import json
-import os
 import re
 import sys
 from typing import Any, Callable, Dict, Iterable, Iterator, List, Optional, Sequence
@@ -87,19 +86,33 @@ def ended(name: str, call: Callable[[], int], is_json: bool = False) -> int:
     """The status of a command, whose work is a call. Where it refuses, that is told: on standard output, as a line
     `NAME refuses: WHY`, or as the object `{"refused": WHY}`."""
     try:
+        return call()
+    except (LiqError, OSError) as fault:
+        return refused(name, str(fault), is_json)
+    except MemoryError:
+        return refused(name, "there is not enough memory", is_json)
+
+
+class Output(io.FileIO):
+    """Standard output. Where its reader goes, as `head` does, what is written behind that is lost without a word, and
+    the command comes to its end and its status as it would have."""
+
+    def write(self, data: Any) -> int:
         try:
-            status = call()
+            return super().write(data) or 0
         except BrokenPipeError:
-            raise
-        except (LiqError, OSError) as fault:
-            status = refused(name, str(fault), is_json)
-        except MemoryError:
-            status = refused(name, "there is not enough memory", is_json)
-        sys.stdout.flush()
-        return status
-    except BrokenPipeError:  # whoever reads has gone: what Python writes at its end goes nowhere
-        os.dup2(os.open(os.devnull, os.O_WRONLY), sys.stdout.fileno())
-        return 1
+            return memoryview(data).nbytes
+
+
+def as_process(main: Callable[[List[str]], int]) -> int:
+    """The status of a command, with the words, and the output, of its process."""
+    out = sys.stdout
+    if isinstance(out, io.TextIOWrapper):
+        into = io.BufferedWriter(Output(out.fileno(), "w", closefd=False))
+        sys.stdout = io.TextIOWrapper(into, out.encoding, out.errors, line_buffering=out.line_buffering)
+    status = main(sys.argv[1:])
+    sys.stdout.flush()
+    return status
 
 
 def refused(name: str, why: str, is_json: bool = False, behind: Sequence[str] = ()) -> int:

@@ -31,7 +31,7 @@ from pathlib import Path
 from typing import BinaryIO, Iterator, List, NamedTuple, Optional, Set, Tuple
 
 from .backup import DAY, LARGEST, fronts, open_copy
-from .console import add_forms, as_json, ended, parser_of
+from .console import add_forms, as_json, as_process, ended, parser_of
 from .ends import End, Folder, TooMuch, Unfit
 from .journal import FRONT_BYTES, KINDS, PIECE_BYTES, RECORD_BYTES, SIDES
 from .journal import DamagedFile, Header, copy_file, files_of, open_file, read_checkpoint, read_command, read_header
@@ -732,7 +732,7 @@ def _mended_and_judged(asked: Namespace) -> int:
 
 def command() -> int:
     """The command, with the words of its process."""
-    return main(sys.argv[1:])
+    return as_process(main)
 
 
 if __name__ == "__main__":

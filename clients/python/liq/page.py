@@ -19,7 +19,7 @@ from typing import Any, Dict, List, NamedTuple, Optional, Sequence, Tuple
 
 from .backup import backup
 from .chart import Panel, chart
-from .console import add_seconds, ended, parser_of, refused
+from .console import add_seconds, as_process, ended, parser_of, refused
 from .ends import Folder, Usage
 from .errors import LiqError
 from .journal import SIDES
@@ -324,7 +324,7 @@ def _refused(why: str, is_json: bool) -> int:
 
 def command() -> int:
     """The command, with the words of its process."""
-    return main(sys.argv[1:])
+    return as_process(main)
 
 
 if __name__ == "__main__":

@@ -28,7 +28,7 @@ from typing import Any, Container, Dict, Iterable, Iterator, List, NamedTuple, O
 from .archive import Generations, named_in, sources
 from .backup import backup
 from .client import ACCOUNTS, LOWEST_MOST
-from .console import add_forms, add_seconds, aligned, as_csv, as_json, ended, parser_of
+from .console import add_forms, add_seconds, aligned, as_csv, as_json, as_process, ended, parser_of
 from .ends import Folder, Limit, Rotated, TooMuch, Unfit
 from .journal import BYTES_MOST, RECORD_BYTES, SIDES, Checkpoint, Command, Disk, Journal
 from .progress import Bar
@@ -417,7 +417,7 @@ def main(words: List[str]) -> int:
 
 def command() -> int:
     """The command, with the words of its process."""
-    return main(sys.argv[1:])
+    return as_process(main)
 
 
 if __name__ == "__main__":

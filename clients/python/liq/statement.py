@@ -31,7 +31,7 @@ from typing import Any, Callable, Dict, Iterator, List, NamedTuple, Optional, Tu
 
 from .archive import Kept, NotArchived, Source, named_in, sources
 from .backup import backup
-from .console import add_seconds, as_csv, ended, parser_of, refused
+from .console import add_seconds, as_csv, as_process, ended, parser_of, refused
 from .ends import Folder, TooMuch, Unfit
 from .errors import BadValue
 from .guard import generation_of, look_at, said_of_records, said_of_shut
@@ -390,7 +390,7 @@ def table_of(made: Statement, name: str) -> str:
 
 def command() -> int:
     """The command, with the words of its process."""
-    return main(sys.argv[1:])
+    return as_process(main)
 
 
 if __name__ == "__main__":

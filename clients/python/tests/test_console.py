@@ -5,8 +5,10 @@ import importlib
 import io
 import json
 import os
+import socket
 import subprocess
 import sys
+import threading
 import unittest
 from pathlib import Path
 from typing import Any, Dict, Iterator, List, Optional, Tuple
@@ -313,13 +315,67 @@ class Console(unittest.TestCase):
         self.assertEqual(told.getvalue(),
             'x refuses: there is not enough memory\n{\n "refused": "there is not enough memory"\n}\n')
 
-    def test_a_reader_that_has_gone(self) -> None:
-        """As by `| head`: the command ends without a word of Python."""
-        text = "import sys; from liq import console; console.ended('x', lambda: print('y' * 10**6) or 0)"
-        environment = {**os.environ, "PYTHONPATH": str(TOP / "clients/python"), "PYTHONDONTWRITEBYTECODE": "1"}
-        process = subprocess.Popen(
-            [sys.executable, "-c", text], stdout=subprocess.PIPE, stderr=subprocess.PIPE, env=environment)
-        assert process.stdout and process.stderr
-        process.stdout.close()
-        self.assertEqual((process.stderr.read(), process.wait()), (b"", 0))
-        process.stderr.close()
+
+
+class Readers(OverFiles):
+    """A reader that goes, as `head` does."""
+
+    def ended(self, *words: object, given: bytes = b"") -> Tuple[int, bytes]:
+        """The status of a process whose output nobody reads, and what stands on standard error."""
+        here = {"PYTHONPATH": str(TOP / "clients/python"), "PYTHONDONTWRITEBYTECODE": "1"}
+        with subprocess.Popen(
+            [sys.executable, "-m", *map(str, words)], stdin=subprocess.PIPE, stdout=subprocess.PIPE,
+            stderr=subprocess.PIPE, env={**os.environ, **NO_PROGRAM, **here},
+        ) as process:
+            assert process.stdin and process.stdout and process.stderr
+            process.stdout.close()
+            with contextlib.suppress(BrokenPipeError):
+                process.stdin.write(given)
+                process.stdin.close()
+            return process.wait(), process.stderr.read()
+
+    def test_it_ends_as_it_would_have(self) -> None:
+        """Without a word of Python, and with the same status."""
+        self.rotate()
+        nobody = self.folder / "none"
+        for status, words in (
+            (0, ("liq",)), (0, ("liq", "--version")), (0, ("liq", "guard", "--help")), (0, ("liq.guard", self.market)),
+            (1, ("liq.guard", nobody)), (1, ("liq.guard", "--json", nobody)),
+            (0, ("liq.backup", self.market, self.folder / "copy")), (1, ("liq.backup", nobody, self.folder / "other")),
+            (0, ("liq.archive", self.market, self.directory)), (1, ("liq.archive", nobody, self.directory)),
+            (0, ("liq.statement", "--archive", self.directory, self.market)), (1, ("liq.statement", nobody)),
+            (0, ("liq.statement", "--archive", self.directory, "--form", "page", self.market)),
+            (0, ("liq.across", "--archive", self.directory, "audit", self.market)),
+            (1, ("liq.across", "--archive", self.directory, "audit", nobody)),
+            (1, ("liq.recheck", nobody)), (1, ("liq.recheck", "--json", nobody)),
+            *((0, (f"liq.{name}", "--help")) for name in COMMANDS),
+        ):
+            with self.subTest(words):
+                self.assertEqual(self.ended(*words), (status, b""))
+
+    def test_much_that_is_written(self) -> None:
+        """More than a pipe holds, of which a part is read."""
+        text = "from liq import console; import sys; sys.exit(console.as_process(lambda words: print('y' * 10**6) or 3))"
+        (self.folder / "much.py").write_text(text)
+        with mock.patch.dict(os.environ, PYTHONPATH=str(TOP / "clients/python")):
+            process = subprocess.run(
+                ["bash", "-c", '"$0" much.py | head -c 5; echo "${PIPESTATUS[0]}"', sys.executable], cwd=self.folder,
+                stdout=subprocess.PIPE, stderr=subprocess.PIPE, check=True)
+        self.assertEqual((process.stdout, process.stderr), (b"yyyyy3\n", b""))
+
+    def test_replies_that_nobody_reads(self) -> None:
+        """Of a gateway, which is a socket here."""
+        path = str(self.folder / "socket")
+        with socket.socket(socket.AF_UNIX) as listens:
+            listens.bind(path)
+            listens.listen()
+
+            def answers() -> None:
+                with listens.accept()[0] as taken:
+                    taken.recv(100)
+                    taken.sendall(b"ok\n")
+
+            thread = threading.Thread(target=answers, daemon=True)
+            thread.start()
+            self.assertEqual(self.ended("liq.gateway.speak", path, given=b"a fund 1 1\n"), (1, b""))
+            thread.join(10)

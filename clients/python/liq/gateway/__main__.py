@@ -21,7 +21,7 @@ import sys
 from pathlib import Path
 from typing import List, Optional
 
-from ..console import parser_of
+from ..console import as_process, parser_of
 from ..ends import End, Unfit
 from ..errors import BadValue
 from .book import Book
@@ -178,7 +178,7 @@ def main(words: List[str]) -> int:
 
 def command() -> int:
     """The command, with the words of its process."""
-    return main(sys.argv[1:])
+    return as_process(main)
 
 
 if __name__ == "__main__":

@@ -7,7 +7,8 @@ that user, a line for each caller's key:
 
     restrict,command="cd / && PYTHONPATH=.. python3 -m liq.gateway.speak /run/liq/callers alice" ssh-ed25519 AAAA..
 
-It ends with 0 once the gateway has closed the connection, behind all replies; with 1 where there is none.
+It ends with 0 once the gateway has closed the connection, behind all replies; with 1 where there is none,
+and without a word where nobody reads the replies any more.
 """
 import contextlib
 import os
@@ -16,7 +17,7 @@ import sys
 import threading
 from typing import List
 
-from ..console import parser_of
+from ..console import as_process, parser_of
 
 PIECE_BYTES = 65536
 EXAMPLES = """
@@ -53,7 +54,10 @@ def main(words: List[str]) -> int:
             if not piece:
                 return 0
             while piece:
-                piece = piece[os.write(1, piece):]
+                try:
+                    piece = piece[os.write(1, piece):]
+                except BrokenPipeError:
+                    return 1  # nobody reads the replies
     except (OSError, UnicodeEncodeError) as fault:
         print(f"speak: {fault}", file=sys.stderr)
         return 1
@@ -61,7 +65,7 @@ def main(words: List[str]) -> int:
 
 def command() -> int:
     """The command, with the words of its process."""
-    return main(sys.argv[1:])
+    return as_process(main)
 
 
 if __name__ == "__main__":
