@@ -183,9 +183,7 @@ class Client(Calls):
     ) -> Row:
         if self._unanswered is not None:
             raise NotReady(f"a command has no reply yet, resend() it first: {self._unanswered[0]}")
-        call = verb + spelt(accounts, ACCOUNTS) + spelt(amounts, AMOUNTS)
-        for hint in () if hints is None else pair(hints):
-            call += " -" if hint is None else spelt((hint,), ACCOUNTS)
+        call = call_of(verb, accounts, amounts, hints)
         until = self._until(timeout)
         try:
             return self._ask(f"{self.client} {self.next_number} {call}", row, until)
@@ -227,6 +225,20 @@ class WithinClient(Calls):
         hints: Optional[Sequence[Optional[Whole]]] = None,
     ) -> Row:
         return self.client._send_within(self.seconds, row, verb, accounts, amounts, hints)
+
+
+def call_of(
+    verb: str, accounts: Sequence[Whole], amounts: Sequence[Whole], hints: Optional[Sequence[Optional[Whole]]]
+) -> str:
+    """The words of a command behind its client and number."""
+    call = verb + spelt(accounts, ACCOUNTS) + spelt(amounts, AMOUNTS)
+    if hints is None:
+        return call
+    if hints is NO_HINTS:
+        return call + " - -"
+    for hint in pair(hints):
+        call += " -" if hint is None else spelt((hint,), ACCOUNTS)
+    return call
 
 
 def pair(hints: Sequence[Optional[Whole]]) -> Hints:

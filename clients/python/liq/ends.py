@@ -167,3 +167,16 @@ def is_reply(line: str) -> bool:
     """Whether a line is a reply, and not a last line."""
     first, _, rest = line.partition(" ")
     return first in ("ok", "none") or first.isdigit() or (first == "no" and rest.partition(" ")[0].isdigit())
+
+
+def replies_end(text: str) -> int:
+    """Where the replies end in a text of whole lines, which may go on with a last line."""
+    ahead = "\n" + text
+    if ahead.count("\nok") + ahead.count("\nno ") == text.count("\n") and is_reply(text[:-1].rpartition("\n")[2]):
+        return len(text)  # nothing comes behind a last line, so all are replies
+    end = 0
+    for line in text.splitlines(keepends=True):
+        if not is_reply(line.rstrip("\n")):
+            break
+        end += len(line)
+    return end

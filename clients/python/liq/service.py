@@ -1,4 +1,5 @@
 """A market as a process: `liq run` in its folder, asked line by line."""
+import contextlib
 import errno
 import fcntl
 import logging
@@ -10,10 +11,10 @@ import time
 from collections import deque
 from pathlib import Path
 from types import TracebackType
-from typing import Any, Callable, Deque, Iterable, Iterator, List, Optional, Sequence, Type, Union
+from typing import Any, Callable, Deque, Iterable, Iterator, List, Optional, Sequence, Tuple, Type, Union
 
 from .client import ACCOUNTS, Client, spelt
-from .ends import End, Folder, MarketExists, NoJournal, NoProgram, NoSpace, NotPermitted, is_reply, read_end
+from .ends import End, Folder, MarketExists, NoJournal, NoProgram, NoSpace, NotPermitted, is_reply, read_end, replies_end
 from .errors import BadValue, NotReady, TimedOut
 from .journal import holds_journal
 from .queries import Queries
@@ -28,10 +29,12 @@ MEMORY = Path("/dev/shm")  # where files cost no wait for a disk, and outlast no
 PIECE_BYTES = 65536
 SECONDS_MOST = 10**6  # of a timeout: what poll takes
 LINE_SHOWN = 300  # of one that is not sent: liq takes 200 bytes
-PIPE_SIZE = 1032  # fcntl.F_GETPIPE_SZ, which Python has a name for from 3.10 on
+SET_PIPE_SIZE, PIPE_SIZE = 1031, 1032  # fcntl.F_SETPIPE_SZ and F_GETPIPE_SZ, which Python names from 3.10 on
+PIPE_BYTES = 2**18  # some thousand lines; a system counts what it has for all pipes of a user
 IF_MISSING = "if missing"
 Create = Union[bool, str]  # False, True or "if missing"
 Take = Callable[[List[str]], object]  # what is done with replies that came
+TakeText = Callable[[str], object]
 
 
 def find_program(program: Optional[Folder] = None) -> str:
@@ -125,6 +128,7 @@ class Service(Queries):
         self.program = find_program(program)
         self.timeout = seconds_of(timeout)
         self._owed: Deque[str] = deque()  # lines that were sent and have no reply
+        self._text, self._told = "", 0  # lines that were sent as one text, and how many of them have their reply
         prepare(folder, create)
         self._may_create = bool(create)
         self.start()
@@ -152,6 +156,7 @@ class Service(Queries):
         self._unread = b""
         self._lines_left = LINES_OF_A_RUN
         self._owed.clear()
+        self._text = ""
 
     def _spawn(self) -> "subprocess.Popen[bytes]":
         return begin_program([self.program, "run"], self.folder, stdin=subprocess.PIPE, stdout=subprocess.PIPE)
@@ -163,7 +168,9 @@ class Service(Queries):
 
     @property
     def pending(self) -> Optional[str]:
-        """The line that was sent and has no reply, the first of queries that were sent together; else None."""
+        """The line that was sent and has no reply, the first of lines that were sent together; else None."""
+        if self._text:
+            return self._text.split("\n", self._told + 1)[self._told] or None
         return self._owed[0] if self._owed else None
 
     def close(self, timeout: Optional[float] = None) -> None:
@@ -311,34 +318,43 @@ class Service(Queries):
         replies before that were given, and `pending` is the first line without one. So it is where no reply comes for
         `timeout` seconds, but then liq is killed: what it was sent may end within a line.
         """
+        text = "\n".join([*lines, ""])
+        if text.count("\n") != len(lines):
+            wrong = next(line for line in lines if "\n" in line)
+            raise BadValue(f"it is no line, of ASCII and without a line end: {wrong[:LINE_SHOWN]!r}")
+        self.ask_text(text, lambda told: take(told[:-1].split("\n")), timeout)
+
+    def ask_text(self, text: str, take: TakeText, timeout: Optional[float] = None) -> None:
+        """`ask_together` with all lines as one text, each with its line end, and so the replies that `take` is given: a
+        part of all, of whole lines."""
         self._until(timeout)
         seconds = self.timeout if timeout is None else timeout
         self._check_going()
-        for line in lines:
-            if "\n" in line or not line.isascii():
-                raise BadValue(f"it is no line, of ASCII and without a line end: {line[:LINE_SHOWN]!r}")
+        if not text.isascii() or text[-1:] not in ("", "\n"):
+            wrong = next((line for line in text.split("\n") if not line.isascii()), text.rpartition("\n")[2])
+            raise BadValue(f"it is no line, of ASCII and with a line end: {wrong[:LINE_SHOWN]!r}")
         self._settle(self._until(timeout))
-        done = 0
-        while done < len(lines):
+        while text:
             self._make_room(self._until(timeout))
-            part = lines[done : done + self._lines_left]
+            part, text = front(text, self._lines_left)
             try:
                 self._pump(part, take, seconds)
             except BaseException:  # as an interrupt, or what `take` raises: what was sent may end within a line
                 self.kill()
                 raise
-            done += len(part)
 
-    def _pump(self, lines: Sequence[str], take: Take, seconds: Optional[float]) -> None:
+    def _pump(self, text: str, take: TakeText, seconds: Optional[float]) -> None:
         """Writes lines, and reads as many replies. The pipe takes what there is room for, without a wait."""
-        unsent = memoryview("".join([line + "\n" for line in lines]).encode("ascii"))
-        self._owed.extend(lines)
-        self._lines_left -= len(lines)
+        unsent, count = memoryview(text.encode("ascii")), text.count("\n")
+        self._text, self._told = text, 0
+        self._lines_left -= count
         ready = select.poll()
         ready.register(self._out, select.POLLIN)
         ready.register(self._in, select.POLLOUT)
+        widen(self._in)
+        widen(self._out)
         os.set_blocking(self._in, False)
-        while self._owed:
+        while self._told < count:
             found = ready.poll(None if seconds is None else 1000 * seconds)
             if not found:
                 pending = self.pending
@@ -357,19 +373,21 @@ class Service(Queries):
                     unsent = unsent[:0]  # what was answered is read, and then how it ended
                 if not unsent:
                     ready.unregister(self._in)
+        self._text = ""
         os.set_blocking(self._in, True)
 
-    def _take_replies(self, take: Take) -> None:
+    def _take_replies(self, take: TakeText) -> None:
         """Reads the replies that are there. Raises how liq ended where no more come."""
         piece = os.read(self._out, PIECE_BYTES)
-        *told, rest = (self._unread + piece).decode("ascii", "replace").split("\n")
-        count = next((at for at, text in enumerate(told) if text[:2] != "ok" and not is_reply(text)), len(told))
-        for _ in range(count):
-            self._owed.popleft()
-        self._may_create = self._may_create and count == 0
-        self._unread = "\n".join([*told[count:], rest]).encode("ascii", "replace")
-        take(told[:count])
-        if count < len(told) or not piece and self._owed:
+        data = self._unread + piece
+        told = data[: data.rfind(b"\n") + 1].decode("ascii", "replace")
+        end = replies_end(told)
+        self._unread = data[end:]
+        if end:
+            self._told += told.count("\n", 0, end)
+            self._may_create = False
+            take(told[:end])
+        if end < len(told) or not piece:
             raise self._end()
 
     def _batches(self, lines: Sequence[str], until: Optional[float] = None) -> Iterator[List[str]]:
@@ -461,6 +479,21 @@ def numbers_of(words: Sequence[str]) -> Optional[List[int]]:
     if words[0] == "no":
         raise read_refusal(words)
     return None if words == ["none"] else [int(word) for word in words]
+
+
+def front(text: str, count: int) -> Tuple[str, str]:
+    """The first lines of a text, at most so many, and the rest."""
+    if text.count("\n") <= count:
+        return text, ""
+    rest = text.split("\n", count)[-1]
+    return text[: len(text) - len(rest)], rest
+
+
+def widen(descriptor: int) -> None:
+    """Lets a pipe hold more, where the system allows it: so there are fewer waits, above all beside other work."""
+    if pipe_size(descriptor) < PIPE_BYTES:
+        with contextlib.suppress(OSError):
+            fcntl.fcntl(descriptor, SET_PIPE_SIZE, PIPE_BYTES)
 
 
 def pipe_size(descriptor: int) -> int:

@@ -9,9 +9,11 @@
 A refused command leaves its number to the next of its client, so what one client sends has to wait for its replies.
 Here each command has a client of its own, and a refused one stops no other.
 """
-from typing import Any, Dict, Iterator, List, Optional, Sequence, Tuple, Type, Union, cast
+import json
+from itertools import accumulate, repeat
+from typing import Any, List, Optional, Sequence, Type, Union
 
-from .client import ACCOUNTS, AMOUNTS, Calls, Client, Row, pair, spelt
+from .client import ACCOUNTS, Calls, Client, Row, call_of
 from .errors import BadValue, LiqError, NotReady
 from .refusals import JournalFull, Refusal, read_refusal
 from .replies import Done
@@ -20,11 +22,6 @@ from .units import Whole, all_within
 
 CLIENTS = range(2**16, 2**16 + 2**12)  # by whom commands are sent, where nobody else is named
 Answer = Union[Any, Refusal]  # a row of `liq.replies`, or why there is none
-
-
-Put = Tuple[str, Type[Any]]  # a command that was put in: its words, and the row that it is replied
-DONE: Any = Done()
-new_tuple = tuple.__new__
 
 
 class NoReplyYet(LiqError, AttributeError):
@@ -41,7 +38,9 @@ class Later:
         return "LATER"
 
 
-LATER = Later()
+LATER: Any = Later()
+DONE = Done()
+new_tuple: Any = tuple.__new__
 
 
 class Together(Calls):
@@ -68,15 +67,17 @@ class Together(Calls):
         self.clients = all_within(clients, ACCOUNTS)
         if not self.clients or len(set(self.clients)) < len(self.clients):
             raise BadValue("a client is named twice" if self.clients else "there are no clients")
-        self._numbers: Dict[int, int] = {}
-        self._put: List[Put] = []
-        self._sent: Optional[List[Put]] = None
+        # Of each client the head of its lines, and its next number: 0 where it was not asked for yet.
+        self._heads = [f"{client} " for client in self.clients]
+        self._numbers = [0] * len(self.clients)
+        self._put: List[Any] = []  # by turns the words of a command, with a line end, and the row that it is replied
+        self._sent: Optional[List[Any]] = None
         self._answers: List[Answer] = []
         self._is_full = False
 
     def __len__(self) -> int:
         """How many commands are put in and not sent."""
-        return len(self._put)
+        return len(self._put) // 2
 
     def send_all(self) -> List[Answer]:
         """Sends all that was put in, and gives what each was replied: its row, or its refusal, which is not raised."""
@@ -89,8 +90,9 @@ class Together(Calls):
         """Goes on with a `send_all` that did not come to its end, and gives the replies to all of its commands."""
         if self._sent is None:
             raise NotReady("no command is without a reply")
-        while len(self._answers) < len(self._sent):
-            self._send_part(self._sent)
+        calls, rows = self._sent[::2], self._sent[1::2]
+        while len(self._answers) < len(calls):
+            self._send_part(calls, rows)
         answers, self._sent, self._answers = self._answers, None, []
         return answers
 
@@ -98,47 +100,63 @@ class Together(Calls):
         self, row: Type[Row], verb: str, accounts: Sequence[Whole], amounts: Sequence[Whole],
         hints: Optional[Sequence[Optional[Whole]]] = None,
     ) -> Row:
-        call = verb + spelt(accounts, ACCOUNTS) + spelt(amounts, AMOUNTS)
-        for hint in () if hints is None else pair(hints):
-            call += " -" if hint is None else spelt((hint,), ACCOUNTS)
-        self._put.append((call, row))
-        return cast(Row, LATER)
+        self._put.extend((call_of(verb, accounts, amounts, hints) + "\n", row))
+        later: Row = LATER
+        return later
 
     # ---- parts, in which each client has one command
 
-    def _send_part(self, sent: List[Put]) -> None:
+    def _send_part(self, calls: List[str], rows: List[Type[Any]]) -> None:
         """Sends the next commands that have no reply, up to the last client; or up to where the journal is full."""
         begin = len(self._answers)
-        clients = self.clients[begin % len(self.clients) :]
-        part = sent[begin : begin + len(clients)]
-        clients = clients[: len(part)]
-        self._ask_numbers(clients)
-        lines = [f"{client} {self._numbers[client]} {call}" for client, (call, _) in zip(clients, part)]
-        waiting = zip(part, clients)
+        place = begin % len(self.clients)
+        part = calls[begin : begin + len(self.clients) - place]
+        which = slice(place, place + len(part))
+        self._ask_numbers(which)
+        spelt = {number: f"{number} " for number in set(self._numbers[which])}
+        words = [""] * (3 * len(part))
+        words[::3], words[2::3] = self._heads[which], part
+        words[1::3] = map(spelt.__getitem__, self._numbers[which])
         self._is_full = False
-        self.service.ask_together(lines, lambda replies: self._take(waiting, replies), self.timeout)
+        self.service.ask_text("".join(words), lambda replies: self._take(rows, replies), self.timeout)
         if self._is_full and self.rotating is not None:
             self.rotating.rotate()
 
-    def _ask_numbers(self, clients: Sequence[int]) -> None:
-        """Asks for the numbers of clients that have sent nothing yet."""
-        unknown = [client for client in clients if client not in self._numbers]
+    def _ask_numbers(self, which: slice) -> None:
+        """Asks for the numbers of those clients that have sent nothing yet."""
+        unknown = [at for at in range(which.start, which.stop) if self._numbers[at] == 0]
         told: List[str] = []
-        self.service.ask_together([f"? next_number {client}" for client in unknown], told.extend, self.timeout)
-        self._numbers.update(zip(unknown, map(int, told)))
+        self.service.ask_together([f"? next_number {self.clients[at]}" for at in unknown], told.extend, self.timeout)
+        for at, number in zip(unknown, told):
+            self._numbers[at] = int(number)
 
-    def _take(self, waiting: Iterator[Tuple[Put, int]], replies: Sequence[str]) -> None:
-        """Takes replies to the next of those that wait, while liq works on. Where somebody rotates nothing counts
-        behind one that says that the journal is full: nothing was accepted there, and all was ruled on without it."""
-        numbers, answers = self._numbers, self._answers
-        for reply, (put, client) in zip(replies, waiting):
-            if reply[:2] == "ok":
-                numbers[client] += 1
-                told = reply[3:]
-                # As put[1](*map(..)), in half the time.
-                answers.append(new_tuple(put[1], map(int, told.split(" "))) if told else DONE)
-                continue
-            refusal = read_refusal(reply.split(" "))
-            self._is_full = self._is_full or isinstance(refusal, JournalFull) and self.rotating is not None
-            if not self._is_full:
-                answers.append(refusal)
+    def _take(self, rows: List[Type[Any]], replies: str) -> None:
+        """Takes replies to the next commands, while liq works on. Where somebody rotates nothing counts behind one that
+        says that the journal is full: nothing was accepted there, and all was ruled on without it."""
+        if self._is_full:
+            return
+        lines, begin = replies[:-1].split("\n"), len(self._answers)
+        answers = rows_of(rows[begin : begin + len(lines)], lines, replies)
+        place = begin % len(self.clients)
+        which = slice(place, place + len(lines))
+        self._numbers[which] = [number + 1 for number in self._numbers[which]]
+        for at in [at for at, line in enumerate(lines) if line[0] == "n"]:
+            refusal = read_refusal(lines[at].split(" "))
+            if self.rotating is not None and isinstance(refusal, JournalFull):
+                self._is_full = True
+                self._numbers[place + at : which.stop] = [it - 1 for it in self._numbers[place + at : which.stop]]
+                del answers[at:]
+                break
+            answers[at] = refusal
+            self._numbers[place + at] -= 1
+        self._answers += answers
+
+
+def rows_of(rows: Sequence[Type[Any]], lines: Sequence[str], replies: str) -> List[Answer]:
+    """The rows of replies, which are given as lines and as one text; of no use where it is a refusal. All numbers are
+    read at once, as JSON, and no row makes a list that the collector of garbage would go through."""
+    told = ("\n" + replies).replace("\nok", "").replace("\nno", "")[1:-1].replace(" ", ",")
+    numbers = json.loads(f"[{told}]")
+    counts = list(map(str.count, lines, repeat(" ")))
+    each = zip(rows, counts, accumulate(counts))
+    return [new_tuple(row, numbers[end - count : end]) if count else DONE for row, count, end in each]

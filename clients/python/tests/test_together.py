@@ -172,16 +172,16 @@ class OverAProgram(OverProgram, Cases):
                 together = Together(market, range(300))
                 for _ in range(2000):
                     together.fund(1, 1)
-                left, ask_together = chance.randrange(7), market.ask_together
+                left, ask_text = chance.randrange(7), market.ask_text
 
-                def kill(lines: List[str], take: Any, timeout: Any) -> None:
+                def kill(text: str, take: Any, timeout: Any) -> None:
                     nonlocal left
                     left -= 1
                     if left == 0:
                         os.kill(market.pid, 9)
-                    ask_together(lines, take, timeout)
+                    ask_text(text, take, timeout)
 
-                with mock.patch.object(market, "ask_together", kill):
+                with mock.patch.object(market, "ask_text", kill):
                     try:
                         answers = together.send_all()
                     except ends.Killed:
