@@ -28,15 +28,15 @@ for line in sys.stdin:
     pass
 time.sleep(600 * STAYS)
 """
-# A program that answers by the model, in memory: late where account 77 is named, after a second and a half.
+# A program that answers by the model, in memory: where account 77 is named as soon as a file `answers` is there.
 ANSWERS_LATE = """
-import sys, time
+import os, sys, time
 sys.path.insert(0, PACKAGE)
 from liq.model import Market, answer
 market = Market()
 for line in sys.stdin:
-    if " 77" in line:
-        time.sleep(1.5)
+    while " 77" in line and not os.path.exists("answers"):
+        time.sleep(0.01)
     print(answer(market, line[:-1]), flush=True)
 """
 
@@ -47,7 +47,7 @@ def never_answers(stays: bool = False) -> str:
 
 
 def answers_late() -> str:
-    """The text of a program that answers late where account 77 is named."""
+    """The text of a program that answers, where account 77 is named, as soon as its folder has a file `answers`."""
     return ANSWERS_LATE.replace("PACKAGE", repr(str(Path(__file__).resolve().parents[1])))
 
 

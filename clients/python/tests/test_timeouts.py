@@ -15,7 +15,8 @@ from .market import InFolder, OverProgram
 from .standin import answers_late, never_answers
 
 SHORT = 0.3  # seconds that are too few for what is late
-LONG = 30.0
+AMPLE = 5.0  # that are enough for what is quick, also beside other work
+LONG = 60.0
 
 
 class Timed(InFolder):
@@ -23,7 +24,7 @@ class Timed(InFolder):
 
     def setUp(self) -> None:
         super().setUp()
-        self.bounded(60)
+        self.bounded(120)
 
     def over(self, text: str, **how: Any) -> Service:
         made = Service(self.folder, self.stand_in(text), create=True, **how)
@@ -97,12 +98,16 @@ class NeverAnswered(Timed):
 
 
 class Late(Timed):
-    """Over a program that answers late."""
+    """Over a program that answers late: when it is told to, so that nothing depends on how quick the machine is."""
 
     def setUp(self) -> None:
         super().setUp()
         self.market = self.over(answers_late())
         self.client = self.market.client(1)
+
+    def answers(self) -> None:
+        """Lets it answer."""
+        (self.folder / "answers").touch()
 
     def test_a_command_is_waited_for_and_counts_once(self) -> None:
         line = "1 1 fund 77 5"
@@ -111,6 +116,7 @@ class Late(Timed):
         for call in (lambda: self.client.advance(5), lambda: self.market.wallet(1), lambda: self.market.client(2)):
             self.assertRaises(NotReady, call)
         self.late(lambda: self.client.resend(SHORT), line)
+        self.answers()
         self.assertEqual(self.client.resend(), Done())
         self.assertEqual((self.client.next_number, self.market.pending), (2, None))
         self.assertEqual(self.client.advance(5), Advanced(5))
@@ -119,19 +125,24 @@ class Late(Timed):
 
     def test_by_lines(self) -> None:
         self.late(lambda: self.market.ask("1 1 fund 77 5", SHORT), "1 1 fund 77 5")
+        self.answers()
         self.assertEqual(self.market.ask("1 1 fund 77 5"), ["ok"])
         self.assertEqual(self.market.ask("? next_number 1"), ["2"])
 
     def test_a_refusal_that_is_late(self) -> None:
         self.late(lambda: self.client.within(SHORT).take(77, 5), "1 1 take 77 5")
+        self.answers()
         with self.assertRaises(refusals.ShortCollateral):
             self.client.resend()
         self.assertEqual(self.client.fund(1, 5), Done())
 
     def test_a_query_that_is_late_is_left_out(self) -> None:
         self.late(lambda: self.market.within(SHORT).wallet(77), "? wallet 77")
+        self.answers()
         self.assertEqual(self.client.fund(1, 5), Done())
-        self.late(lambda: self.market.ask_many(["? wallet 1", "? wallet 77", "? pools"], SHORT), "? wallet 77")
+        (self.folder / "answers").unlink()
+        self.late(lambda: self.market.ask_many(["? wallet 1", "? wallet 77", "? pools"], AMPLE), "? wallet 77")
+        self.answers()
         self.assertEqual(self.market.wallet(1).coll, 5)
 
     def test_in_another_run(self) -> None:
@@ -141,6 +152,7 @@ class Late(Timed):
         (self.folder / "left.liq").write_bytes(b"\1" + bytes(200))
         self.assertRaises(NotReady, self.client.resend)
         self.market.start()
+        self.answers()
         self.assertEqual(self.client.resend(), Done())
         self.assertEqual(self.market.ask("? next_number 1"), ["2"])
 
@@ -148,21 +160,23 @@ class Late(Timed):
         hasty = self.market.client(2, timeout=LONG)
         hasty.timeout = SHORT
         self.late(lambda: hasty.fund(77, 5), "2 1 fund 77 5")
+        self.answers()
         self.assertEqual(hasty.resend(LONG), Done())
 
 
 class FullAndLate(Timed):
     def test_a_rotation_is_part_of_the_time(self) -> None:
         market = self.over("""
-import sys, time
+import os, sys, time
 for line in sys.stdin:
     words = line.split()
-    if words[2:] == ["rotate"]:
-        time.sleep(1.5)
+    while words[2:] == ["rotate"] and not os.path.exists("answers"):
+        time.sleep(0.01)
     print("1" if words[0] == "?" else "ok 2" if words[2:] == ["rotate"] else "no 81 1000000", flush=True)
 """)
         client = market.client(1, rotate_when_full=True)
-        self.late(lambda: client.within(SHORT).advance(1), "1 1 rotate")
+        self.late(lambda: client.within(AMPLE).advance(1), "1 1 rotate")
+        (self.folder / "answers").touch()
         self.assertEqual(client.resend().generation, 2)
         self.assertEqual(client.next_number, 2)
 
