@@ -14,7 +14,8 @@ from types import TracebackType
 from typing import Any, Callable, Deque, Iterable, Iterator, List, Optional, Sequence, Tuple, Type, Union
 
 from .client import ACCOUNTS, Client, spelt
-from .ends import End, Folder, MarketExists, NoJournal, NoProgram, NoSpace, NotPermitted, is_reply, read_end, replies_end
+from .ends import End, Folder, MarketExists, NoJournal, NoProgram, NoSpace, NotPermitted, is_reply, read_end
+from .ends import replies_end
 from .errors import BadValue, NotReady, TimedOut
 from .journal import holds_journal
 from .queries import Queries

@@ -1,11 +1,14 @@
 """Charts: the same call over all kinds of tables, drawn by the own hand and by matplotlib."""
+import contextlib
 import dataclasses
 import importlib
 import importlib.util
+import io
 import math
 import os
 import pickle
 import re
+import runpy
 import subprocess
 import sys
 import unittest
@@ -19,7 +22,7 @@ from xml.dom import minidom
 from liq.chart import MATPLOTLIB, OWN, Panel, Picture, chart, ticks
 from liq.drawn import thinned
 
-from .market import TOP
+from .market import TOP, OverStandIn
 
 HAS = {name: importlib.util.find_spec(name) is not None for name in ("numpy", "pandas", "matplotlib")}
 PANELS = [
@@ -309,3 +312,21 @@ class TheSameEachTime(unittest.TestCase):
     @unittest.skipUnless(HAS["matplotlib"], "there is no matplotlib")
     def test_by_matplotlib(self) -> None:
         self.assertIn(b"A &lt; B", self.check(MATPLOTLIB)[0])
+
+
+class TheExample(OverStandIn):
+    """The picture of SIMULATING, which says how the example's market went."""
+
+    def test_it_draws_what_is_in_the_documents(self) -> None:
+        example = runpy.run_path(str(TOP / "clients/python/examples/crash.py"))
+        here = os.getcwd()
+        os.chdir(self.folder)
+        self.addCleanup(os.chdir, here)
+        with mock.patch.object(sys, "argv", ["crash.py"]), contextlib.redirect_stdout(io.StringIO()) as said:
+            example["main"]()
+        self.assertEqual(said.getvalue(), "240 hours, 142 of 300 troves are left: see crash.svg\n")
+        drawn, shown = ((place / "crash.svg").read_text() for place in (self.folder, TOP / "docs/pictures"))
+        self.assertTrue(drawn == shown, "docs/pictures/crash.svg is another picture")
+        with mock.patch.object(sys, "argv", ["crash.py", "4"]), contextlib.redirect_stdout(io.StringIO()):
+            example["main"]()
+        self.assertNotEqual((self.folder / "crash.svg").read_text(), drawn)

@@ -356,8 +356,8 @@ class Readers(OverFiles):
 
     def test_much_that_is_written(self) -> None:
         """More than a pipe holds, of which a part is read."""
-        text = "from liq import console; import sys; sys.exit(console.as_process(lambda words: print('y' * 10**6) or 3))"
-        (self.folder / "much.py").write_text(text)
+        (self.folder / "much.py").write_text(
+            "from liq import console; import sys; sys.exit(console.as_process(lambda words: print('y' * 10**6) or 3))")
         with mock.patch.dict(os.environ, PYTHONPATH=str(TOP / "clients/python")):
             process = subprocess.run(
                 ["bash", "-c", '"$0" much.py | head -c 5; echo "${PIPESTATUS[0]}"', sys.executable], cwd=self.folder,
