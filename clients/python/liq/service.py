@@ -32,6 +32,8 @@ SECONDS_MOST = 10**6  # of a timeout: what poll takes
 LINE_SHOWN = 300  # of one that is not sent: liq takes 200 bytes
 SET_PIPE_SIZE, PIPE_SIZE = 1031, 1032  # fcntl.F_SETPIPE_SZ and F_GETPIPE_SZ, which Python names from 3.10 on
 PIPE_BYTES = 2**18  # some thousand lines; a system counts what it has for all pipes of a user
+SECONDS_A_LINE = 5e-7  # less than liq takes for a line, whatever it is
+LINES_OF_A_NAP, LINES_AWAKE = 8192, 256
 IF_MISSING = "if missing"
 Create = Union[bool, str]  # False, True or "if missing"
 Take = Callable[[List[str]], object]  # what is done with replies that came
@@ -374,6 +376,10 @@ class Service(Queries):
                     unsent = unsent[:0]  # what was answered is read, and then how it ended
                 if not unsent:
                     ready.unregister(self._in)
+            # Liq writes each reply by itself, and whoever listens would be woken by each.
+            owed = count - self._told
+            if owed > LINES_AWAKE:
+                time.sleep(SECONDS_A_LINE * min(owed, LINES_OF_A_NAP))
         self._text = ""
         os.set_blocking(self._in, True)
 
