@@ -1,6 +1,8 @@
 """A browser without a window, spoken to by its DevTools protocol over a pipe; and what it finds wrong with a page."""
+import atexit
 import base64
 import fcntl
+import functools
 import json
 import os
 import select
@@ -11,8 +13,7 @@ import sys
 import tempfile
 import time
 from pathlib import Path
-from types import TracebackType
-from typing import Any, Dict, List, Optional, Tuple, Type
+from typing import Any, Dict, List, Optional, Tuple
 
 NAMES = ("chromium", "chromium-browser", "google-chrome")
 FOUND = next((path for path in map(shutil.which, NAMES) if path), None)
@@ -35,7 +36,7 @@ SURVEY = (Path(__file__).parent / "survey.js").read_text()
 
 
 class Browser:
-    """A browser, to be closed at the end."""
+    """A browser, to be closed at the end. All cases have the same one (`shared`), and each its pages."""
 
     def __init__(self) -> None:
         assert FOUND
@@ -51,7 +52,7 @@ class Browser:
         os.close(theirs_out)
         self.out, self.input = ours_out, ours_in
         self.left, self.number = b"", 0
-        self.events: List[Dict[str, Any]] = []
+        self.events: Dict[Optional[str], List[Dict[str, Any]]] = {}  # by session
 
     def call(self, method: str, session: Optional[str] = None, **words: Any) -> Dict[str, Any]:
         """What a method answers. What is told meanwhile is kept."""
@@ -81,7 +82,7 @@ class Browser:
         line, _, self.left = self.left.partition(b"\0")
         told: Dict[str, Any] = json.loads(line)
         if "id" not in told:
-            self.events.append(told)
+            self.events.setdefault(told.get("sessionId"), []).append(told)
         return told
 
     def close(self) -> None:
@@ -94,13 +95,13 @@ class Browser:
         self.process.wait()
         shutil.rmtree(self.folder, ignore_errors=True)
 
-    def __enter__(self) -> "Browser":
-        return self
 
-    def __exit__(
-        self, kind: Optional[Type[BaseException]], fault: Optional[BaseException], trace: Optional[TracebackType]
-    ) -> None:
-        self.close()
+@functools.lru_cache(maxsize=1)
+def shared() -> Browser:
+    """One browser for all cases, which is closed where the process ends: its start takes longer than most of them."""
+    begun = Browser()
+    atexit.register(begun.close)
+    return begun
 
 
 def _pipe() -> Tuple[int, int]:
@@ -134,9 +135,7 @@ class Tab:
 
     def told(self, method: str) -> List[Dict[str, Any]]:
         """What was told of this page."""
-        return [
-            event["params"] for event in self.browser.events
-            if event["method"] == method and event.get("sessionId") == self.session]
+        return [event["params"] for event in self.browser.events.get(self.session, []) if event["method"] == method]
 
     def ask(self, script: str) -> Any:
         """The value of an expression in the page."""
@@ -159,13 +158,15 @@ class Tab:
 
     def close(self) -> None:
         self.browser.call("Target.closeTarget", targetId=self.target)
+        self.browser.events.clear()
 
     # ---- what is wrong with it
 
-    def faults(self) -> List[str]:
+    def faults(self, keys: bool = True) -> List[str]:
         """All that is found wrong with the page. It is read, walked through by the keyboard, and listened to."""
         found: List[str] = self.ask(f"({SURVEY})()")
-        return [*found, *self.faults_of_keys(), *self.faults_of_loads(), *self.faults_of_console()]
+        found += self.faults_of_keys() if keys else []
+        return [*found, *self.faults_of_loads(), *self.faults_of_console()]
 
     def faults_of_loads(self) -> List[str]:
         """What it asked for, besides itself."""

@@ -14,7 +14,7 @@ from liq.ends import Usage
 from liq.statement_page import page as statement_page
 
 from . import modelled, shown
-from .browser import FOUND, Browser, Tab
+from .browser import FOUND, Browser, Tab, shared
 from .market import InFolder, OverProgram
 from .test_page import run_main
 
@@ -123,7 +123,7 @@ def differences(name: str, expected: Any, here: Any) -> List[str]:
 
 @unittest.skipUnless(FOUND, "there is no chromium")
 class Opened(InFolder):
-    """Cases over a browser, which is begun once for all of a class."""
+    """Cases over a browser, which is begun once for all."""
 
     browser: ClassVar[Browser]
     made: ClassVar[Path]
@@ -137,8 +137,7 @@ class Opened(InFolder):
         cls.addClassCleanup(shutil.rmtree, cls.made)
         cls.market = shown.a_market(cls.made)
         cls.stated = statement.statement(cls.made, None, DAY)
-        cls.browser = Browser()
-        cls.addClassCleanup(cls.browser.close)
+        cls.browser = shared()
 
     def setUp(self) -> None:
         super().setUp()
@@ -207,7 +206,7 @@ class WrongPages(Opened):
         return re.sub("<meta http-equiv=[^>]*>\n", "", right)
 
     def told(self, fault: str, text: str, width: int = 1400) -> None:
-        found = self.tab(text, width).faults()
+        found = self.tab(text, width).faults(keys=fault.startswith("keyboard"))
         self.assertTrue(any(line.startswith(fault) for line in found), (fault, found))
 
     def test_a_number_that_is_another(self) -> None:
@@ -289,7 +288,7 @@ class WrongPages(Opened):
                 text = text.replace("<main>", '<main><p class="mark">x</p>')
             self.told("contrast: ", text)
         dark = self.wrong("--ink: #e6e9ee", "--ink: #444444", self.free())
-        self.assertTrue(any(line.startswith("contrast: ") for line in self.tab(dark, dark=True).faults()))
+        self.assertTrue(any(line.startswith("contrast: ") for line in self.tab(dark, dark=True).faults(keys=False)))
 
     def test_what_a_page_has_to_have(self) -> None:
         for before, after, said in (
@@ -314,15 +313,14 @@ class OverTheProgram(OverProgram):
             page.read_market(folder)
         except Usage:
             self.skipTest("the program does not have the word report")
-        with Browser() as browser:
-            html, told = run_main(page.main, str(folder)), json.loads(run_main(page.main, "--json", str(folder)))
-            (self.folder / "market.html").write_text(html)
-            tab = Tab(browser, self.folder / "market.html", 400)
-            self.assertEqual((tab.faults(), faults_of_market(tab, told)), ([], []))
-            words = ("--date", DAY, str(folder))
-            html = run_main(statement.main, "--form", "page", *words)
-            told = json.loads(run_main(statement.main, "--form", "json", *words))
-            (self.folder / "statement.html").write_text(html)
-            tab = Tab(browser, self.folder / "statement.html", 400)
-            tables = stated.tables(statement.statement(folder, None, DAY))
-            self.assertEqual((tab.faults(), faults_of_statement(tab, told, tables)), ([], []))
+        html, told = run_main(page.main, str(folder)), json.loads(run_main(page.main, "--json", str(folder)))
+        (self.folder / "market.html").write_text(html)
+        tab = Tab(shared(), self.folder / "market.html", 400)
+        self.assertEqual((tab.faults(), faults_of_market(tab, told)), ([], []))
+        words = ("--date", DAY, str(folder))
+        html = run_main(statement.main, "--form", "page", *words)
+        told = json.loads(run_main(statement.main, "--form", "json", *words))
+        (self.folder / "statement.html").write_text(html)
+        tab = Tab(shared(), self.folder / "statement.html", 400)
+        tables = stated.tables(statement.statement(folder, None, DAY))
+        self.assertEqual((tab.faults(), faults_of_statement(tab, told, tables)), ([], []))
