@@ -13,7 +13,7 @@ import sys
 import tempfile
 import time
 from pathlib import Path
-from typing import Any, Dict, List, Optional, Tuple
+from typing import Any, Dict, List, Optional, Sequence, Tuple
 
 NAMES = ("chromium", "chromium-browser", "google-chrome")
 FOUND = next((path for path in map(shutil.which, NAMES) if path), None)
@@ -33,10 +33,17 @@ os.dup2(int(sys.argv[2]), 4)
 os.execv(sys.argv[3], sys.argv[3:])
 """
 SURVEY = (Path(__file__).parent / "survey.js").read_text()
+# What the key Tab is to come to. Where it does come to, and whether that is shown, is noted from here on.
+FOCUSED = """
+survey.came = [],
+document.activeElement.blur(), getSelection().removeAllRanges(), scrollTo(0, 0),
+document.addEventListener('focusin', (event) => survey.came.push([survey.named(event.target), survey.showsFocus()])),
+survey.focusable().map(survey.named)
+"""
 
 
 class Browser:
-    """A browser, to be closed at the end. All cases have the same one (`shared`), and each its pages."""
+    """A browser, to be closed at the end."""
 
     def __init__(self) -> None:
         assert FOUND
@@ -56,18 +63,25 @@ class Browser:
 
     def call(self, method: str, session: Optional[str] = None, **words: Any) -> Dict[str, Any]:
         """What a method answers. What is told meanwhile is kept."""
-        self.number += 1
-        asked: Dict[str, Any] = {"id": self.number, "method": method, "params": words}
-        if session:
-            asked["sessionId"] = session
-        os.write(self.out, json.dumps(asked).encode() + b"\0")
-        while True:
+        return self.call_all(method, session, [words])[0]
+
+    def call_all(self, method: str, session: Optional[str], calls: Sequence[Dict[str, Any]]) -> List[Dict[str, Any]]:
+        """What a method answers to calls that are sent together, behind each other."""
+        first = self.number + 1
+        for words in calls:
+            self.number += 1
+            asked: Dict[str, Any] = {"id": self.number, "method": method, "params": words}
+            if session:
+                asked["sessionId"] = session
+            os.write(self.out, json.dumps(asked).encode() + b"\0")
+        results: Dict[int, Dict[str, Any]] = {}
+        while len(results) < len(calls):
             told = self.read()
-            if told.get("id") == self.number:
+            if told.get("id", 0) >= first:
                 if "error" in told:
                     raise AssertionError(f"{method}: {told['error']}")
-                result: Dict[str, Any] = told["result"]
-                return result
+                results[told["id"]] = told["result"]
+        return [results[number] for number in sorted(results)]
 
     def read(self) -> Dict[str, Any]:
         """The next thing that is told; one that is no answer is kept too."""
@@ -97,11 +111,12 @@ class Browser:
 
 
 @functools.lru_cache(maxsize=1)
-def shared() -> Browser:
-    """One browser for all cases, which is closed where the process ends: its start takes longer than most of them."""
-    begun = Browser()
-    atexit.register(begun.close)
-    return begun
+def shared() -> "Tab":
+    """One browser, and one window in it, for all cases: either takes longer to begin than most of them. It is closed
+    where the process ends."""
+    browser = Browser()
+    atexit.register(browser.close)
+    return Tab(browser)
 
 
 def _pipe() -> Tuple[int, int]:
@@ -114,21 +129,31 @@ def _pipe() -> Tuple[int, int]:
 
 
 class Tab:
-    """A page that is open in a window of a width, on a light screen or a dark one."""
+    """A window of a browser, in which a page is opened at a width, on a light screen or a dark one."""
 
-    def __init__(self, browser: Browser, path: Path, width: int = 1400, dark: bool = False) -> None:
-        self.browser, self.path, self.width = browser, path, width
-        self.target = browser.call("Target.createTarget", url="about:blank")["targetId"]
-        self.session = browser.call("Target.attachToTarget", targetId=self.target, flatten=True)["sessionId"]
+    def __init__(self, browser: Browser) -> None:
+        self.browser = browser
+        target = browser.call("Target.createTarget", url="about:blank")["targetId"]
+        self.session = browser.call("Target.attachToTarget", targetId=target, flatten=True)["sessionId"]
         for part in ("Page", "Network", "Runtime", "Log"):
             self.call(f"{part}.enable")
         self.call("Emulation.setFocusEmulationEnabled", enabled=True)
+
+    def open(self, path: Path, width: int = 1400, dark: bool = False) -> "Tab":
+        """Opens a page in the place of the one before, and forgets what was told of that."""
+        self.path, self.width = path, width
+        self._go("about:blank")
         self.call("Emulation.setDeviceMetricsOverride", width=width, height=900, deviceScaleFactor=1, mobile=False)
         scheme = {"name": "prefers-color-scheme", "value": "dark" if dark else "light"}
         self.call("Emulation.setEmulatedMedia", features=[scheme])
-        self.call("Page.navigate", url=path.as_uri())
+        self._go(path.as_uri())
+        return self
+
+    def _go(self, url: str) -> None:
+        self.browser.events.clear()
+        self.call("Page.navigate", url=url)
         while not self.told("Page.loadEventFired"):
-            browser.read()
+            self.browser.read()
 
     def call(self, method: str, **words: Any) -> Dict[str, Any]:
         return self.browser.call(method, self.session, **words)
@@ -144,21 +169,17 @@ class Tab:
             raise AssertionError(str(told["exceptionDetails"])[:2000])
         return told["result"].get("value")
 
-    def press(self, key: str, code: int, text: str = "") -> None:
-        """Presses a key, and lets it go."""
+    def press(self, key: str, code: int, text: str = "", times: int = 1) -> None:
+        """Presses a key, and lets it go; so many times."""
         words: Dict[str, Any] = {"key": key, "code": key, "windowsVirtualKeyCode": code}
         down = {"type": "keyDown", "text": text} if text else {"type": "rawKeyDown"}
-        self.call("Input.dispatchKeyEvent", **words, **down)
-        self.call("Input.dispatchKeyEvent", type="keyUp", **words)
+        one = [{**words, **down}, {**words, "type": "keyUp"}]
+        self.browser.call_all("Input.dispatchKeyEvent", self.session, times * one)
 
     def picture(self) -> bytes:
         """The whole page, as a PNG."""
         told = self.call("Page.captureScreenshot", format="png", captureBeyondViewport=True)
         return base64.b64decode(told["data"])
-
-    def close(self) -> None:
-        self.browser.call("Target.closeTarget", targetId=self.target)
-        self.browser.events.clear()
 
     # ---- what is wrong with it
 
@@ -183,12 +204,12 @@ class Tab:
     def faults_of_keys(self) -> List[str]:
         """What the key Tab does not come to in order, and where it does not show where it is; what Enter does not
         open."""
-        wanted: List[str] = self.ask("survey.focusable().map(survey.named)")
+        wanted: List[str] = self.ask(FOCUSED)
+        self.press("Tab", 9, times=len(wanted))
+        came = self.ask("survey.came")
         found: List[str] = []
-        self.ask("document.activeElement.blur(), getSelection().removeAllRanges(), scrollTo(0, 0)")
-        for name in wanted:
-            self.press("Tab", 9)
-            here, is_shown = self.ask("[survey.named(document.activeElement), survey.showsFocus()]")
+        for at, name in enumerate(wanted):
+            here, is_shown = came[at] if at < len(came) else ("nothing", False)
             if here != name:
                 return [*found, f"keyboard: Tab comes to {here}, and not to {name}"]
             if not is_shown:

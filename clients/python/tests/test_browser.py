@@ -14,7 +14,7 @@ from liq.ends import Usage
 from liq.statement_page import page as statement_page
 
 from . import modelled, shown
-from .browser import FOUND, Browser, Tab, shared
+from .browser import FOUND, Tab, shared
 from .market import InFolder, OverProgram
 from .test_page import run_main
 
@@ -125,7 +125,6 @@ def differences(name: str, expected: Any, here: Any) -> List[str]:
 class Opened(InFolder):
     """Cases over a browser, which is begun once for all."""
 
-    browser: ClassVar[Browser]
     made: ClassVar[Path]
     market: ClassVar[page.Market]
     stated: ClassVar[stated.Statement]
@@ -137,7 +136,6 @@ class Opened(InFolder):
         cls.addClassCleanup(shutil.rmtree, cls.made)
         cls.market = shown.a_market(cls.made)
         cls.stated = statement.statement(cls.made, None, DAY)
-        cls.browser = shared()
 
     def setUp(self) -> None:
         super().setUp()
@@ -147,9 +145,7 @@ class Opened(InFolder):
         """A page of this text, opened."""
         path = self.folder / "page.html"
         path.write_text(text, "utf-8")
-        tab = Tab(self.browser, path, width, dark)
-        self.addCleanup(tab.close)
-        return tab
+        return shared().open(path, width, dark)
 
 
 class RightPages(Opened):
@@ -315,12 +311,12 @@ class OverTheProgram(OverProgram):
             self.skipTest("the program does not have the word report")
         html, told = run_main(page.main, str(folder)), json.loads(run_main(page.main, "--json", str(folder)))
         (self.folder / "market.html").write_text(html)
-        tab = Tab(shared(), self.folder / "market.html", 400)
+        tab = shared().open(self.folder / "market.html", 400)
         self.assertEqual((tab.faults(), faults_of_market(tab, told)), ([], []))
         words = ("--date", DAY, str(folder))
         html = run_main(statement.main, "--form", "page", *words)
         told = json.loads(run_main(statement.main, "--form", "json", *words))
         (self.folder / "statement.html").write_text(html)
-        tab = Tab(shared(), self.folder / "statement.html", 400)
+        tab = shared().open(self.folder / "statement.html", 400)
         tables = stated.tables(statement.statement(folder, None, DAY))
         self.assertEqual((tab.faults(), faults_of_statement(tab, told, tables)), ([], []))
