@@ -26,8 +26,7 @@ class Refusal(LiqError):
     def __init__(self, *values: int) -> None:
         super().__init__(*values)
         self.values = values
-        for name, value in zip(self.fields, values):
-            setattr(self, name, value)
+        self.__dict__.update(zip(self.fields, values))
 
     def __str__(self) -> str:
         named = ", ".join(f"{name} {value}" for name, value in zip(self.fields, self.values))
