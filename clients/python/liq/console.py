@@ -8,6 +8,7 @@ import argparse
 import csv
 import io
 import json
+import os
 import re
 import sys
 from typing import Any, Callable, Dict, Iterable, Iterator, List, Optional, Sequence
@@ -107,11 +108,17 @@ class Output(io.FileIO):
 def as_process(main: Callable[[List[str]], int]) -> int:
     """The status of a command, with the words, and the output, of its process."""
     out = sys.stdout
-    if isinstance(out, io.TextIOWrapper):
-        into = io.BufferedWriter(Output(out.fileno(), "w", closefd=False))
-        sys.stdout = io.TextIOWrapper(into, out.encoding, out.errors, line_buffering=out.line_buffering)
+    if not isinstance(out, io.TextIOWrapper):  # as where standard output is closed
+        return main(sys.argv[1:])
+    into = io.BufferedWriter(Output(out.fileno(), "w", closefd=False))
+    sys.stdout = io.TextIOWrapper(into, out.encoding, out.errors, line_buffering=out.line_buffering)
     status = main(sys.argv[1:])
-    sys.stdout.flush()
+    try:
+        sys.stdout.flush()
+    except OSError as fault:  # as where a file system is full
+        print(f"liq: standard output can't be written: {fault.strerror}", file=sys.stderr)
+        os.dup2(os.open(os.devnull, os.O_WRONLY), out.fileno())  # for what Python writes at its end
+        return 1
     return status
 
 

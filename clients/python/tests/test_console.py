@@ -364,6 +364,18 @@ class Readers(OverFiles):
                 stdout=subprocess.PIPE, stderr=subprocess.PIPE, check=True)
         self.assertEqual((process.stdout, process.stderr), (b"yyyyy3\n", b""))
 
+    def test_output_that_is_full_or_closed(self) -> None:
+        full = "liq: standard output can't be written: No space left on device"
+        where = {**os.environ, **NO_PROGRAM, "PYTHONPATH": str(TOP / "clients/python"), "PYTHONDONTWRITEBYTECODE": "1"}
+        for words, wanted in (
+            ("liq > /dev/full", f"{full}\n1\n"), ("liq >&-", "0\n"),
+            (f"liq.statement {self.market} > /dev/full", f"{full}\n1\n"),
+        ):
+            ran = subprocess.run(
+                ["bash", "-c", f'"$0" -m {words}; echo "$?" >&2', sys.executable], stderr=subprocess.PIPE, text=True,
+                env=where)
+            self.assertEqual(ran.stderr, wanted)
+
     def test_replies_that_nobody_reads(self) -> None:
         """Of a gateway, which is a socket here."""
         path = str(self.folder / "socket")
