@@ -138,17 +138,17 @@ class Together(Calls):
         lines, begin = replies[:-1].split("\n"), len(self._answers)
         answers = rows_of(rows[begin : begin + len(lines)], lines, replies)
         place = begin % len(self.clients)
-        which = slice(place, place + len(lines))
-        self._numbers[which] = [number + 1 for number in self._numbers[which]]
+        numbers = [number + 1 for number in self._numbers[place : place + len(lines)]]
         for at in [at for at, line in enumerate(lines) if line[0] == "n"]:
             refusal = read_refusal(lines[at].split(" "))
             if self.rotating is not None and isinstance(refusal, JournalFull):
                 self._is_full = True
-                self._numbers[place + at : which.stop] = [it - 1 for it in self._numbers[place + at : which.stop]]
-                del answers[at:]
+                del answers[at:], numbers[at:]
                 break
             answers[at] = refusal
-            self._numbers[place + at] -= 1
+            numbers[at] -= 1
+        # At once, so that an interrupt finds either both or none.
+        self._numbers[place : place + len(numbers)] = numbers
         self._answers += answers
 
 
