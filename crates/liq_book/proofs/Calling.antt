@@ -1,6 +1,7 @@
 -- What a call of the store leaves of a book.
 use Rattle.std.proofs.Common.{◌≡◌, ℕ, ◌+◌, ◌≤◌, ◌<◌, List, [], ◌∷◌, ◌++◌, map, length, Option, Some, None, Result, Ok, Err, Bool, ◌==◌, sym, refl, ap, ◌∙◌, subst, arith, length-append}
 use Rattle.std.specs.Result.{MatchResult}
+use Rattle.std.specs.Prelude.{IsSome, ◌↔◌}
 use Rattle.std.specs.Option.{IsSomeAnd, option_map}
 use Rattle.std.proofs.lemmas.List.{length-map, map-append}
 use Rattle.std.proofs.lemmas.List.Sums.{count_by-le-length, length-filter}
@@ -62,8 +63,10 @@ a_halt None stopped sum is some = absurd (let e : Some sum ≡ None = sym some �
 a_halt (Some halt) stopped sum is some = let e : Some halt.faults ≡ Some sum = sym is ∙ some in cc
 
 module _ {D : Type 0} (seen : D → Option (List ℕ)) (faults : D → ℕ) (moment : D → ℕ) (left_at : D → ℕ → List ℕ → Type 0) where
-  pub goes_from : (origin : DiskAt) (old new : D) → GoesOnFrom origin moment left_at old → GoesOn moment left_at old new → GoesOnFrom origin moment left_at new
-  goes_from origin old new from on = record {
+  pub goes_from : (origin : DiskAt) (old new : D) → GoesOnFrom origin seen moment left_at old → GoesOn moment left_at old new → IsSome (seen new) ↔ IsSome (seen old)
+      → GoesOnFrom origin seen moment left_at new
+  goes_from origin old new from on tells = record {
+    telling = (λ now. from.telling.0 (tells.0 now), λ then. tells.1 (from.telling.1 then));
     later = omega (arith, from.later, on.later);
     past = λ k image early there. from.past k image early (on.past k image (omega (arith, from.later, early)) there);
     kept = λ k image early there. on.kept k image (omega (arith, from.later, early)) (from.kept k image early there);
@@ -148,8 +151,8 @@ module _ {D : Type 0} (seen : D → Option (List ℕ)) (faults : D → ℕ) (mom
           halt = still;
           keeps = going_keeps new (state_after base (map recorded (entries ++ e ∷ []))) c.order still stands;
           cause = c.cause ∙ (rw none at b.cause);
-          left = goes_from left_origin old.left new.left b.left c.disks.left_time;
-          right = goes_from right_origin old.right new.right b.right c.disks.right_time;
+          left = goes_from left_origin old.left new.left b.left c.disks.left_time c.disks.left_telling;
+          right = goes_from right_origin old.right new.right b.right c.disks.right_time c.disks.right_telling;
           past =
               subst (λ requests. KeepsPast seen moment left_at left_origin right_origin base requests None new) (sym (requests_more entries e))
               (λ l r told_left told_right.
@@ -172,8 +175,8 @@ module _ {D : Type 0} (seen : D → Option (List ℕ)) (faults : D → ℕ) (mom
           halt = still;
           keeps = going_keeps new s c.order still stands;
           cause = c.cause ∙ (rw none at b.cause);
-          left = goes_from left_origin old.left new.left b.left c.disks.left_time;
-          right = goes_from right_origin old.right new.right b.right c.disks.right_time;
+          left = goes_from left_origin old.left new.left b.left c.disks.left_time c.disks.left_telling;
+          right = goes_from right_origin old.right new.right b.right c.disks.right_time c.disks.right_telling;
           past = λ l r told_left told_right.
               waits seen moment left_at may_stay (since_origin left_origin right_origin) l r base (requests_of (map recorded entries)) old new
               (past_of old entries halt none b l r told_left told_right) ordered request still (c.step_is going) c.disks;
@@ -192,17 +195,20 @@ module _ {D : Type 0} (seen : D → Option (List ℕ)) (faults : D → ℕ) (mom
           legal = b.legal;
           state = stands;
           halt = stopped;
-          keeps = λ l r told_left told_right.
-              let before_left = value_of (seen old.left) (c.disks.left_telling.0 (rw told_left refl)) in
-              let before_right = value_of (seen old.right) (c.disks.right_telling.0 (rw told_right refl)) in
-              let around = c.disks.kept going before_left.0 before_right.0 s before_left.1 before_right.1 b.state in
-              let now = λ (a b : List ℕ) (in_left : LeftNow moment left_at new.left a) (in_right : LeftNow moment left_at new.right b).
-              around a b (moment new.left, c.disks.left_time.later, omega arith, in_left)
-              (moment new.right, c.disks.right_time.later, omega arith, in_right) in
-              (now l r (may_stay new.left l told_left) (may_stay new.right r told_right), now);
+          keeps = (
+            (c.step_is going s b.state).1,
+            λ l r told_left told_right.
+                let before_left = value_of (seen old.left) (c.disks.left_telling.0 (rw told_left refl)) in
+                let before_right = value_of (seen old.right) (c.disks.right_telling.0 (rw told_right refl)) in
+                let around = c.disks.kept going before_left.0 before_right.0 s before_left.1 before_right.1 b.state in
+                let now = λ (a b : List ℕ) (in_left : LeftNow moment left_at new.left a) (in_right : LeftNow moment left_at new.right b).
+                around a b (moment new.left, c.disks.left_time.later, omega arith, in_left)
+                (moment new.right, c.disks.right_time.later, omega arith, in_right) in
+                (now l r (may_stay new.left l told_left) (may_stay new.right r told_right), now),
+          );
           cause = rw (rw none at b.cause) at c.cause;
-          left = goes_from left_origin old.left new.left b.left c.disks.left_time;
-          right = goes_from right_origin old.right new.right b.right c.disks.right_time;
+          left = goes_from left_origin old.left new.left b.left c.disks.left_time c.disks.left_telling;
+          right = goes_from right_origin old.right new.right b.right c.disks.right_time c.disks.right_telling;
           past = λ l r told_left told_right.
               let failed = a_command s request (c.step_is going s b.state).1 in
               let earlier = past_of old entries halt none b l r told_left told_right in (

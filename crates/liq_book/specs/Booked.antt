@@ -5,6 +5,7 @@ use Rattle.liq_outside.specs.Disk.{LeftNow}
 use Rattle.liq_types.specs.State.{State}
 use Rattle.liq_core.specs.Core.{StandsFor}
 use Rattle.liq_rules.specs.History.{IsLegal, requests_of, state_after}
+use Rattle.liq_rules.specs.Memory.{IsAccepted}
 use Rattle.liq_pairs.specs.Kept.{IsKept}
 use Rattle.liq_store.specs.Causes.{Faults, OneRose}
 use Rattle.liq_store.specs.Keeping.{IsKeptAround}
@@ -34,17 +35,18 @@ CausesHalt (Some halt) before after = OneRose before after
 module _
     {D : Type 0} (seen : D → Option (List ℕ)) (moment : D → ℕ)
     (left_at : D → ℕ → List ℕ → Type 0) where
-  -- What both disks read, where both tell it, is kept for the state; and behind a halt what they read, and all that a
-  -- crash may now leave of the one beside all of the other, is kept for the state or for the one after the halt's
-  -- request.
+  -- What both disks read, where both tell it, is kept for the state. A halt's request is a command that the rules accept
+  -- there; behind it what the disks read, and all that a crash may now leave of the one beside all of the other, is kept
+  -- for the state or for the one after this command.
   abbrev pub KeepsDisks : Option Halt → State → Stored D → Type 0
   KeepsDisks None s store =
       (l r : List ℕ) → seen store.left ≡ Some l → seen store.right ≡ Some r → IsKept l r s
   KeepsDisks (Some halt) s store =
-      (l r : List ℕ) → seen store.left ≡ Some l → seen store.right ≡ Some r
+      IsAccepted s halt.request
+      × ((l r : List ℕ) → seen store.left ≡ Some l → seen store.right ≡ Some r
       → IsKeptAround s halt.request l r
       × ((a b : List ℕ) → LeftNow moment left_at store.left a → LeftNow moment left_at store.right b
-      → IsKeptAround s halt.request a b)
+      → IsKeptAround s halt.request a b))
 
 -- What holds of every book: the entries are a legal history from its base, and the store's protocol is in the state
 -- after them. A halt is there exactly where the store is stopped, with the faults that it then tells. What a crash may
@@ -61,8 +63,8 @@ pub record IsBook
   pub cause :
       CausesHalt book.halt (faults_at left_origin right_origin)
       (record { left = faults book.store.left; right = faults book.store.right })
-  pub left : GoesOnFrom left_origin moment left_at book.store.left
-  pub right : GoesOnFrom right_origin moment left_at book.store.right
+  pub left : GoesOnFrom left_origin seen moment left_at book.store.left
+  pub right : GoesOnFrom right_origin seen moment left_at book.store.right
   pub past :
       KeepsPast seen moment left_at left_origin right_origin base (requests_of (map recorded book.entries)) book.halt
       book.store

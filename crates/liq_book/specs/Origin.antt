@@ -1,5 +1,5 @@
 -- Where a book begins: a state, and two disks at a moment.
-use Rattle.std.specs.Prelude.{ℕ, ◌≡◌, ◌≤◌, List, Option, None}
+use Rattle.std.specs.Prelude.{ℕ, ◌≡◌, ◌≤◌, ◌↔◌, List, Option, None, IsSome}
 use Rattle.liq_types.specs.State.{State, opening}
 use Rattle.liq_core.specs.Core.{StandsFor}
 use Rattle.liq_rules.specs.View.{all_followed, view_of}
@@ -15,10 +15,12 @@ pub record DiskAt : Type 1 where
   -- what a crash at each moment up to that one may have left
   pub left_at : ℕ → List ℕ → Type 0
 
--- The law of moments from there on: time goes on, and what a crash may have left up to that moment stays what it was.
+-- What holds of a disk from there on: it tells its bytes if it told them then, time goes on, and what a crash may have
+-- left up to that moment stays what it was.
 pub record GoesOnFrom
-    {D : Type 0} (origin : DiskAt) (moment_of : D → ℕ) (left_by : D → ℕ → List ℕ → Type 0)
-    (disk : D) : Type 0 where
+    {D : Type 0} (origin : DiskAt) (seen_by : D → Option (List ℕ)) (moment_of : D → ℕ)
+    (left_by : D → ℕ → List ℕ → Type 0) (disk : D) : Type 0 where
+  pub telling : IsSome (seen_by disk) ↔ IsSome origin.seen
   pub later : origin.moment ≤ moment_of disk
   pub past : (k : ℕ) (image : List ℕ) → k ≤ origin.moment → left_by disk k image → origin.left_at k image
   pub kept : (k : ℕ) (image : List ℕ) → k ≤ origin.moment → origin.left_at k image → left_by disk k image
@@ -30,7 +32,7 @@ pub record IsDiskAt
   pub seen : seen_by disk ≡ origin.seen
   pub faults : faults_of disk ≡ origin.faults
   pub moment : moment_of disk ≡ origin.moment
-  pub time : GoesOnFrom origin moment_of left_by disk
+  pub time : GoesOnFrom origin seen_by moment_of left_by disk
 
 -- the store is as it was there
 pub record IsAtOrigin

@@ -5,9 +5,12 @@ use Rattle.liq_ends.specs.declared.halts.Halt.{Halt}
 use Rattle.liq_ends.specs.declared.halts.Halt.TheVariants.{BadLine, ReadFault, WriteFault, DiskFault, Damaged, DamagedInput, NoMemory, Limit, Rotated}
 use Rattle.liq_pairs.specs.declared.side.Side.{Side}
 use Rattle.liq_pairs.specs.declared.side.Side.TheVariants.{Left, Right}
-use Rattle.liq_store.specs.Causes.{Faults, OneRose}
+use Rattle.liq_store.specs.declared.answers.StoreWhy.{StoreWhy}
+use Rattle.liq_store.specs.declared.answers.StoreWhy.TheVariants as why
+use Rattle.liq_store.specs.Causes.{CausesWhy, Faults, OneRose}
 use Rattle.liq_ends.specs.Causes.{DiskCause, ReadCause, WriteCause, LastCause}
 use Rattle.liq_ends.specs.Statuses.{status_of}
+use Rattle.liq_ends.specs.Unopened.{halt_of}
 
 -- no other halt is caused by the source
 pub read_same : {T : Type 0} (halt : Halt) (before after : ℕ) → (let r : Result T Halt = Err halt in r ≢ Err ReadFault) → after ≡ before → ReadCause {T = T} (Err halt) before after
@@ -49,6 +52,13 @@ write_no_fewer (Err (Damaged side number)) before after c = omega (arith, c)
 write_no_fewer (Err (Limit number)) before after c = omega (arith, c)
 write_no_fewer (Err (Rotated generation)) before after c = omega (arith, c)
 write_no_fewer (Err (DamagedInput number)) before after c = omega (arith, c)
+
+-- where no store was opened
+pub unopened_cause : (why_is : StoreWhy) (before after : Faults) → CausesWhy why_is before after
+    → DiskCause {T = Unit {0}} (Err (halt_of why_is)) before after
+unopened_cause why.DiskFault before after c = c
+unopened_cause (why.Damaged side damage) before after c = c
+unopened_cause why.NoMemory before after c = c
 
 -- ---- what a status says
 

@@ -1,4 +1,5 @@
 pub mod Causes
+pub mod Damaged
 pub mod EndingLines
 pub mod Opened
 pub mod Passing

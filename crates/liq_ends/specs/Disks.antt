@@ -1,18 +1,20 @@
 -- What a run leaves on the disks.
-use Rattle.std.specs.Prelude.{ℕ, ◌≡◌, ◌⊎◌, [], List, Option, Some, Result, Ok, Err}
-use Rattle.liq_outside.specs.Disk.{LeftNow, Only}
+use Rattle.std.specs.Prelude.{ℕ, ◌≡◌, ◌≢◌, ◌⊎◌, [], List, Option, Some, Result, Ok, Err, true, false}
+use Rattle.liq_outside.specs.Disk.{LeavesOnly, LeftNow, Only}
 use Rattle.liq_types.specs.declared.requests.Command.{Command}
 use Rattle.liq_types.specs.declared.requests.Request.{Request}
 use Rattle.liq_types.specs.declared.requests.Request.TheVariants.{Do}
 use Rattle.liq_types.specs.State.{State}
 use Rattle.liq_rules.specs.Step.{Allowed, after, ruling, run}
 use Rattle.liq_journal.specs.declared.damage.Damage.{Damage}
+use Rattle.liq_journal.specs.Opened.{OpenLeaves}
 use Rattle.liq_pairs.specs.declared.side.Side.{Side}
 use Rattle.liq_pairs.specs.Kept.{IsKept}
 use Rattle.liq_pairs.specs.Pair.{StandFor, state_on}
 use Rattle.liq_pairs.specs.Past.{AtCommand, Fault, InOpening, NoFault}
 use Rattle.liq_pairs.specs.Unfinished.{IsRecovered}
 use Rattle.liq_store.specs.Leaving.{LeavesBoth}
+use Rattle.liq_store.specs.Standing.{OnlyShuts}
 use Rattle.liq_ends.specs.declared.halts.Halt.{Halt}
 use Rattle.liq_ends.specs.declared.halts.Halt.TheVariants.{DiskFault, Damaged, NoMemory}
 use Rattle.liq_ends.specs.Requests.{IsNext}
@@ -21,12 +23,15 @@ use Rattle.liq_ends.specs.Requests.{IsNext}
 abbrev pub IsUnread : List ℕ → Option (List ℕ) → List Request → Type 0
 IsUnread bytes unread requests = (requests ≡ []) × (unread ≡ Some bytes)
 
--- where a run met a disk's fault: in the opening, before a line was read, or at the next line's command
-abbrev pub IsFaultOfRun : Result (Unit {0}) Halt → List ℕ → Option (List ℕ) → List Request → Fault → Type 0
-IsFaultOfRun (Err DiskFault) bytes unread requests fault =
+-- Where a run met a disk's fault: in the opening, before a line was read; or at the next line's command, which is
+-- accepted after these requests.
+abbrev pub IsFaultOfRun :
+    State → Result (Unit {0}) Halt → List ℕ → Option (List ℕ) → List Request → Fault → Type 0
+IsFaultOfRun start (Err DiskFault) bytes unread requests fault =
     ((fault ≡ InOpening) × IsUnread bytes unread requests)
-    ⊎ ((c : Command) × (fault ≡ AtCommand c) × IsNext bytes requests (Do c))
-IsFaultOfRun _ bytes unread requests fault = fault ≡ NoFault
+    ⊎ ((c : Command) × (fault ≡ AtCommand c) × IsNext bytes requests (Do c)
+    × (ruling (run start requests).0 c ≡ Allowed))
+IsFaultOfRun start _ bytes unread requests fault = fault ≡ NoFault
 
 -- where a word met one that only tells what is on the disks: it leaves what an opening may leave
 abbrev pub IsFaultOfTelling : Result (Unit {0}) Halt → Fault → Type 0
@@ -51,10 +56,11 @@ module _ {D : Type 0} (seen : D → Option (List ℕ)) where
   abbrev pub OfState : D → D → (List ℕ → List ℕ → State → Type 0) → Type 0
   OfState left right P = OfBoth left right (λ l r. (start : State) → state_on l r ≡ Ok start → P l r start)
 
-  -- where one of the disks is damaged, this holds of its side and of the first damage
-  abbrev pub OfDamage : D → D → (Side → Damage → Type 0) → Type 0
+  -- where one of the disks is damaged, this holds of these bytes, of its side and of the first damage
+  abbrev pub OfDamage : D → D → (List ℕ → List ℕ → Side → Damage → Type 0) → Type 0
   OfDamage left right P =
-      OfBoth left right (λ l r. (side : Side) (damage : Damage) → state_on l r ≡ Err (side, damage) → P side damage)
+      OfBoth left right (λ l r. (side : Side) (damage : Damage) → state_on l r ≡ Err (side, damage)
+      → P l r side damage)
 
   -- The disks of a run that began with l and r on them, for which they stood for the state `start`: they are kept for
   -- the state after the requests.
@@ -83,11 +89,25 @@ module _ {D : Type 0} (seen : D → Option (List ℕ)) where
       OfBoth left right (λ a b. (state_on a b ≡ Ok s) × (IsKept l r s → IsKept a b s))
   DisksStay _ l r s left right = OfBoth left right (λ a b. (state_on a b ≡ Ok s) × IsKept a b s)
 
-  -- A word over damaged disks: the first damage is told; or a disk met a fault, or there was no memory, before it was
-  -- found. It stays, but where a disk met a fault.
+  -- How a word ends over damaged disks: the first damage is told; or a disk met a fault, or there was no memory, before
+  -- it was found. It stays, but where a disk met a fault.
   abbrev pub EndsDamaged : Side → Damage → Result (Unit {0}) Halt → D → D → Type 0
   EndsDamaged side damage (Err DiskFault) left right = Unit {0}
   EndsDamaged side damage (Err NoMemory) left right = OfBoth left right (λ a b. state_on a b ≡ Err (side, damage))
   EndsDamaged side damage (Err (Damaged which number)) left right =
       (which ≡ side) × (number ≡ damage.index) × OfBoth left right (λ a b. state_on a b ≡ Err (side, damage))
   EndsDamaged side damage _ left right = ⊥
+
+-- What a word leaves of disks of which one is damaged, and on which l and r stood. Where nothing was pending on one of
+-- them, a stop at any moment leaves it as it was, or with some byte at the one place that an opening shuts; and where no
+-- disk met a fault that byte is a 0 at the end.
+pub record LeavesDamaged
+    {D : Type 0} (seen : D → Option (List ℕ)) (moment : D → ℕ) (left_at : D → ℕ → List ℕ → Type 0)
+    (old_left old_right : D) (l r : List ℕ) (side : Side) (damage : Damage) (end : Result (Unit {0}) Halt)
+    (left right : D) : Type 0 where
+  pub ends : EndsDamaged seen side damage end left right
+  pub left_leaves :
+      Only l (LeftNow moment left_at old_left) → LeavesOnly moment left_at old_left left (OpenLeaves true l)
+  pub right_leaves :
+      Only r (LeftNow moment left_at old_right) → LeavesOnly moment left_at old_right right (OpenLeaves false r)
+  pub shut : end ≢ Err DiskFault → OfBoth seen left right (λ a b. OnlyShuts true l a × OnlyShuts false r b)

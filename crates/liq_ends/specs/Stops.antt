@@ -1,5 +1,5 @@
 -- Where a word ends, and what it has written by then.
-use Rattle.std.specs.Prelude.{ℕ, ◌≡◌, ◌≢◌, ◌≤◌, ◌∷◌, [], ◌++◌, ◌⊎◌, List, length, Option, IsSome, Result, Ok, Err}
+use Rattle.std.specs.Prelude.{ℕ, ◌≡◌, ◌≢◌, ◌≤◌, ◌∷◌, [], ◌++◌, ◌⊎◌, List, length, Option, Result, Ok, Err}
 use Rattle.liq_outside.specs.declared.showing.Showing.{Showing}
 use Rattle.liq_types.specs.declared.amounts.TheConstants.{LINES_MOST}
 use Rattle.liq_types.specs.declared.requests.Request.{Request}
@@ -15,7 +15,7 @@ use Rattle.liq_pairs.specs.Past.{Fault}
 use Rattle.liq_ends.specs.declared.halts.Halt.{Halt}
 use Rattle.liq_ends.specs.declared.halts.Halt.TheVariants.{WriteFault, Damaged, DamagedInput, NoMemory, Rotated}
 use Rattle.liq_ends.specs.Answered.{KeepsAnswered, Told}
-use Rattle.liq_ends.specs.Disks.{DisksHold, EndsDamaged, IsFaultOfRun, IsUnread, LeavesOfRun}
+use Rattle.liq_ends.specs.Disks.{DisksHold, IsFaultOfRun, IsUnread, LeavesDamaged, LeavesOfRun}
 use Rattle.liq_ends.specs.Output.{last, lines}
 use Rattle.liq_ends.specs.Requests.{IsNext, IsRequest}
 use Rattle.liq_ends.specs.Reading.{ReadsTo}
@@ -48,10 +48,11 @@ TellsBehind said text (Err halt) fault before now = Adds said (last halt) fault 
 
 -- A word over damaged disks stops, and writes its last line alone.
 abbrev pub StopsDamaged :
-    {D : Type 0} → (D → Option (List ℕ)) → Side → Damage → Result (Unit {0}) Halt → Type 0 → Option (List ℕ)
-    → Option (List ℕ) → D → D → Type 0
-StopsDamaged seen side damage end fault before now left right =
-    (halt : Halt) × (end ≡ Err halt) × EndsDamaged seen side damage (Err halt) left right
+    {D : Type 0} → (D → Option (List ℕ)) → (D → ℕ) → (D → ℕ → List ℕ → Type 0) → D → D → List ℕ → List ℕ → Side
+    → Damage → Result (Unit {0}) Halt → Type 0 → Option (List ℕ) → Option (List ℕ) → D → D → Type 0
+StopsDamaged seen moment left_at old_left old_right l r side damage end fault before now left right =
+    (halt : Halt) × (end ≡ Err halt)
+    × LeavesDamaged seen moment left_at old_left old_right l r side damage (Err halt) left right
     × Adds [] (last halt) fault before now
 
 -- Why a run from a state ended after these requests of the bytes. `left` is what the source still tells.
@@ -95,12 +96,9 @@ pub record EndsIn
   pub read : EndsAfter start end bytes unread requests
   pub written : WritesUpTo start end sink_fails requests before now
   pub disks : DisksHold seen end bytes unread l r start left right requests
-  -- they tell their bytes, as they did before
-  pub left_tells : IsSome (seen left)
-  pub right_tells : IsSome (seen right)
   -- where a disk met a fault
   pub fault : Fault
-  pub fault_is : IsFaultOfRun end bytes unread requests fault
+  pub fault_is : IsFaultOfRun start end bytes unread requests fault
   pub past :
       LeavesOfRun seen moment left_at old_left old_right (λ met. met ≡ fault) l r start requests left right
   -- and wherever a stop was, all that was answered by then is on the disks

@@ -71,8 +71,6 @@ module _ {D : Type 0} (seen : D → Option (List ℕ)) (moment : D → ℕ) (lef
     read = h.read;
     written = written;
     disks = h.disks;
-    left_tells = h.left_tells;
-    right_tells = h.right_tells;
     fault = h.fault;
     fault_is = h.fault_is;
     past = h.past;

@@ -78,8 +78,6 @@ module _ {D : Type 0} (seen : D → Option (List ℕ)) (faults : D → ℕ) wher
           written = writes_nothing before;
           disks = λ a b told_a told_b. inl
               ((refl, told), λ kept. h.reads l r a b start told_l told_r kept told_a told_b);
-          left_tells = none.left_tells;
-          right_tells = none.right_tells;
           fault = InOpening;
           fault_is = inl (refl, (refl, told));
           past = λ only_l only_r kept. let so = none.past only_l only_r kept in
@@ -97,8 +95,6 @@ module _ {D : Type 0} (seen : D → Option (List ℕ)) (faults : D → ℕ) wher
           disks = standing_still seen fl fr bytes l r unread start told is
               (unopened seen faults left right (record { left = fl; right = fr; why = why.NoMemory }) h (λ e. cc) l r
               start told_l told_r is);
-          left_tells = none.left_tells;
-          right_tells = none.right_tells;
           fault = NoFault;
           fault_is = refl;
           past = λ only_l only_r kept. let so = none.past only_l only_r kept in
@@ -171,11 +167,15 @@ module _ {D : Type 0} (seen : D → Option (List ℕ)) (faults : D → ℕ) wher
           → IsStopped end store.stopped
           → HaltsAt end bytes requests [] begun.start (λ rs. PastOf rs store shown) kept
           (λ rs q. IsStoppedPastOf seen moment left_at begun rs q store shown)
-          → (fault : Fault) × IsFaultOfRun end bytes unread requests fault
+          → (fault : Fault) × IsFaultOfRun begun.start end bytes unread requests fault
           × IsOver seen moment left_at begun requests fault store.left store.right shown
       over_by store shown (Err DiskFault) bytes unread requests kept stopped halted =
           let so = halted.5 in
-          (AtCommand so.0, inr (so.0, refl, subst (IsNext bytes requests) so.1 halted.1), so.2)
+          let s = (run begun.start requests).0 in (
+            AtCommand so.0,
+            inr (so.0, refl, subst (IsNext bytes requests) so.1 halted.1, subst (IsAccepted s) so.1 halted.2),
+            so.2,
+          )
       over_by store shown (Ok done) bytes unread requests kept stopped halted = calm store shown requests _ refl
           halted
       over_by store shown (Err (BadLine n)) bytes unread requests kept stopped halted = calm store shown requests _
@@ -216,7 +216,7 @@ module _ {D : Type 0} (seen : D → Option (List ℕ)) (faults : D → ℕ) wher
       now_on Right = refl
 
       module _ (store : Stored D) (requests : List Request) (fault : Fault) (shown_now : Option (List Showing))
-          (time : GoOn moment left_at opened store)
+          (time : GoOn seen moment left_at opened store)
           (over : IsOver seen moment left_at here requests fault store.left store.right shown_now) where
         past_over : LeavesOfRun seen moment left_at old_left old_right (λ met. met ≡ fault) l r start requests
             store.left store.right
@@ -281,7 +281,7 @@ module _ {D : Type 0} (seen : D → Option (List ℕ)) (faults : D → ℕ) wher
             }
 
       pub gives_back : (store : Stored D) (end : Result (Unit {0}) Halt) (bytes : List ℕ) (at : Reached D)
-          → at.store ≡ store → GoOn moment left_at opened store → IsStopped end store.stopped
+          → at.store ≡ store → GoOn seen moment left_at opened store → IsStopped end store.stopped
           → IsInOrder seen moment left_at store
           → HasEnded seen moment left_at here bytes at end
           → GivesBack seen moment left_at old_left old_right start end bytes l r at.left before at.held was at.shown
@@ -296,8 +296,6 @@ module _ {D : Type 0} (seen : D → Option (List ℕ)) (faults : D → ℕ) wher
             read = h.read;
             written = h.written;
             disks = left_by store end bytes at.left l r start h.requests stopped order h.stands _ _ h.halted;
-            left_tells = over.2.left_tells;
-            right_tells = over.2.right_tells;
             fault = over.0;
             fault_is = over.1;
             past = past_over store h.requests over.0 at.shown time over.2;

@@ -38,11 +38,15 @@ use Rattle.liq_ends.specs.declared.halts.Halt.TheVariants.{BadLine, ReadFault, W
 use Rattle.liq_run.specs.Calls.{GoOn}
 use Rattle.liq_ends.specs.Answered.{IsKeptFailed}
 use Rattle.liq_ends.specs.Output.{lines}
-use Rattle.liq_ends.proofs.Opened.{is_some_of, some_of}
+use Rattle.liq_ends.proofs.Opened.{some_of}
 use Rattle.liq_ends.proofs.Passing.{untouched_past}
 use Rattle.liq_run.specs.Passing.{Begun, BeginsNone, BeginsRun, IsOver, IsPastOf, IsShown, IsStoppedPastOf, PassesBy, Recovers}
 use Rattle.liq_run.proofs.Progressing.{asked-more}
 use Rattle.liq_run.proofs.Shown.{shown_again, shown_ended, shown_failed, shown_first, shown_on}
+
+-- one after another
+pub both : {P Q R : Type 0} → (Q ↔ P) → (R ↔ Q) → (R ↔ P)
+both first second = (λ r. first.0 (second.0 r), λ p. second.1 (first.1 p))
 
 -- what holds where the next request was not answered, whatever it was to give
 pub passes_as : (T U : Type 0) (past : List Request → Type 0) (stopped : List Request → Request → Type 0)
@@ -59,25 +63,37 @@ passes_as T U past stopped requests request (Limit number) h = h
 passes_as T U past stopped requests request (Rotated generation) h = h
 passes_as T U past stopped requests request (DamagedInput number) h = h
 
-module _ {D : Type 0} (moment : D → ℕ) (left_at : D → ℕ → List ℕ → Type 0) where
+module _ {D : Type 0} (seen : D → Option (List ℕ)) (moment : D → ℕ) (left_at : D → ℕ → List ℕ → Type 0) where
   -- nothing was done
-  pub still : (store : Stored D) → GoOn moment left_at store store
-  still store = record { left = unmoved moment left_at store.left; right = unmoved moment left_at store.right }
+  pub still : (store : Stored D) → GoOn seen moment left_at store store
+  still store = record {
+    left = unmoved moment left_at store.left;
+    right = unmoved moment left_at store.right;
+    left_telling = (λ tells. tells, λ tells. tells);
+    right_telling = (λ tells. tells, λ tells. tells);
+  }
 
   -- one part after another
-  pub behind : (old mid new : Stored D) → GoOn moment left_at old mid → GoOn moment left_at mid new
-      → GoOn moment left_at old new
+  pub behind : (old mid new : Stored D) → GoOn seen moment left_at old mid → GoOn seen moment left_at mid new
+      → GoOn seen moment left_at old new
   behind old mid new first second = record {
     left = joined moment left_at old.left mid.left new.left first.left second.left;
     right = joined moment left_at old.right mid.right new.right first.right second.right;
+    left_telling = both first.left_telling second.left_telling;
+    right_telling = both first.right_telling second.right_telling;
   }
 
   -- one call, whose changes were let go
-  pub called : (seen : D → Option (List ℕ)) (old mid new : Stored D) (request : Request) (said : Answer)
+  pub called : (old mid new : Stored D) (request : Request) (said : Answer)
       → WritesOn seen moment left_at old request said mid → new ≡ record mid { changes = [] }
-      → GoOn moment left_at old new
-  called seen old mid new request said writes cleared =
-      subst (GoOn moment left_at old) (sym cleared) (record { left = writes.left_time; right = writes.right_time })
+      → GoOn seen moment left_at old new
+  called old mid new request said writes cleared =
+      subst (GoOn seen moment left_at old) (sym cleared) (record {
+        left = writes.left_time;
+        right = writes.right_time;
+        left_telling = writes.left_telling;
+        right_telling = writes.right_telling;
+      })
 
 -- where a showing is told afterwards, what came before it was
 told_before : {D : Type 0} (moment : D → ℕ) (bytes : List ℕ) (left right : D) (was is : Option (List Showing))
@@ -221,8 +237,6 @@ module _
                       past.order request c is answers writes;
                   rests = λ l r. stops_kept seen moment left_at stays since begun.l begun.r at_first requests old mid
                       past.past past.order request c is answers writes;
-                  left_tells = writes.left_telling.1 past.past.left_tells;
-                  right_tells = writes.right_telling.1 past.past.right_tells;
                   told = λ before earlier all b e a.
                       shown_failed moment left_at at_first (length before)
                       (shown_as moment before begun.left begun.right) earlier requests (AtCommand c) old.left
@@ -255,8 +269,6 @@ module _
           kept = here.kept;
           images = here.leaves;
           rests = λ l r. (now.left, now.right);
-          left_tells = here.left_tells;
-          right_tells = here.right_tells;
           told = λ before earlier all b e a.
               shown_ended moment left_at at_first (length before) (shown_as moment before begun.left begun.right)
               earlier requests later NoFault store.left store.right all (sym same)
@@ -321,8 +333,6 @@ module _
   pub begins_untouched : (left right : D) (l r : List ℕ) (start : State) → seen left ≡ Some l → seen right ≡ Some r
       → BeginsNone seen moment left_at left right l r start why.NoMemory left right
   begins_untouched left right l r start told_l told_r = record {
-    left_tells = is_some_of (seen left) l told_l;
-    right_tells = is_some_of (seen right) r told_r;
     left_time = omega arith;
     right_time = omega arith;
     past = untouched_past seen moment left_at stays left right l r start _ refl told_l told_r;

@@ -1,5 +1,5 @@
 -- One request, as the store of two disks answers it.
-use Rattle.std.specs.Prelude.{ℕ, ◌≡◌, List, Option, Some, None, Result, Ok, Err}
+use Rattle.std.specs.Prelude.{ℕ, ◌≡◌, ◌↔◌, List, Option, Some, None, IsSome, Result, Ok, Err}
 use Rattle.liq_outside.specs.Disk.{GoesOn}
 use Rattle.liq_types.specs.declared.replies.Reply.{Reply}
 use Rattle.liq_types.specs.declared.requests.Request.{Request}
@@ -37,7 +37,12 @@ module _ {D : Type 0} (seen : D → Option (List ℕ)) where
   KeepsAround left right s request =
       (l r : List ℕ) → seen left ≡ Some l → seen right ≡ Some r → IsKeptAround s request l r
 
--- for both disks of a store time goes on, and what a crash may have left at a past moment stays what it was
-pub record GoOn {D : Type 0} (moment : D → ℕ) (left_at : D → ℕ → List ℕ → Type 0) (old new : Stored D) : Type 0 where
+-- For both disks of a store time goes on, and what a crash may have left at a past moment stays what it was. Each tells
+-- its bytes where it told them before, and there alone.
+pub record GoOn
+    {D : Type 0} (seen : D → Option (List ℕ)) (moment : D → ℕ) (left_at : D → ℕ → List ℕ → Type 0)
+    (old new : Stored D) : Type 0 where
   pub left : GoesOn moment left_at old.left new.left
   pub right : GoesOn moment left_at old.right new.right
+  pub left_telling : IsSome (seen new.left) ↔ IsSome (seen old.left)
+  pub right_telling : IsSome (seen new.right) ↔ IsSome (seen old.right)

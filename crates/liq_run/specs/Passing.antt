@@ -1,6 +1,6 @@
 -- What a crash at some moment may have left of the disks of a run that is on its way, and what its sink was shown of
 -- them.
-use Rattle.std.specs.Prelude.{ℕ, ◌≡◌, ◌≤◌, ◌+◌, List, [], ◌∷◌, ◌++◌, length, take, Option, Some, IsSome, Result, Ok, Err}
+use Rattle.std.specs.Prelude.{ℕ, ◌≡◌, ◌≤◌, ◌+◌, List, [], ◌∷◌, ◌++◌, length, take, Option, Some, Result, Ok, Err}
 use Rattle.liq_outside.specs.declared.showing.Showing.{Showing}
 use Rattle.liq_outside.specs.Disk.{LeftNow, Only}
 use Rattle.liq_outside.specs.Showings.{AllNeighbours, LeavesBetween, shown_as}
@@ -117,8 +117,6 @@ module _ {D : Type 0} (seen : D → Option (List ℕ)) (moment : D → ℕ) (lef
           LeavesPast moment left_at (λ side. moment (on side begun.left begun.right)) begun.l begun.r begun.start
           requests fault left right
       pub rests : (l r : List ℕ) → RestAtEnd seen moment left_at l r begun.start requests fault left right
-      pub left_tells : IsSome (seen left)
-      pub right_tells : IsSome (seen right)
       pub told : Tells begun shown (λ before earlier all.
           WasShown moment left_at begun.start (length before) requests fault left right
           (shown_as moment before begun.left begun.right) earlier all)
@@ -168,8 +166,6 @@ module _ {D : Type 0} (seen : D → Option (List ℕ)) (moment : D → ℕ) (lef
   -- None was opened, for this reason, and this is what is left of the disks.
   pub record BeginsNone
       (old_left old_right : D) (l r : List ℕ) (start : State) (why : StoreWhy) (left right : D) : Type 0 where
-    pub left_tells : IsSome (seen left)
-    pub right_tells : IsSome (seen right)
     pub left_time : moment old_left ≤ moment left
     pub right_time : moment old_right ≤ moment right
     pub past :

@@ -1,6 +1,6 @@
 -- How far a run has come.
 use Rattle.std.specs.Prelude.{ℕ, ◌≡◌, ◌≢◌, ◌≤◌, ◌<◌, ◌+◌, [], ◌∷◌, ◌++◌}
-use Rattle.std.specs.Prelude.{List, length, Option, Some, IsSome, Result, Ok, Err, Bool, true, false}
+use Rattle.std.specs.Prelude.{List, length, Option, Some, Result, Ok, Err, Bool, true, false}
 use Rattle.std.specs.List.{AllByRecursion, AllZip}
 use Rattle.liq_outside.specs.declared.showing.Showing.{Showing}
 use Rattle.liq_types.specs.declared.amounts.TheConstants.{LINE_BYTES, LINES_MOST}
@@ -176,10 +176,8 @@ pub record GivesBack
   pub read : EndsAfter start end bytes unread requests
   pub written : WritesReplies start end requests before now
   pub disks : DisksHold seen end bytes unread l r start left right requests
-  pub left_tells : IsSome (seen left)
-  pub right_tells : IsSome (seen right)
   pub fault : Fault
-  pub fault_is : IsFaultOfRun end bytes unread requests fault
+  pub fault_is : IsFaultOfRun start end bytes unread requests fault
   pub past :
       LeavesOfRun seen moment left_at old_left old_right (λ met. met ≡ fault) l r start requests left right
   pub answered : (last : Option (List ℕ)) → Told before shown last shown_now (λ was earlier is all.

@@ -66,14 +66,14 @@ pub record TakesTurn
       (before : Option (List ℕ)) → ReadsFew before n old.taken old.left → ReadsFew before (n + 1) new.taken new.left
 
 -- A part of a run came to this answer. At a fault of the source or of a disk no reply waits; each fault is counted; the
--- store is stopped by a disk's alone; and for both disks time goes on.
+-- store is stopped by a disk's alone; and both disks go on.
 pub record PartShows
-    {D T : Type 0} (faults moment : D → ℕ) (left_at : D → ℕ → List ℕ → Type 0) (old new : Stored D)
-    (waiting : List ℕ) (source_old source_new sink_old sink_new : ℕ) (result : Result T Halt) : Type 0 where
+    {D T : Type 0} (seen : D → Option (List ℕ)) (faults moment : D → ℕ) (left_at : D → ℕ → List ℕ → Type 0)
+    (old new : Stored D) (waiting : List ℕ) (source_old source_new sink_old sink_new : ℕ) (result : Result T Halt) : Type 0 where
   pub caught_up : result ≡ Err ReadFault → waiting ≡ []
   pub caught_up_too : result ≡ Err DiskFault → waiting ≡ []
   pub source : ReadCause result source_old source_new
   pub sink : WriteCause result sink_old sink_new
   pub stopped : IsStopped result new.stopped
-  pub time : GoOn moment left_at old new
+  pub time : GoOn seen moment left_at old new
   pub disks : DiskCause result (counts_of faults old.left old.right) (counts_of faults new.left new.right)

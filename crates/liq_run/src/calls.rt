@@ -44,7 +44,7 @@ pub fn call<D: Disk, K: Sink>(
     ensures no_sink { result ≢ Err Halt.WriteFault }
     ensures command { result ≡ Err Halt.DiskFault → IsCommand request.now }
     ensures stopped { IsStopped result store.new.stopped }
-    ensures time { GoOn D.moment D.left_at store.old store.new }
+    ensures time { GoOn D.seen D.moment D.left_at store.old store.new }
     // Nobody follows the list here.
     ensures untold { store.new.changes ≡ [] }
     // Where a disk met a fault, both keep the state before the request or after it.

@@ -1,6 +1,6 @@
 //! The word `run`: a store over two disks, and the lines that it is asked and answers.
 
-ghost use Rattle.std.specs.Prelude.{length, Err, Option, Some, None, ◌≡◌, ◌≢◌, ◌≤◌, ◌<◌, ◌+◌, [], ℕ, List, Ok, IfOk, IfErr, IfSome, IsSome, vec_capacity};
+ghost use Rattle.std.specs.Prelude.{length, Err, Option, Some, None, ◌≡◌, ◌≢◌, ◌≤◌, ◌<◌, ◌+◌, ◌↔◌, [], ℕ, List, Ok, IfOk, IfErr, IfSome, IsSome, vec_capacity};
 ghost use Rattle.liq_outside.specs.Disk.{GoesOn};
 ghost use Rattle.liq_types.specs.State.{State};
 ghost use Rattle.liq_types.specs.declared.requests.Request.{Request};
@@ -21,7 +21,8 @@ ghost use Rattle.liq_lines.specs.Lines.{IsWholeLine};
 ghost use Rattle.liq_lines.specs.Reading.{unread, ReadsAtMost, taken_most};
 ghost use Rattle.liq_ends.specs.declared.halts.Halt.{Halt};
 ghost use Rattle.liq_ends.specs.Causes.{DiskCause, DisksGoOn, ReadCause, WriteCause};
-ghost use Rattle.liq_ends.specs.Disks.{EndsDamaged, OfDamage, OfState};
+ghost use Rattle.liq_ends.specs.Disks.{LeavesDamaged, OfDamage, OfState};
+ghost use Rattle.liq_ends.specs.Unopened.{halt_of};
 
 use crate::calls::{call, tell};
 use crate::waiting::{WAITING_MOST, catch_up, flush, keep, make_room};
@@ -149,12 +150,12 @@ pub fn answer_input<S: Source, K: Sink, D: Disk>(
         → GivesBack D.seen D.moment D.left_at left right start result.end bytes l r (S.left input.new)
         (K.held out.old) (K.held out.new) (K.shown out.old) (K.shown out.new) result.left result.right) }
     // Over damaged disks nothing is read or written.
-    ensures damaged { OfDamage D.seen left right (λ side damage. (input.new ≡ input.old) × (out.new ≡ out.old)
-        × EndsDamaged D.seen side damage result.end result.left result.right) }
+    ensures damaged { OfDamage D.seen left right (λ l r side damage. (input.new ≡ input.old) × (out.new ≡ out.old)
+        × LeavesDamaged D.seen D.moment D.left_at left right l r side damage result.end result.left result.right) }
     ensures few { ReadsAtMost (taken_most LINES_MOST) (S.left input.old) (S.left input.new) }
     ensures source { ReadCause result.end (S.faults input.old) (S.faults input.new) }
     ensures sink { WriteCause result.end (K.faults out.old) (K.faults out.new) }
-    ensures disks { DisksGoOn D.faults D.moment D.left_at left right result.end result.left result.right }
+    ensures disks { DisksGoOn D.seen D.faults D.moment D.left_at left right result.end result.left result.right }
     // It goes on in whatever generation.
     ensures goes_on { (generation : ℕ) → result.end ≢ Err (Halt.Rotated generation) }
 {
@@ -218,7 +219,13 @@ impl<D: Disk> Run<D> {
         ensures sink { K.faults out.new ≡ K.faults out.old }
         ensures untouched { IfErr result (λ _. out.new ≡ out.old) }
         ensures time { IfOk result (λ run. GoesOn D.moment D.left_at left run.store.left × GoesOn D.moment D.left_at right run.store.right) }
-        ensures time_too { IfErr result (λ fault. GoesOn D.moment D.left_at left fault.left × GoesOn D.moment D.left_at right fault.right) }
+        ensures telling { IfOk result (λ run. (IsSome (D.seen run.store.left) ↔ IsSome (D.seen left))
+            × (IsSome (D.seen run.store.right) ↔ IsSome (D.seen right))) }
+        ensures disks { IfErr result (λ fault. DisksGoOn D.seen D.faults D.moment D.left_at left right
+            (Err (halt_of fault.why)) fault.left fault.right) }
+        ensures damaged { IfErr result (λ fault. OfDamage D.seen left right (λ l r side damage.
+            LeavesDamaged D.seen D.moment D.left_at left right l r side damage (Err (halt_of fault.why))
+            fault.left fault.right)) }
     {
         let Buffers {
             reader,
@@ -271,7 +278,7 @@ impl<D: Disk> Run<D> {
         ensures source { ReadCause result (S.faults input.old) (S.faults input.new) }
         ensures sink { WriteCause result (K.faults out.old) (K.faults out.new) }
         ensures stopped { IsStopped result self.new.store.stopped }
-        ensures time { GoOn D.moment D.left_at self.old.store self.new.store }
+        ensures time { GoOn D.seen D.moment D.left_at self.old.store self.new.store }
         ensures disks { DiskCause result (counts_of D.faults self.old.store.left self.old.store.right) (counts_of D.faults self.new.store.left self.new.store.right) }
     {
         let end = self.answer_lines(input, out);
@@ -286,7 +293,7 @@ impl<D: Disk> Run<D> {
         ensures run { (begun : Begun D) (bytes : List ℕ) → S.left input.old ≡ Some bytes → begun.held ≡ K.held out.old → IsPastOf D.seen D.moment D.left_at begun [] self.old.store (K.shown out.old)
             → HasCome D.seen D.moment D.left_at begun bytes (record { store = self.new.store; taken = self.new.reader; left = S.left input.new; waiting = self.new.waiting.items; held = K.held out.new; shown = K.shown out.new }) result }
         ensures few { ReadsAtMost (taken_most LINES_MOST) (S.left input.old) (S.left input.new) }
-        ensures shows { PartShows D.faults D.moment D.left_at self.old.store self.new.store self.new.waiting.items (S.faults input.old) (S.faults input.new) (K.faults out.old) (K.faults out.new) result }
+        ensures shows { PartShows D.seen D.faults D.moment D.left_at self.old.store self.new.store self.new.waiting.items (S.faults input.old) (S.faults input.new) (K.faults out.old) (K.faults out.new) result }
     {
         for answered in 0..LINES_MOST {
             if !self.turn(input, out, answered)? {
@@ -326,7 +333,7 @@ impl<D: Disk> Run<D> {
         requires going { self.old.store.stopped ≡ None }
         ensures turn { TakesTurn D.seen D.moment D.left_at answered (record { store = self.old.store; taken = self.old.reader; left = S.left input.old; waiting = self.old.waiting.items; held = K.held out.old; shown = K.shown out.old })
             (record { store = self.new.store; taken = self.new.reader; left = S.left input.new; waiting = self.new.waiting.items; held = K.held out.new; shown = K.shown out.new }) result }
-        ensures shows { PartShows D.faults D.moment D.left_at self.old.store self.new.store self.new.waiting.items (S.faults input.old) (S.faults input.new) (K.faults out.old) (K.faults out.new) result }
+        ensures shows { PartShows D.seen D.faults D.moment D.left_at self.old.store self.new.store self.new.waiting.items (S.faults input.old) (S.faults input.new) (K.faults out.old) (K.faults out.new) result }
     {
         let whole = self.reader.whole_line();
         if let Some(query) = next_query(&mut self.reader, whole) {
@@ -349,7 +356,7 @@ impl<D: Disk> Run<D> {
         requires going { self.old.store.stopped ≡ None }
         ensures turn { TakesTurn D.seen D.moment D.left_at answered (record { store = self.old.store; taken = self.old.reader; left = S.left input.old; waiting = self.old.waiting.items; held = K.held out.old; shown = K.shown out.old })
             (record { store = self.new.store; taken = self.new.reader; left = S.left input.new; waiting = self.new.waiting.items; held = K.held out.new; shown = K.shown out.new }) result }
-        ensures shows { PartShows D.faults D.moment D.left_at self.old.store self.new.store self.new.waiting.items (S.faults input.old) (S.faults input.new) (K.faults out.old) (K.faults out.new) result }
+        ensures shows { PartShows D.seen D.faults D.moment D.left_at self.old.store self.new.store self.new.waiting.items (S.faults input.old) (S.faults input.new) (K.faults out.old) (K.faults out.new) result }
     {
         catch_up(whole, &mut self.waiting, out)?;
         match next_request(&mut self.reader, whole, &mut self.line, input, answered)? {
@@ -380,7 +387,7 @@ impl<D: Disk> Run<D> {
         ensures kept { result ≡ Err Halt.DiskFault → (s : State) → StandsFor self.old.store.core s → KeepsAround D.seen self.new.store.left self.new.store.right s request.now }
         ensures sink { WriteCause result (K.faults out.old) (K.faults out.new) }
         ensures stopped { IsStopped result self.new.store.stopped }
-        ensures time { GoOn D.moment D.left_at self.old.store self.new.store }
+        ensures time { GoOn D.seen D.moment D.left_at self.old.store self.new.store }
         ensures disks { DiskCause result (counts_of D.faults self.old.store.left self.old.store.right) (counts_of D.faults self.new.store.left self.new.store.right) }
     {
         match request {
@@ -407,7 +414,7 @@ impl<D: Disk> Run<D> {
         ensures kept { result ≡ Err Halt.DiskFault → (s : State) → StandsFor self.old.store.core s → KeepsAround D.seen self.new.store.left self.new.store.right s (Ask query.now) }
         ensures sink { WriteCause result (K.faults out.old) (K.faults out.new) }
         ensures stopped { IsStopped result self.new.store.stopped }
-        ensures time { GoOn D.moment D.left_at self.old.store self.new.store }
+        ensures time { GoOn D.seen D.moment D.left_at self.old.store self.new.store }
         ensures disks { DiskCause result (counts_of D.faults self.old.store.left self.old.store.right) (counts_of D.faults self.new.store.left self.new.store.right) }
     {
         make_room(&mut self.waiting, out)?;

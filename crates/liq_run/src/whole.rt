@@ -25,12 +25,12 @@ where
         (Rose (K.faults out.old) (K.faults out.new)) (K.held out.old) (K.held out.new)
         (K.shown out.old) (K.shown out.new) result.left result.right) }
     // Over damaged disks nothing is read.
-    ensures damaged { OfDamage D.seen left right (λ side damage. (input.new ≡ input.old)
-        × StopsDamaged D.seen side damage result.end
+    ensures damaged { OfDamage D.seen left right (λ l r side damage. (input.new ≡ input.old)
+        × StopsDamaged D.seen D.moment D.left_at left right l r side damage result.end
         (Rose (K.faults out.old) (K.faults out.new)) (K.held out.old) (K.held out.new) result.left result.right) }
     // No more is taken from the source than 1,000,000 lines of 201 bytes, and what one read asks for.
     ensures few { ReadsAtMost (taken_most LINES_MOST) (S.left input.old) (S.left input.new) }
-    ensures causes { HasCauses S.faults K.faults D.faults D.moment D.left_at
+    ensures causes { HasCauses S.faults K.faults D.seen D.faults D.moment D.left_at
         (record { source = input.old; sink = out.old; left = left; right = right })
         (record { source = input.new; sink = out.new; left = result.left; right = result.right }) result.end }
     // It goes on in whatever generation.

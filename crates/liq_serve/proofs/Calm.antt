@@ -19,6 +19,7 @@ use Rattle.liq_lines.specs.Lines.{lines_in}
 use Rattle.liq_lines.specs.Reading.{Reads}
 use Rattle.liq_lines.proofs.Sayings.{stops_outside}
 use Rattle.liq_pairs.specs.Pair.{commands_on, state_on}
+use Rattle.liq_pairs.specs.Past.{Fault, NoFault}
 use Rattle.liq_pairs.specs.Replay.{replay}
 use Rattle.liq_scripts.specs.Asked.{Asks}
 use Rattle.liq_words.specs.declared.words.Word.TheVariants as word
@@ -71,17 +72,17 @@ whole_done n (suc (suc k), within, is) sink = absurd (omega (arith, within))
 module _
     {S K D : Type 0} (unread : S → Option (List ℕ)) (source_faults : S → ℕ) (held : K → Option (List ℕ)) (shown : K → Option (List Showing)) (sink_faults : K → ℕ) (seen : D → Option (List ℕ))
     (disk_faults : D → ℕ) (moment : D → ℕ) (left_at : D → ℕ → List ℕ → Type 0) (before after : Outside S K D) where
-  answers_done : (asked : List (ℕ × Request)) (history : List Entry) (end : Result (Unit {0}) Halt) → Answers unread source_faults held shown sink_faults seen disk_faults moment left_at before after asked history end → status_of end ≢ 4 → status_of end ≢ 5 → IsDone (status_of end)
-  answers_done asked history (Ok done) a sink disk = inl refl
-  answers_done asked history (Err (BadLine n)) a sink disk = whole_done _ a.1 sink
-  answers_done asked history (Err ReadFault) a sink disk = whole_done _ a.1 sink
-  answers_done asked history (Err WriteFault) a sink disk = absurd (sink refl)
-  answers_done asked history (Err DiskFault) a sink disk = absurd (disk refl)
-  answers_done asked history (Err (Damaged side number)) a sink disk = whole_done _ a.1 sink
-  answers_done asked history (Err NoMemory) a sink disk = inr refl
-  answers_done asked history (Err (Limit number)) a sink disk = whole_done _ a.1 sink
-  answers_done asked history (Err (Rotated generation)) a sink disk = whole_done _ a.1 sink
-  answers_done asked history (Err (DamagedInput number)) a sink disk = whole_done _ a.1 sink
+  answers_done : (asked : List (ℕ × Request)) (history : List Entry) (fault : Fault) (end : Result (Unit {0}) Halt) → Answers unread source_faults held shown sink_faults seen disk_faults moment left_at before after asked history fault end → status_of end ≢ 4 → status_of end ≢ 5 → IsDone (status_of end)
+  answers_done asked history fault (Ok done) a sink disk = inl refl
+  answers_done asked history fault (Err (BadLine n)) a sink disk = whole_done _ a.2 sink
+  answers_done asked history fault (Err ReadFault) a sink disk = whole_done _ a.2 sink
+  answers_done asked history fault (Err WriteFault) a sink disk = absurd (sink refl)
+  answers_done asked history fault (Err DiskFault) a sink disk = absurd (disk refl)
+  answers_done asked history fault (Err (Damaged side number)) a sink disk = whole_done _ a.2 sink
+  answers_done asked history fault (Err NoMemory) a sink disk = inr refl
+  answers_done asked history fault (Err (Limit number)) a sink disk = whole_done _ a.2 sink
+  answers_done asked history fault (Err (Rotated generation)) a sink disk = whole_done _ a.2 sink
+  answers_done asked history fault (Err (DamagedInput number)) a sink disk = whole_done _ a.2 sink
 
   pub serve_done :
       (end : Result (Unit {0}) Halt) → ServesTo unread source_faults held shown sink_faults seen disk_faults moment left_at before after end
@@ -89,14 +90,14 @@ module _
       → state_on l r ≡ Ok start → AllZip Asks (lines_in bytes) all → length all ≤ LINES_MOST → status_of end ≢ 3 → status_of end ≢ 4 → status_of end ≢ 5
       → IsDone (status_of end)
   serve_done end serves bytes l r start all told told_l told_r is spelled few read sink disk = by serves.came where
-    by : ((serves.reading ≡ end) × (serves.history ≡ []) × (after.left ≡ before.left) × (after.right ≡ before.right) × IsStopping end)
+    by : ((serves.reading ≡ end) × (serves.history ≡ []) × (serves.fault ≡ NoFault) × (after.left ≡ before.left) × (after.right ≡ before.right) × IsStopping end)
         ⊎ ((serves.reading ≡ Ok tt)
-        × (OpensNone unread source_faults held shown sink_faults seen disk_faults moment left_at before after serves.history end
-        ⊎ Answers unread source_faults held shown sink_faults seen disk_faults moment left_at before after serves.asked serves.history end)) → IsDone (status_of end)
-    by (inl (stopped, none, left, right, stopping)) =
+        × (OpensNone unread source_faults held shown sink_faults seen disk_faults moment left_at before after serves.history serves.fault end
+        ⊎ Answers unread source_faults held shown sink_faults seen disk_faults moment left_at before after serves.asked serves.history serves.fault end)) → IsDone (status_of end)
+    by (inl (stopped, none, no_fault, left, right, stopping)) =
         inr (stopped_seven Asks end bytes (unread after.source) serves.asked all stopping (subst (λ (e : Result (Unit {0}) Halt). ReadsTo Asks bytes (unread after.source) serves.asked e) stopped (serves.read bytes told)) spelled few read)
-    by (inr (whole, inl opens)) = unopened_done (status_of end) opens.1 disk (MatchResult-at_ok _ _ start is (opens.2 l r told_l told_r)).0
-    by (inr (whole, inr answers)) = answers_done serves.asked serves.history end answers sink disk
+    by (inr (whole, inl opens)) = unopened_done (status_of end) opens.2 disk (MatchResult-at_ok _ _ start is (opens.3 l r told_l told_r)).0
+    by (inr (whole, inr answers)) = answers_done serves.asked serves.history serves.fault end answers sink disk
 
 -- ---- of what is followed
 

@@ -90,8 +90,6 @@ module _
         written = told start end fault h.requests (held before.sink) (held after.sink) h.written;
         cut = cut_last start end fault h.requests (held before.sink) (held after.sink) h.written;
         disks = h.disks;
-        left_tells = h.left_tells;
-        right_tells = h.right_tells;
         fault = h.fault;
         fault_is = h.fault_is;
         past = h.past;

@@ -1,9 +1,10 @@
 -- Serving an input, as an end of the program.
-use Rattle.std.proofs.Common.{◌≡◌, ◌≢◌, ◌<◌, ℕ, zero, suc, List, [], ◌∷◌, map, length, append-nil, Option, Some, None, Ok, Err, Result, refl, sym, subst, ap, ap₂, ◌∙◌, inl, inr, lit<, arith}
+use Rattle.std.proofs.Common.{◌≡◌, ◌≢◌, ◌<◌, ℕ, zero, suc, List, [], ◌∷◌, map, length, append-nil, true, Option, Some, None, Ok, Err, Result, refl, sym, subst, ap, ◌∙◌, inl, inr, lit<, arith}
 use Rattle.std.specs.Prelude.{◌⊎◌, All, Contains, slice_index_or, IfOk, IsOkAnd, MatchResult}
 use Rattle.std.specs.List.{AllZip}
 use Rattle.liq_outside.specs.declared.showing.Showing.{Showing}
 use Rattle.liq_outside.specs.Showings.{Notes}
+use Rattle.liq_outside.proofs.Moments.{weaker}
 use Rattle.liq_types.specs.declared.amounts.TheConstants.{LINES_MOST}
 use Rattle.liq_types.specs.State.{State}
 use Rattle.liq_types.specs.declared.requests.Command.{Command}
@@ -13,10 +14,12 @@ use Rattle.liq_rules.specs.History.{Entry, state_after}
 use Rattle.liq_rules.specs.Step as rule
 use Rattle.liq_rules.specs.Step.{Allowed, Ruling, after_ruling, ruling}
 use Rattle.liq_journal.specs.declared.damage.Damage.{Damage}
+use Rattle.liq_journal.specs.Opened.{OpenLeaves}
 use Rattle.liq_pairs.specs.declared.side.Side.{Side}
 use Rattle.liq_pairs.specs.Kept.{IsKept}
 use Rattle.liq_pairs.specs.Pair.{state_on}
-use Rattle.liq_pairs.specs.Past.{Fault}
+use Rattle.liq_pairs.specs.Past.{AtCommand, Fault, InOpening, NoFault}
+use Rattle.liq_pairs.specs.Unfinished.{LeftLeaves}
 use Rattle.liq_lines.specs.declared.stops.Stop.{Stop}
 use Rattle.liq_lines.specs.declared.stops.Stop.TheVariants as stop
 use Rattle.liq_lines.specs.Lines.{lines_in}
@@ -31,21 +34,23 @@ use Rattle.liq_serving.specs.Answered.{AreServedWhole, IsServedWhole, LacksMemor
 use Rattle.liq_serving.specs.declared.input.Finish.{Finish}
 use Rattle.liq_serving.specs.declared.input.Finish.TheVariants as finish
 use Rattle.liq_serving.specs.Input as serving
-use Rattle.liq_serving.specs.Input.{AnswersInput, IsShown, Written, reading_of}
+use Rattle.liq_serving.specs.Input.{AnswersInput, AreAtRest, IsShown, Written, reading_of}
+use Rattle.liq_store.specs.declared.answers.StoreWhy.{StoreWhy}
 use Rattle.liq_store.specs.declared.answers.StoreWhy.TheVariants as why
 use Rattle.liq_store.specs.Causes.{Faults}
-use Rattle.liq_store.specs.Keeping.{IsKeptAround}
+use Rattle.liq_store.specs.Keeping.{IsAtRest, IsKeptAround}
 use Rattle.liq_ends.specs.declared.halts.Halt.{Halt}
-use Rattle.liq_ends.specs.declared.halts.Halt.TheVariants.{BadLine, ReadFault, WriteFault, DiskFault, Damaged, NoMemory, Limit, Rotated}
+use Rattle.liq_ends.specs.declared.halts.Halt.TheVariants.{BadLine, ReadFault, WriteFault, DiskFault, Damaged, DamagedInput, NoMemory, Limit, Rotated}
 use Rattle.liq_ends.specs.Causes.{DiskCause, ReadCause, WriteCause}
-use Rattle.liq_ends.specs.Disks.{OfBoth}
+use Rattle.liq_ends.specs.Disks.{DisksStay, EndsDamaged, IsFaultOfTelling, OfBoth}
 use Rattle.liq_ends.specs.Reading.{ReadsTo}
 use Rattle.liq_ends.specs.Statuses.{status_of}
 use Rattle.liq_ends.specs.Unsaid.{WritesAll}
 use Rattle.liq_ends.proofs.Causes.{six}
+use Rattle.liq_ends.proofs.Damaged.{left_opened}
 use Rattle.liq_serve.specs.Finishing.{end_of, halt_at}
 use Rattle.liq_ends.specs.Outside.{Outside}
-use Rattle.liq_serve.specs.Top.{Answers, AreLeft, IsFaultOfServing, Keep, OpensNone}
+use Rattle.liq_serve.specs.Top.{Answers, AreLeft, Keep, OpensNone}
 
 -- ---- the counts
 
@@ -95,14 +100,6 @@ all_served held history before now (finish.NotOpened (why.Damaged side damage)) 
 all_served held history before now (finish.NotOpened why.NoMemory) wrote = ap held wrote
 all_served held history before now finish.NoMemory wrote = ap held wrote
 all_served held history before now finish.DiskFault wrote = ap held wrote
-
--- ---- the disks
-
-pub same_disks : {E : Type 0} {D : Type 0} (seen : D → Option (List ℕ)) (left right : D) (l r a b : List ℕ) (found : Result State E) → seen left ≡ Some l → seen right ≡ Some r → seen left ≡ Some a → seen right ≡ Some b → (on : List ℕ → List ℕ → Result State E) → on l r ≡ found → on a b ≡ found
-same_disks seen left right l r a b found told_l told_r told_a told_b on is =
-    let left_is : a ≡ l = cc in
-    let right_is : b ≡ r = cc in
-    ap₂ on left_is right_is ∙ is
 
 -- ---- what the finish says
 
@@ -162,12 +159,35 @@ stopping stop.ReadFault = (0, (1, lit< tt, refl))
 stopping stop.NoMemory = (0, (2, lit< tt, refl))
 stopping stop.Limit = (0, (3, lit< tt, refl))
 
--- ---- what the sink was shown
+-- ---- where all was answered
 
 pub neither : (n : ℕ) → n ≢ 0 → n ≢ 4 → Contains (0 ∷ 4 ∷ []) n → ⊥
 neither n some other (zero, within, is) = some (sym is)
 neither n some other (suc zero, within, is) = other (sym is)
 neither n some other (suc (suc k), within, is) = omega (arith, within)
+
+-- it is so at 0 and 4
+all_answered : (how : Finish) → Contains (0 ∷ 4 ∷ []) (status_of (end_of how)) → (how ≡ finish.All) ⊎ (how ≡ finish.WriteFault)
+all_answered finish.All at = inl refl
+all_answered finish.WriteFault at = inr refl
+all_answered finish.NoMemory at = absurd (neither 7 (λ e. omega (arith, e)) (λ e. omega (arith, e)) at)
+all_answered finish.DiskFault at = absurd (neither 5 (λ e. omega (arith, e)) (λ e. omega (arith, e)) at)
+all_answered (finish.NotRead (stop.BadLine number)) at = absurd (neither 2 (λ e. omega (arith, e)) (λ e. omega (arith, e)) at)
+all_answered (finish.NotRead stop.ReadFault) at = absurd (neither 3 (λ e. omega (arith, e)) (λ e. omega (arith, e)) at)
+all_answered (finish.NotRead stop.NoMemory) at = absurd (neither 7 (λ e. omega (arith, e)) (λ e. omega (arith, e)) at)
+all_answered (finish.NotRead stop.Limit) at = absurd (neither 8 (λ e. omega (arith, e)) (λ e. omega (arith, e)) at)
+all_answered (finish.NotOpened why.DiskFault) at = absurd (neither 5 (λ e. omega (arith, e)) (λ e. omega (arith, e)) at)
+all_answered (finish.NotOpened why.NoMemory) at = absurd (neither 7 (λ e. omega (arith, e)) (λ e. omega (arith, e)) at)
+all_answered (finish.NotOpened (why.Damaged side damage)) at =
+    let known = six side damage.index in
+    absurd (neither (status_of (Err (Damaged side damage.index))) (λ e. omega (arith, known, e)) (λ e. omega (arith, known, e)) at)
+
+-- what holds of both finishes of that kind
+of_answered : (P : Finish → Type 0) {Q : Type 0} → (P finish.All → Q) → (P finish.WriteFault → Q) → (how : Finish) → P how → Contains (0 ∷ 4 ∷ []) (status_of (end_of how)) → Q
+of_answered P {Q} all cut how so at = by (all_answered how at) where
+  by : (how ≡ finish.All) ⊎ (how ≡ finish.WriteFault) → Q
+  by (inl is) = all (subst P is so)
+  by (inr is) = cut (subst P is so)
 
 module _
     {K D : Type 0} (moment : D → ℕ) (held : K → Option (List ℕ)) (shown : K → Option (List Showing)) (left right : D) (before middle after : K)
@@ -178,28 +198,21 @@ module _
   since : Notes moment (held before) left right (shown before) (shown middle) → WasShown
   since notes = subst (λ (now : Option (List Showing)). Notes moment (held before) left right (shown before) now) (sym stays) notes
 
-  -- where all was answered
+  -- what the sink was shown
   pub safe_by : (how : Finish) → IsShown moment held shown left right before middle how → Contains (0 ∷ 4 ∷ []) (status_of (end_of how)) → WasShown
-  safe_by finish.All is at = since is
-  safe_by finish.WriteFault is at = since is
-  safe_by finish.NoMemory is at = absurd (neither 7 (λ e. omega (arith, e)) (λ e. omega (arith, e)) at)
-  safe_by finish.DiskFault is at = absurd (neither 5 (λ e. omega (arith, e)) (λ e. omega (arith, e)) at)
-  safe_by (finish.NotRead (stop.BadLine number)) is at = absurd (neither 2 (λ e. omega (arith, e)) (λ e. omega (arith, e)) at)
-  safe_by (finish.NotRead stop.ReadFault) is at = absurd (neither 3 (λ e. omega (arith, e)) (λ e. omega (arith, e)) at)
-  safe_by (finish.NotRead stop.NoMemory) is at = absurd (neither 7 (λ e. omega (arith, e)) (λ e. omega (arith, e)) at)
-  safe_by (finish.NotRead stop.Limit) is at = absurd (neither 8 (λ e. omega (arith, e)) (λ e. omega (arith, e)) at)
-  safe_by (finish.NotOpened why.DiskFault) is at = absurd (neither 5 (λ e. omega (arith, e)) (λ e. omega (arith, e)) at)
-  safe_by (finish.NotOpened why.NoMemory) is at = absurd (neither 7 (λ e. omega (arith, e)) (λ e. omega (arith, e)) at)
-  safe_by (finish.NotOpened (why.Damaged side damage)) is at =
-      let known = six side damage.index in
-      absurd (neither (status_of (Err (Damaged side damage.index))) (λ e. omega (arith, known, e)) (λ e. omega (arith, known, e)) at)
+  safe_by how is at = of_answered (IsShown moment held shown left right before middle) since since how is at
+
+-- nothing is pending
+pub rests_by : {D : Type 0} (seen : D → Option (List ℕ)) (moment : D → ℕ) (left_at : D → ℕ → List ℕ → Type 0) (left right : D) (how : Finish) → AreAtRest seen moment left_at left right how
+    → Contains (0 ∷ 4 ∷ []) (status_of (end_of how)) → IsAtRest seen moment left_at left × IsAtRest seen moment left_at right
+rests_by seen moment left_at left right how rest at = of_answered (AreAtRest seen moment left_at left right) (λ both. both) (λ both. both) how rest at
 
 -- ---- how it came to its end
 
 -- what is kept for the state after a command that was accepted is kept for the one after its request
-kept_around : (s : State) (request : Request) (c : Command) (a b : List ℕ) → request ≡ Do c → ruling s c ≡ Allowed → IsKept a b (rule.after s c) → IsKept a b (rule.step s request).0
-kept_around s request c a b is allowed kept =
-    subst (λ (r : Request). IsKept a b (rule.step s r).0) (sym is) (subst (λ (q : Ruling). IsKept a b (after_ruling s c q).0) (sym allowed) kept)
+kept_around : (s : State) (c : Command) (a b : List ℕ) → ruling s c ≡ Allowed → IsKept a b s ⊎ IsKept a b (rule.after s c) → IsKeptAround s (Do c) a b
+kept_around s c a b allowed (inl kept) = inl kept
+kept_around s c a b allowed (inr kept) = inr (subst (λ (q : Ruling). IsKept a b (after_ruling s c q).0) (sym allowed) kept)
 
 module _
     {S K D : Type 0} (unread : S → Option (List ℕ)) (source_faults : S → ℕ) (held : K → Option (List ℕ)) (shown : K → Option (List Showing)) (sink_faults : K → ℕ) (seen : D → Option (List ℕ))
@@ -207,8 +220,11 @@ module _
   abbrev AreWhole : Type 0
   AreWhole = (l r : List ℕ) (side : Side) (damage : Damage) → seen before.left ≡ Some l → seen before.right ≡ Some r → state_on l r ≡ Err (side, damage) → ⊥
 
-  abbrev Answered : Result (Unit {0}) Halt → Type 0
-  Answered end = Answers unread source_faults held shown sink_faults seen disk_faults moment left_at before after asked history end
+  abbrev Unopened : Fault → Result (Unit {0}) Halt → Type 0
+  Unopened fault end = OpensNone unread source_faults held shown sink_faults seen disk_faults moment left_at before after history fault end
+
+  abbrev Answered : Fault → Result (Unit {0}) Halt → Type 0
+  Answered fault end = Answers unread source_faults held shown sink_faults seen disk_faults moment left_at before after asked history fault end
 
   -- disks that are not damaged stood for a state
   kept :
@@ -217,71 +233,88 @@ module _
       → AreWhole → Keep unread source_faults held shown sink_faults seen disk_faults moment left_at before after history P
   kept P disks whole = λ l r told_l told_r. is_found (state_on l r) _ (λ start is. disks l r start told_l told_r is) (λ side damage is. whole l r side damage told_l told_r is)
 
-  -- the call that met a disk's fault
-  halted_by : (halted : Option (ℕ × Request)) → serving.Answers finish.DiskFault halted asked history
-      → ((l r : List ℕ) (start : State) → seen before.left ≡ Some l → seen before.right ≡ Some r → state_on l r ≡ Ok start → serving.HoldsAfter seen finish.DiskFault halted history l r start after.left after.right)
-      → AreWhole → Answered (Err DiskFault)
-  halted_by None h disks whole = absurd h
-  halted_by (Some (session, request)) h disks whole =
-      (session, request, h.0, h.1, h.2, kept (λ a b s. IsKeptAround s request a b) (λ l r start told_l told_r is a b told_a told_b. by a b (state_after start history) (disks l r start told_l told_r is a b told_a told_b)) whole) where
-        by : (a b : List ℕ) (s : State) → IsKept a b s ⊎ ((c : Command) × (request ≡ Do c) × (ruling s c ≡ Allowed) × IsKept a b (rule.after s c)) → IsKeptAround s request a b
-        by a b s (inl same) = inl same
-        by a b s (inr (c, is, allowed, more)) = inr (kept_around s request c a b is allowed more)
-
-  -- where a disk met a fault
-  pub fault_of : (how : Finish) (halted : Option (ℕ × Request)) (fault : Fault) → serving.Answers how halted asked history → serving.IsFaultAt how halted fault → IsFaultOfServing unread source_faults held shown sink_faults seen disk_faults moment left_at before after asked history (end_of how) fault
-  fault_of finish.DiskFault None fault answers is = absurd answers
-  fault_of finish.DiskFault (Some (session, request)) fault answers (c, at, is) =
-      inr (session, c, answers.2.0, at, subst (λ (q : Request). AreLeft asked history session (q ∷ answers.2.0)) is answers.2.1)
-  fault_of (finish.NotOpened why.DiskFault) halted fault answers is = inl (is, answers)
-  fault_of finish.All halted fault answers is = is
-  fault_of finish.WriteFault halted fault answers is = is
-  fault_of finish.NoMemory halted fault answers is = is
-  fault_of (finish.NotRead (stop.BadLine number)) halted fault answers is = is
-  fault_of (finish.NotRead stop.ReadFault) halted fault answers is = is
-  fault_of (finish.NotRead stop.NoMemory) halted fault answers is = is
-  fault_of (finish.NotRead stop.Limit) halted fault answers is = is
-  fault_of (finish.NotOpened (why.Damaged side damage)) halted fault answers is = is
-  fault_of (finish.NotOpened why.NoMemory) halted fault answers is = is
-
-  pub record Came (end : Result (Unit {0}) Halt) : Type 0 where
+  -- It came to this end, and where a disk met a fault it is this one.
+  pub record Came (Meets : Fault → Type 0) (end : Result (Unit {0}) Halt) : Type 0 where
     pub reading : Result (Unit {0}) Halt
     pub read : (bytes : List ℕ) → unread before.source ≡ Some bytes → ReadsTo Asks bytes (unread after.source) asked reading
+    pub fault : Fault
+    pub met : (other : Fault) → Meets other → other ≡ fault
     pub so :
-        ((reading ≡ end) × (history ≡ []) × (after.left ≡ before.left) × (after.right ≡ before.right) × IsStopping end)
-        ⊎ ((reading ≡ Ok tt) × (OpensNone unread source_faults held shown sink_faults seen disk_faults moment left_at before after history end ⊎ Answered end))
+        ((reading ≡ end) × (history ≡ []) × (fault ≡ NoFault) × (after.left ≡ before.left) × (after.right ≡ before.right) × IsStopping end)
+        ⊎ ((reading ≡ Ok tt) × (Unopened fault end ⊎ Answered fault end))
+
+  abbrev IsWholeRead : Type 0
+  IsWholeRead = (bytes : List ℕ) → unread before.source ≡ Some bytes → AllZip Asks (lines_in bytes) asked × (unread after.source ≡ Some [])
 
   -- all lines were read
-  came_whole :
-      (end : Result (Unit {0}) Halt) → ((bytes : List ℕ) → unread before.source ≡ Some bytes → AllZip Asks (lines_in bytes) asked × (unread after.source ≡ Some []))
-      → OpensNone unread source_faults held shown sink_faults seen disk_faults moment left_at before after history end ⊎ Answered end → Came end
-  came_whole end read so = record { reading = Ok tt; read = read; so = inr (refl, so) }
+  came_whole : (end : Result (Unit {0}) Halt) (fault : Fault) → IsWholeRead → Unopened fault end ⊎ Answered fault end → Came (λ other. other ≡ fault) end
+  came_whole end fault read so = record { reading = Ok tt; read = read; fault = fault; met = λ other is. is; so = inr (refl, so) }
 
-  pub came_by : (how : Finish) → AnswersInput seen moment left_at (unread before.source) (unread after.source) before.left before.right (record { left = after.left; right = after.right; finish = how }) asked history
-      → ((why_not : Stop) → how ≡ finish.NotRead why_not → (after.left ≡ before.left) × (after.right ≡ before.right)) → Came (end_of how)
-  came_by finish.All a same = came_whole (Ok tt) a.read (inr (kept IsKept a.disks a.damaged, (0, lit< tt, refl), none_left asked history a.answers))
-  came_by finish.WriteFault a same = came_whole (Err WriteFault) a.read (inr (kept IsKept a.disks a.damaged, (1, lit< tt, refl), none_left asked history a.answers))
-  came_by finish.NoMemory a same = came_whole (Err NoMemory) a.read (inr (kept IsKept a.disks a.damaged, lacking asked history a.answers))
-  came_by finish.DiskFault a same = came_whole (Err DiskFault) a.read (inr (halted_by a.halted a.answers a.disks a.damaged))
+  -- a call met a disk's fault
+  halted_by : (halted : Option (ℕ × Command)) → serving.Answers finish.DiskFault halted asked history
+      → ((l r : List ℕ) (start : State) → seen before.left ≡ Some l → seen before.right ≡ Some r → state_on l r ≡ Ok start → serving.HoldsAfter seen finish.DiskFault halted history l r start after.left after.right)
+      → AreWhole → IsWholeRead → Came (λ other. serving.IsFaultAt finish.DiskFault halted other) (Err DiskFault)
+  halted_by None h disks whole read = absurd h
+  halted_by (Some (session, c)) h disks whole read =
+      came_whole (Err DiskFault) (AtCommand c) read
+      (inr (
+        session,
+        c,
+        refl,
+        h.0,
+        h.1,
+        h.2,
+        kept (λ a b s. (ruling s c ≡ Allowed) × IsKeptAround s (Do c) a b) (λ l r start told_l told_r is a b told_a told_b.
+            let holds = disks l r start told_l told_r is in
+            (holds.0, kept_around (state_after start history) c a b holds.0 (holds.1 a b told_a told_b))) whole,
+      ))
+
+  -- No store was opened. Of damaged disks a stop leaves what an opening does.
+  unopened_by : (end : Result (Unit {0}) Halt) (fault : Fault) (w : StoreWhy)
+      → (a : AnswersInput seen moment left_at (unread before.source) (unread after.source) before.left before.right (record { left = after.left; right = after.right; finish = finish.NotOpened w }) asked history)
+      → IsFaultOfTelling end fault → Contains (5 ∷ 6 ∷ 7 ∷ []) (status_of end) → ((number : ℕ) → end ≢ Err (DamagedInput number))
+      → ((l r : List ℕ) (start : State) → seen before.left ≡ Some l → seen before.right ≡ Some r → state_on l r ≡ Ok start → (status_of end ≢ 6) × DisksStay seen end l r start after.left after.right)
+      → ((l r : List ℕ) (side : Side) (damage : Damage) → seen before.left ≡ Some l → seen before.right ≡ Some r → state_on l r ≡ Err (side, damage) → EndsDamaged seen side damage end after.left after.right)
+      → (end ≢ Err DiskFault → w ≢ why.DiskFault) → Came (λ other. other ≡ fault) end
+  unopened_by end fault w a fault_is status no_input stay ends no_fault =
+      came_whole end fault a.read (inl (
+        a.answers,
+        fault_is,
+        status,
+        λ l r told_l told_r. by_found (state_on l r) _ _ (λ start is. stay l r start told_l told_r is) (λ side damage is.
+            let leaves = a.damaged l r side damage told_l told_r is in
+            record {
+              ends = ends l r side damage told_l told_r is;
+              left_leaves = λ only. weaker moment left_at before.left after.left (LeftLeaves l r) (OpenLeaves true l) (leaves.left_leaves only) (λ image there. left_opened l r image (side, damage) there is);
+              right_leaves = leaves.right_leaves;
+              shut = λ other. leaves.shut (λ e. no_fault other (cc e));
+            }),
+        no_input,
+      ))
+
+  pub came_by : (how : Finish) (a : AnswersInput seen moment left_at (unread before.source) (unread after.source) before.left before.right (record { left = after.left; right = after.right; finish = how }) asked history)
+      → ((why_not : Stop) → how ≡ finish.NotRead why_not → (after.left ≡ before.left) × (after.right ≡ before.right)) → Came (λ other. serving.IsFaultAt how a.halted other) (end_of how)
+  came_by finish.All a same = came_whole (Ok tt) NoFault a.read (inr (refl, kept IsKept a.disks (λ l r side damage told_l told_r is. (a.damaged l r side damage told_l told_r is).ends), (0, lit< tt, refl), none_left asked history a.answers))
+  came_by finish.WriteFault a same =
+      came_whole (Err WriteFault) NoFault a.read (inr (refl, kept IsKept a.disks (λ l r side damage told_l told_r is. (a.damaged l r side damage told_l told_r is).ends), (1, lit< tt, refl), none_left asked history a.answers))
+  came_by finish.NoMemory a same =
+      came_whole (Err NoMemory) NoFault a.read (inr (refl, kept IsKept a.disks (λ l r side damage told_l told_r is. (a.damaged l r side damage told_l told_r is).ends), lacking asked history a.answers))
+  came_by finish.DiskFault a same = halted_by a.halted a.answers a.disks (λ l r side damage told_l told_r is. (a.damaged l r side damage told_l told_r is).ends) a.read
   came_by (finish.NotRead why_not) a same =
       record {
         reading = Err (halt_at why_not);
         read = λ bytes told. read_so Asks why_not bytes (unread after.source) asked (a.read bytes told);
-        so = inl (refl, a.answers, (same why_not refl).0, (same why_not refl).1, stopping why_not);
+        fault = NoFault;
+        met = λ other is. is;
+        so = inl (refl, a.answers, refl, (same why_not refl).0, (same why_not refl).1, stopping why_not);
       }
   came_by (finish.NotOpened why.DiskFault) a same =
-      came_whole (Err DiskFault) a.read
-      (inl (a.answers, (0, lit< tt, refl), λ l r told_l told_r. by_found (state_on l r) _ _ (λ start is. ((λ e. omega (arith, e)), a.disks l r start told_l told_r is)) (λ side damage is. tt), λ n e. cc))
+      unopened_by (Err DiskFault) InOpening why.DiskFault a refl (0, lit< tt, refl) (λ n e. cc) (λ l r start told_l told_r is. ((λ e. omega (arith, e)), a.disks l r start told_l told_r is)) (λ l r side damage told_l told_r is. tt) (λ other. absurd (other refl))
   came_by (finish.NotOpened why.NoMemory) a same =
-      came_whole (Err NoMemory) a.read
-      (inl (a.answers, (2, lit< tt, refl), λ l r told_l told_r. by_found (state_on l r) _ _ (λ start is. ((λ e. omega (arith, e)), a.disks l r start told_l told_r is)) (λ side damage is. a.damaged l r side damage told_l told_r is), λ n e. cc))
+      unopened_by (Err NoMemory) NoFault why.NoMemory a refl (2, lit< tt, refl) (λ n e. cc) (λ l r start told_l told_r is. ((λ e. omega (arith, e)), a.disks l r start told_l told_r is))
+      (λ l r side damage told_l told_r is. (a.damaged l r side damage told_l told_r is).ends) (λ other e. cc)
   came_by (finish.NotOpened (why.Damaged which met)) a same =
-      came_whole (Err (Damaged which met.index)) a.read
-      (inl (
-        a.answers,
-        (1, lit< tt, six which met.index),
-        λ l r told_l told_r. by_found (state_on l r) _ _ (λ start is. absurd (a.disks l r start told_l told_r is)) (λ side damage is.
-            let h = a.damaged l r side damage told_l told_r is in
-            (h.0, ap (λ (d : Damage). d.index) h.1, h.2)),
-        λ n e. cc,
-      ))
+      unopened_by (Err (Damaged which met.index)) NoFault (why.Damaged which met) a refl (1, lit< tt, six which met.index) (λ n e. cc) (λ l r start told_l told_r is. absurd (a.disks l r start told_l told_r is))
+      (λ l r side damage told_l told_r is.
+      let h = (a.damaged l r side damage told_l told_r is).ends in
+      (h.0, ap (λ (d : Damage). d.index) h.1, h.2)) (λ other e. cc)

@@ -53,10 +53,15 @@ untouched_causes (Err (Rotated generation)) n other = refl
 untouched_causes (Err (DamagedInput number)) n other = refl
 
 -- disks that nobody asks
-pub same_go_on : {D : Type 0} (faults moment : D → ℕ) (left_at : D → ℕ → List ℕ → Type 0) (left right : D) (end : Result (Unit {0}) Halt)
-    → DiskCause end (counts_of faults left right) (counts_of faults left right) → DisksGoOn faults moment left_at left right end left right
-same_go_on faults moment left_at left right end cause =
-    record { count = cause; left_time = unmoved moment left_at left; right_time = unmoved moment left_at right }
+pub same_go_on : {D : Type 0} (seen : D → Option (List ℕ)) (faults moment : D → ℕ) (left_at : D → ℕ → List ℕ → Type 0) (left right : D) (end : Result (Unit {0}) Halt)
+    → DiskCause end (counts_of faults left right) (counts_of faults left right) → DisksGoOn seen faults moment left_at left right end left right
+same_go_on seen faults moment left_at left right end cause = record {
+  count = cause;
+  left_time = unmoved moment left_at left;
+  right_time = unmoved moment left_at right;
+  left_telling = (λ told. told, λ told. told);
+  right_telling = (λ told. told, λ told. told);
+}
 
 pub disks_unasked : (end : Result (Unit {0}) Halt) (n : Faults) → Contains (0 ∷ 4 ∷ 7 ∷ []) (status_of end) → DiskCause end n n
 disks_unasked end n ends = untouched_causes end n (λ is. load_not (status_of end) 5 (load_list (status_of end) ends) (ap status_of is) (λ e. omega (arith, e)) (λ e. omega (arith, e)) (λ e. omega (arith, e)))

@@ -1,6 +1,6 @@
 -- Two runs, one after the other.
-use Rattle.std.proofs.Common.{◌≡◌, ◌≢◌, ℕ, List, [], ◌∷◌, Option, Some, Ok, Err, Result, refl, sym, ap, subst, ◌∙◌, inl, inr}
-use Rattle.std.specs.Prelude.{◌⊎◌, IfSome, fold}
+use Rattle.std.proofs.Common.{◌≡◌, ◌≢◌, ℕ, List, [], ◌∷◌, Option, Some, is_some, Ok, Err, Result, refl, sym, ap, subst, ◌∙◌, inl, inr}
+use Rattle.std.specs.Prelude.{◌⊎◌, IfSome, IsSome, fold}
 use Rattle.std.proofs.lemmas.Result.{MatchResult-at_ok}
 use Rattle.liq_outside.specs.declared.showing.Showing.{Showing}
 use Rattle.liq_outside.specs.Disk.{LeftNow, Only}
@@ -70,7 +70,7 @@ module _ (bytes l r : List ℕ) (start : State) (requests : List Request) where
       only_one disk held image told rests left = subst (λ (o : Option (List ℕ)). IfSome o (λ bytes. Only bytes (LeftNow moment left_at disk))) told rests image left
 
       -- a fault is that of a disk
-      faulted : (end : Result (Unit {0}) Halt) (fault : Fault) → IsFaultOfRun end bytes unread requests fault → fault ≢ NoFault → end ≡ Err DiskFault
+      faulted : (end : Result (Unit {0}) Halt) (fault : Fault) → IsFaultOfRun start end bytes unread requests fault → fault ≢ NoFault → end ≡ Err DiskFault
       faulted (Err DiskFault) fault is some = refl
       faulted (Ok done) fault is some = absurd (some is)
       faulted (Err (BadLine n)) fault is some = absurd (some is)
@@ -82,14 +82,14 @@ module _ (bytes l r : List ℕ) (start : State) (requests : List Request) where
       faulted (Err (Rotated generation)) fault is some = absurd (some is)
       faulted (Err (DamagedInput number)) fault is some = absurd (some is)
 
-      next_at : (c : Command) → ((AtCommand c ≡ InOpening) × IsUnread bytes unread requests) ⊎ ((d : Command) × (AtCommand c ≡ AtCommand d) × IsNext bytes requests (Do d)) → IsNext bytes requests (Do c)
+      next_at : (c : Command) → ((AtCommand c ≡ InOpening) × IsUnread bytes unread requests) ⊎ ((d : Command) × (AtCommand c ≡ AtCommand d) × IsNext bytes requests (Do d) × (ruling here d ≡ Allowed)) → IsNext bytes requests (Do c)
       next_at c (inl (is, none)) = absurd cc
-      next_at c (inr (d, is, next)) =
+      next_at c (inr (d, is, next, allowed)) =
           let same : d ≡ c = cc in
           subst (λ (e : Command). IsNext bytes requests (Do e)) same next
 
       -- it is met at the next line's command
-      next_of : (end : Result (Unit {0}) Halt) (c : Command) → IsFaultOfRun end bytes unread requests (AtCommand c) → IsNext bytes requests (Do c)
+      next_of : (end : Result (Unit {0}) Halt) (c : Command) → IsFaultOfRun start end bytes unread requests (AtCommand c) → IsNext bytes requests (Do c)
       next_of (Err DiskFault) c is = next_at c is
       next_of (Ok done) c is = absurd cc
       next_of (Err (BadLine n)) c is = absurd cc
@@ -103,7 +103,7 @@ module _ (bytes l r : List ℕ) (start : State) (requests : List Request) where
 
       -- or as a crash at the end leaves them
       pub left_behind : (end : Result (Unit {0}) Halt) (x y a b : List ℕ) → seen left ≡ Some x → seen right ≡ Some y → IsKept l r start → DisksHold seen end bytes unread l r start left right requests
-          → (fault : Fault) → IsFaultOfRun end bytes unread requests fault → RestAtEnd seen moment left_at l r start requests fault left right → LeftNow moment left_at left a → LeftNow moment left_at right b
+          → (fault : Fault) → IsFaultOfRun start end bytes unread requests fault → RestAtEnd seen moment left_at l r start requests fault left right → LeftNow moment left_at left a → LeftNow moment left_at right b
           → BeginsBehind bytes l r start requests end a b
       left_behind end x y a b told_x told_y were holds NoFault is rests at_a at_b =
           read_behind end were holds a b (told_x ∙ ap Some (sym (only_one left x a told_x rests.0 at_a))) (told_y ∙ ap Some (sym (only_one right y b told_y rests.1 at_b)))
@@ -125,14 +125,14 @@ module _
   RunsFirst end l r start bytes = RunsTo unread source_faults held shown sink_faults seen disk_faults moment left_at before middle end l r start bytes
 
   -- what a run left begins the next one
-  pub runs_behind : (end : Result (Unit {0}) Halt) (bytes l r a b : List ℕ) (start : State) → (ran : RunsFirst end l r start bytes) → IsKept l r start
+  pub runs_behind : (end : Result (Unit {0}) Halt) (bytes l r a b : List ℕ) (start : State) → (ran : RunsFirst end l r start bytes) → IsSome (seen middle.left) → IsSome (seen middle.right) → IsKept l r start
       → AreBehind unread source_faults held shown sink_faults seen disk_faults moment left_at before middle l r a b → BeginsBehind bytes l r start ran.requests end a b
-  runs_behind end bytes l r a b start ran were (inl (told_a, told_b)) = read_behind bytes l r start ran.requests seen (unread middle.source) middle.left middle.right end were ran.disks a b told_a told_b
-  runs_behind end bytes l r a b start ran were (inr (only_l, only_r, at_a, at_b)) =
+  runs_behind end bytes l r a b start ran left_tells right_tells were (inl (told_a, told_b)) = read_behind bytes l r start ran.requests seen (unread middle.source) middle.left middle.right end were ran.disks a b told_a told_b
+  runs_behind end bytes l r a b start ran left_tells right_tells were (inr (only_l, only_r, at_a, at_b)) =
       let past = ran.past only_l only_r were in
-      let x = some_of (seen middle.left) ran.left_tells in
-      let y = some_of (seen middle.right) ran.right_tells in
-      let at = subst (λ (met : Fault). IsFaultOfRun end bytes (unread middle.source) ran.requests met) (sym past.fault_is) ran.fault_is in
+      let x = some_of (seen middle.left) left_tells in
+      let y = some_of (seen middle.right) right_tells in
+      let at = subst (λ (met : Fault). IsFaultOfRun start end bytes (unread middle.source) ran.requests met) (sym past.fault_is) ran.fault_is in
       left_behind bytes l r start ran.requests seen (unread middle.source) middle.left middle.right moment left_at before.left before.right end x.0 y.0 a b x.1 y.1 were ran.disks past.fault at past.rests at_a at_b
 
   pub follow_on :
@@ -146,7 +146,7 @@ module _
   follow_on status second_status words others one two asked asked_too bytes lines l r a b start told told_too told_l told_r is were told_a told_b behind =
       let e = one.ends word.Run asked in
       let ran = MatchResult-at_ok _ _ start is (e.2 l r told_l told_r) bytes told in
-      let begins = runs_behind e.0 bytes l r a b start ran were behind in
+      let begins = runs_behind e.0 bytes l r a b start ran (one.left_telling.1 (ap is_some told_l)) (one.right_telling.1 (ap is_some told_r)) were behind in
       let between = fold after (run start ran.requests).0 begins.0 in
       let t = begins.2.stands.state in
       let stands = begins.2.stands.is in

@@ -1,5 +1,5 @@
 -- How each word ends, put together to the clause of the top call.
-use Rattle.std.proofs.Common.{◌≡◌, ◌≢◌, ℕ, List, [], ◌∷◌, append-nil, Option, Some, is_some, Ok, Err, Result, refl, sym, ap, subst, ◌∙◌, arith, lit<, inl, inr}
+use Rattle.std.proofs.Common.{◌≡◌, ◌≢◌, ℕ, List, [], ◌∷◌, append-nil, Option, Some, Ok, Err, Result, refl, sym, subst, ◌∙◌, arith, lit<, inl, inr}
 use Rattle.std.specs.Prelude.{◌⊎◌, ◌↔◌, Contains, IfOk}
 use Rattle.std.proofs.lemmas.List.Elements.{All-nil}
 use Rattle.liq_outside.specs.declared.showing.Showing.{Showing}
@@ -23,11 +23,12 @@ use Rattle.liq_pairs.specs.Kept.{IsKept}
 use Rattle.liq_ends.specs.declared.halts.Halt.{Halt}
 use Rattle.liq_ends.specs.declared.halts.Halt.TheVariants.{BadLine, ReadFault, WriteFault, DiskFault, Damaged, DamagedInput, NoMemory, Limit, Rotated}
 use Rattle.liq_ends.specs.Causes.{DisksGoOn, HasCauses, LastCause, ReadCause}
-use Rattle.liq_ends.specs.Disks.{DisksStay, EndsDamaged, IsFaultOfTelling, LeavesOfRun, OfDamage, OfState}
+use Rattle.liq_ends.specs.Disks.{DisksStay, EndsDamaged, IsFaultOfTelling, LeavesDamaged, LeavesOfRun, OfDamage, OfState}
 use Rattle.liq_ends.specs.Output.{last, usage}
 use Rattle.liq_ends.specs.Statuses.{status_of}
 use Rattle.liq_ends.specs.Stops.{Adds, StopsDamaged}
 use Rattle.liq_ends.proofs.Causes.{disk_causes, sink_causes, six, source_causes, unread_causes}
+use Rattle.liq_ends.proofs.Damaged.{untouched_damaged}
 use Rattle.liq_ends.proofs.Opened.{standing_still, state_formed, untouched}
 use Rattle.liq_ends.proofs.Passing.{untouched_past}
 use Rattle.liq_ends.proofs.Shares.{all_shares}
@@ -42,7 +43,7 @@ use Rattle.liq_ends.specs.Answered.{KeepsAnswered}
 use Rattle.liq_ends.specs.Outside.{Outside}
 use Rattle.liq_follow.proofs.Beginning.{none_goes_on}
 use Rattle.liq_serve.specs.Top.{Ends, Leaves, OpensFirst, ServesTo, Tells, most_taken, statuses_of}
-use Rattle.liq_serve.proofs.Served.{by_found, if_found, neither, same_disks}
+use Rattle.liq_serve.proofs.Served.{by_found, if_found, neither}
 use Rattle.liq_serve.proofs.StatusLaws.{no_memory_known, status_known}
 
 -- ---- the words ask for one thing
@@ -84,7 +85,7 @@ module _
   pub word_ends :
       (words : List (List ℕ)) (read : Word) (end : Result (Unit {0}) Halt) → IsRead words read
       → Leaves unread source_faults held shown sink_faults seen disk_faults moment left_at before after read end
-      → Contains (statuses_of read) (status_of end) → HasCauses source_faults sink_faults disk_faults moment left_at before after end
+      → Contains (statuses_of read) (status_of end) → HasCauses source_faults sink_faults seen disk_faults moment left_at before after end
       → ReadsAtMost (most_taken read) (unread before.source) (unread after.source)
       → Ends unread source_faults held shown sink_faults seen disk_faults moment left_at before after (status_of end) words
   word_ends words read end is leaves status causes few =
@@ -104,6 +105,8 @@ module _
         sink_same = sink.1;
         disk_fault = disks.0;
         disk_same = disks.1;
+        left_telling = causes.disks.left_telling;
+        right_telling = causes.disks.right_telling;
         left_time = causes.disks.left_time;
         right_time = causes.disks.right_time;
       }
@@ -123,21 +126,21 @@ module _
   last_told side damage (DamagedInput number) ends told = absurd ends
 
   -- over damaged disks it stopped, and wrote its last line alone
-  abbrev TellsDamage : Result (Unit {0}) Halt → Side → Damage → Type 0
-  TellsDamage end side damage =
-      StopsDamaged seen side damage end (Rose (sink_faults before.sink) (sink_faults after.sink)) (held before.sink) (held after.sink) after.left after.right
+  abbrev TellsDamage : Result (Unit {0}) Halt → List ℕ → List ℕ → Side → Damage → Type 0
+  TellsDamage end l r side damage =
+      StopsDamaged seen moment left_at before.left before.right l r side damage end (Rose (sink_faults before.sink) (sink_faults after.sink)) (held before.sink) (held after.sink) after.left after.right
 
   -- a word that opens the disks before it reads
   pub opens_first :
       (end : Result (Unit {0}) Halt) (P : List ℕ → List ℕ → State → Type 0) → OfState seen before.left before.right P
-      → OfDamage seen before.left before.right (λ side damage. (after.source ≡ before.source) × TellsDamage end side damage)
+      → OfDamage seen before.left before.right (λ l r side damage. (after.source ≡ before.source) × TellsDamage end l r side damage)
       → OpensFirst unread source_faults held shown sink_faults seen disk_faults moment left_at before after end P
   opens_first end P stood damaged l r told_l told_r =
       by_found (state_on l r) _ _ (λ start is. stood l r told_l told_r start is) (λ side damage is.
       let found = damaged l r told_l told_r side damage is in
       let so = found.1 in
-      let ends = subst (λ (e : Result (Unit {0}) Halt). EndsDamaged seen side damage e after.left after.right × Tells unread source_faults held shown sink_faults seen disk_faults moment left_at before after [] [] e)
-      (sym so.1) (so.2, last_told side damage so.0 so.2 so.3) in
+      let ends = subst (λ (e : Result (Unit {0}) Halt). LeavesDamaged seen moment left_at before.left before.right l r side damage e after.left after.right × Tells unread source_faults held shown sink_faults seen disk_faults moment left_at before after [] [] e)
+      (sym so.1) (so.2, last_told side damage so.0 so.2.ends so.3) in
       (found.0, ends.0, ends.1))
 
   -- a word that reads nothing, and tells of the disks
@@ -147,7 +150,7 @@ module _
       → Leaves unread source_faults held shown sink_faults seen disk_faults moment left_at before after read end)
       → after.source ≡ before.source → OfState seen before.left before.right P → OfDamage seen before.left before.right (TellsDamage end)
       → Contains (statuses_of read) (status_of end) → end ≢ Err ReadFault → LastCause end (sink_faults before.sink) (sink_faults after.sink)
-      → DisksGoOn disk_faults moment left_at before.left before.right end after.left after.right
+      → DisksGoOn seen disk_faults moment left_at before.left before.right end after.left after.right
       → Ends unread source_faults held shown sink_faults seen disk_faults moment left_at before after (status_of end) words
   telling_ends words read end P is leaves same told damaged status no_source sink disks =
       word_ends words read end is (leaves (same, opens_first end P told (λ l r told_l told_r side damage at. (same, damaged l r told_l told_r side damage at))))
@@ -208,9 +211,11 @@ module _
         sessions = All-nil _;
         reading = Err NoMemory;
         read = λ bytes told. (lines_in bytes, ([], tt, refl));
-        came = inl (refl, refl, refl, refl, (0, (2, lit< tt, refl)));
+        fault = NoFault;
+        came = inl (refl, refl, refl, refl, refl, (0, (2, lit< tt, refl)));
         written = written;
         safe = λ at. absurd (neither 7 (λ e. omega (arith, e)) (λ e. omega (arith, e)) at);
+        rests = λ at. absurd (neither 7 (λ e. omega (arith, e)) (λ e. omega (arith, e)) at);
         lawful = λ l r told_l told_r. if_found (state_on l r) _ (λ start is. (record { replies = refl; indices = λ session. refl }, all_shares start [] (state_formed l r start is)));
         past = λ l r told_l told_r. if_found (state_on l r) _ (λ start is. untouched_past seen moment left_at stays before.left before.right l r start _ refl told_l told_r);
       }
@@ -226,17 +231,11 @@ module _
         came = inl (refl, (refl, refl, written, (0, (2, lit< tt, refl))));
       }
 
-  -- the disks are as they were
-  still : (side : Side) (damage : Damage) (l r : List ℕ) → seen before.left ≡ Some l → seen before.right ≡ Some r → state_on l r ≡ Err (side, damage)
-      → EndsDamaged seen side damage (Err NoMemory) before.left before.right
-  still side damage l r told_l told_r is a b told_a told_b = same_disks seen before.left before.right l r a b (Err (side, damage)) told_l told_r told_a told_b state_on is
-
-  -- the disks tell what they told, and stay for the state for which they stood, whatever a stop leaves of them
+  -- the disks stay for the state for which they stood, whatever a stop leaves of them
   abbrev Stays : List ℕ → List ℕ → State → Type 0
   Stays l r start =
       DisksStay seen (Err NoMemory) l r start before.left before.right
       × LeavesOfRun seen moment left_at before.left before.right (IsFaultOfTelling (Err NoMemory)) l r start [] before.left before.right
-      × (seen before.left ≡ Some l) × (seen before.right ≡ Some r)
 
   -- a word that opens the disks before it reads
   opens_nothing :
@@ -249,10 +248,8 @@ module _
         (λ start is. stood l r start is (
           untouched seen before.left before.right l r start told_l told_r is,
           untouched_past seen moment left_at stays before.left before.right l r start _ refl told_l told_r,
-          told_l,
-          told_r,
         ))
-        (λ side damage is. (refl, still side damage l r told_l told_r is, written)),
+        (λ side damage is. (refl, untouched_damaged seen moment left_at before.left before.right l r side damage told_l told_r is, written)),
   )
 
   -- whatever the words ask for
@@ -268,8 +265,6 @@ module _
         written = written;
         cut = λ is. absurd cc;
         disks = standing_still seen before.left before.right bytes l r (unread before.source) start told is stay.0;
-        left_tells = ap is_some stay.2;
-        right_tells = ap is_some stay.3;
         fault = NoFault;
         fault_is = refl;
         past = stay.1;
@@ -306,6 +301,8 @@ module _
         sink_same = λ is. absurd (no_end is);
         disk_fault = λ is. absurd (no_disk is);
         disk_same = λ other. refl;
+        left_telling = (λ told. told, λ told. told);
+        right_telling = (λ told. told, λ told. told);
         left_time = unmoved moment left_at before.left;
         right_time = unmoved moment left_at before.right;
       }

@@ -7,7 +7,7 @@ use Rattle.liq_types.specs.declared.requests.Command.{Command}
 use Rattle.liq_pairs.specs.Pair.{commands_on, state_on}
 use Rattle.liq_ends.specs.declared.halts.Halt.{Halt}
 use Rattle.liq_ends.specs.declared.halts.Halt.TheVariants.{BadLine, ReadFault, NoMemory, Limit}
-use Rattle.liq_ends.specs.Disks.{DisksStay, EndsDamaged, IsFaultOfTelling, LeavesOfRun, OfBoth}
+use Rattle.liq_ends.specs.Disks.{DisksStay, IsFaultOfTelling, LeavesDamaged, LeavesOfRun, OfBoth}
 use Rattle.liq_ends.specs.Reading.{ReadsTo}
 use Rattle.liq_ends.specs.Stops.{TellsBehind}
 use Rattle.liq_tell.specs.Answers.{IsAnswerOf}
@@ -42,7 +42,8 @@ module _
       × LeavesOfRun seen moment left_at before.left before.right (IsFaultOfTelling end) l r start []
       after.left after.right)
       -- a side and its first damage
-      (λ first. EndsDamaged seen first.0 first.1 end after.left after.right × TellsText [] end))
+      (λ first. LeavesDamaged seen moment left_at before.left before.right l r first.0 first.1 end after.left after.right
+      × TellsText [] end))
 
   -- it stopped for neither a line nor the source
   abbrev pub IsOfNoInput : Result (Unit {0}) Halt → Type 0

@@ -11,19 +11,21 @@ use Rattle.liq_types.specs.declared.requests.Request.{Request}
 use Rattle.liq_types.specs.declared.requests.Request.TheVariants.{Do}
 use Rattle.liq_types.specs.State.{State, opening}
 use Rattle.liq_rules.specs.History.{Entry, IsLegal, own_entries, requests_of, state_after}
-use Rattle.liq_rules.specs.Step.{run}
+use Rattle.liq_rules.specs.Step.{Allowed, ruling, run}
 use Rattle.liq_lines.specs.Reading.{Reads, ReadsAtMost, taken_most}
 use Rattle.liq_lines.specs.Writing.{Writes}
+use Rattle.liq_journal.specs.declared.damage.Damage.{Damage}
+use Rattle.liq_pairs.specs.declared.side.Side.{Side}
 use Rattle.liq_pairs.specs.Kept.{IsKept}
 use Rattle.liq_pairs.specs.Pair.{commands_on, state_on}
-use Rattle.liq_pairs.specs.Past.{AtCommand, Fault, InOpening, NoFault}
+use Rattle.liq_pairs.specs.Past.{AtCommand, Fault, NoFault}
 use Rattle.liq_scripts.specs.declared.scripts.TheConstants.{SESSIONS}
 use Rattle.liq_scripts.specs.Asked.{Asks}
 use Rattle.liq_scripts.specs.Output.{served}
 use Rattle.liq_scripts.specs.Sessions.{sessions}
 use Rattle.liq_sessions.specs.Generated.{generated}
 use Rattle.liq_store.specs.Causes.{Faults, OneRose, counts_of}
-use Rattle.liq_store.specs.Keeping.{IsKeptAround}
+use Rattle.liq_store.specs.Keeping.{IsAtRest, IsKeptAround}
 use Rattle.liq_rules.specs.Memory.{TakesMemory}
 use Rattle.liq_text.specs.Spelling.{Spells}
 use Rattle.liq_words.specs.declared.words.Word.{Word}
@@ -33,8 +35,8 @@ use Rattle.liq_ends.specs.declared.halts.Halt.{Halt}
 use Rattle.liq_ends.specs.declared.halts.Halt.TheVariants.{BadLine, ReadFault, WriteFault, DiskFault, NoMemory, Limit}
 use Rattle.liq_ends.specs.declared.halts.Halt.TheVariants.{DamagedInput}
 use Rattle.liq_ends.specs.Answered.{KeepsAnswered, Told}
-use Rattle.liq_ends.specs.Disks.{DisksHold, DisksStay, EndsDamaged, IsFaultOfRun, IsFaultOfTelling, IsUnread}
-use Rattle.liq_ends.specs.Disks.{LeavesOfRun, OfBoth}
+use Rattle.liq_ends.specs.Disks.{DisksHold, DisksStay, IsFaultOfRun, IsFaultOfTelling, IsUnread}
+use Rattle.liq_ends.specs.Disks.{LeavesDamaged, LeavesOfRun, OfBoth}
 use Rattle.liq_ends.specs.Output.{lines, usage}
 use Rattle.liq_ends.specs.Reading.{ReadsTo}
 use Rattle.liq_ends.specs.Requests.{IsNext}
@@ -98,11 +100,16 @@ module _
   Leave P l r start requests =
       LeavesOfRun seen moment left_at before.left before.right P l r start requests after.left after.right
 
+  -- what this word leaves of both, of which one is damaged, where it came to this end
+  abbrev pub LeaveDamaged : List ℕ → List ℕ → Side → Damage → Result (Unit {0}) Halt → Type 0
+  LeaveDamaged l r side damage end =
+      LeavesDamaged seen moment left_at before.left before.right l r side damage end after.left after.right
+
   -- A word that opens the disks before it reads. Of what both tell and of the state for which they stand it leaves P.
   -- Over disks of which one has a first damage nothing is read, and a last line alone is written.
   abbrev pub OpensFirst : Result (Unit {0}) Halt → (List ℕ → List ℕ → State → Type 0) → Type 0
   OpensFirst end P = OfBoth seen before.left before.right (λ l r. MatchResult (state_on l r) (P l r) (λ first.
-      (after.source ≡ before.source) × EndsDamaged seen first.0 first.1 end after.left after.right × Tells [] [] end))
+      (after.source ≡ before.source) × LeaveDamaged l r first.0 first.1 end × Tells [] [] end))
 
   -- ---- `run`
 
@@ -123,12 +130,9 @@ module _
     pub cut : end ≡ Err WriteFault → (earlier : List Request) × (final : Request) × (requests ≡ earlier ++ final ∷ [])
         × ((part : List ℕ) × Writes (held before.sink) (lines start earlier ++ part) (held after.sink))
     pub disks : DisksHold seen end bytes (unread after.source) l r start after.left after.right requests
-    -- they tell their bytes, as they did before
-    pub left_tells : IsSome (seen after.left)
-    pub right_tells : IsSome (seen after.right)
     -- where a disk met a fault
     pub fault : Fault
-    pub fault_is : IsFaultOfRun end bytes (unread after.source) requests fault
+    pub fault_is : IsFaultOfRun start end bytes (unread after.source) requests fault
     -- all that a crash at some moment may have left of the disks
     pub past : Leave (λ met. met ≡ fault) l r start requests
     -- and at every moment they have all that was answered by then
@@ -146,34 +150,29 @@ module _
       OfBoth seen after.left after.right (λ a b. P a b (state_after start history))))
 
   -- No store was opened: for a disk's fault, the disks' damage or want of memory. The input is no journal.
-  abbrev pub OpensNone : List Entry → Result (Unit {0}) Halt → Type 0
-  OpensNone history end = (history ≡ []) × Contains (5 ∷ 6 ∷ 7 ∷ []) (status_of end)
+  abbrev pub OpensNone : List Entry → Fault → Result (Unit {0}) Halt → Type 0
+  OpensNone history fault end = (history ≡ []) × IsFaultOfTelling end fault × Contains (5 ∷ 6 ∷ 7 ∷ []) (status_of end)
       × OfBoth seen before.left before.right (λ l r. MatchResult (state_on l r)
       (λ start. (status_of end ≢ 6) × DisksStay seen end l r start after.left after.right)
       -- a side and its first damage
-      (λ first. EndsDamaged seen first.0 first.1 end after.left after.right))
+      (λ first. LeaveDamaged l r first.0 first.1 end))
       × ((number : ℕ) → end ≢ Err (DamagedInput number))
 
   -- What was answered once a store was open, whose disks are not damaged, and what they hold then.
-  abbrev pub Answers : List (ℕ × Request) → List Entry → Result (Unit {0}) Halt → Type 0
-  -- A call met the fault, and it is that of the next request of its session. They are kept for that state, or for the
-  -- one after this request.
-  Answers asked history (Err DiskFault) =
-      (session : ℕ) × (request : Request) × (1 ≤ session) × (session ≤ SESSIONS) × ((later : List Request)
-      × AreLeft asked history session (request ∷ later)) × Keep history (λ a b s. IsKeptAround s request a b)
+  abbrev pub Answers : List (ℕ × Request) → List Entry → Fault → Result (Unit {0}) Halt → Type 0
+  -- A call met the fault. Its command is the next request of its session, and is accepted after the history: they are
+  -- kept for the state then, or for the one after this command.
+  Answers asked history fault (Err DiskFault) =
+      (session : ℕ) × (c : Command) × (fault ≡ AtCommand c) × (1 ≤ session) × (session ≤ SESSIONS)
+      × ((later : List Request) × AreLeft asked history session (Do c ∷ later))
+      × Keep history (λ a b s. (ruling s c ≡ Allowed) × IsKeptAround s (Do c) a b)
   -- nothing; or not all of some session, and the book had room for it
-  Answers asked history (Err NoMemory) = Keep history IsKept × ((history ≡ []) ⊎ ((length history < LINES_MOST)
+  Answers asked history fault (Err NoMemory) = (fault ≡ NoFault) × Keep history IsKept × ((history ≡ [])
+      ⊎ ((length history < LINES_MOST)
       × ((session : ℕ) × Contains sessions session × (AreLeft asked history session [] → ⊥))))
-  -- all, session by session, and they are kept for the state after it
-  Answers asked history end = Keep history IsKept × Contains (0 ∷ 4 ∷ []) (status_of end)
+  -- all, session by session, and they are kept for the state after the history
+  Answers asked history fault end = (fault ≡ NoFault) × Keep history IsKept × Contains (0 ∷ 4 ∷ []) (status_of end)
       × All (λ session. AreLeft asked history session []) sessions
-
-  -- where serving met a disk's fault: in the opening, or at the command that is the next request of its session
-  abbrev pub IsFaultOfServing : List (ℕ × Request) → List Entry → Result (Unit {0}) Halt → Fault → Type 0
-  IsFaultOfServing asked history (Err DiskFault) fault = ((fault ≡ InOpening) × (history ≡ []))
-      ⊎ ((session : ℕ) × (c : Command) × (later : List Request) × (fault ≡ AtCommand c)
-      × AreLeft asked history session (Do c ∷ later))
-  IsFaultOfServing asked history _ fault = fault ≡ NoFault
 
   -- Along one history a part of what the lines asked was answered, and it was written, as far as the end says.
   pub record ServesTo (end : Result (Unit {0}) Halt) : Type 0 where
@@ -187,22 +186,28 @@ module _
     pub reading : Result (Unit {0}) Halt
     pub read :
         (bytes : List ℕ) → unread before.source ≡ Some bytes → ReadsTo Asks bytes (unread after.source) asked reading
+    -- where a disk met a fault: in the opening, or at the call that `came` tells
+    pub fault : Fault
     -- It stopped, nothing was opened, and the disks are as they were. Or all lines ask this.
     pub came :
-        ((reading ≡ end) × (history ≡ []) × (after.left ≡ before.left) × (after.right ≡ before.right)
+        ((reading ≡ end) × (history ≡ []) × (fault ≡ NoFault)
+        × (after.left ≡ before.left) × (after.right ≡ before.right)
         × ((n : ℕ) × Contains (Err (BadLine n) ∷ Err ReadFault ∷ Err NoMemory ∷ Err (Limit LINES_MOST) ∷ []) end))
-        ⊎ ((reading ≡ Ok tt) × (OpensNone history end ⊎ Answers asked history end))
+        ⊎ ((reading ≡ Ok tt) × (OpensNone history fault end ⊎ Answers asked history fault end))
     pub written : Tells [] (served history) end
     -- where all was answered the sink was shown the disks once, as they are left, before a byte went out
     pub safe : Contains (0 ∷ 4 ∷ []) (status_of end)
         → Notes moment (held before.sink) after.left after.right (shown before.sink) (shown after.sink)
+    -- and nothing is pending on either then
+    pub rests : Contains (0 ∷ 4 ∷ []) (status_of end)
+        → IsAtRest seen moment left_at after.left × IsAtRest seen moment left_at after.right
     -- its replies are those of the rules from where the disks stood, and after it no depositor has more than its share,
     -- or less by more than is allowed
     pub lawful : OfBoth seen before.left before.right (λ l r. IfOk (state_on l r) (λ start.
         IsLegal start history × HaveTheirShares start (requests_of history)))
     -- all that a crash at some moment may have left of the disks is of one run of these requests
     pub past : OfBoth seen before.left before.right (λ l r. IfOk (state_on l r) (λ start.
-        Leave (IsFaultOfServing asked history end) l r start (requests_of history)))
+        Leave (λ met. met ≡ fault) l r start (requests_of history)))
 
   -- ---- each word
 
@@ -264,6 +269,9 @@ module _
     pub sink_same : status ≡ 0 → sink_faults after.sink ≡ sink_faults before.sink
     pub disk_fault : status ≡ 5 → OneRose (disk_counts before) (disk_counts after)
     pub disk_same : status ≢ 5 → disk_counts after ≡ disk_counts before
+    -- a disk that told its bytes tells them afterwards, and one that told none tells none
+    pub left_telling : IsSome (seen after.left) ↔ IsSome (seen before.left)
+    pub right_telling : IsSome (seen after.right) ↔ IsSome (seen before.right)
     -- Whatever a disk holds, time goes on for it, and what a crash may have left at a past moment stays what it was.
     pub left_time : GoesOn moment left_at before.left after.left
     pub right_time : GoesOn moment left_at before.right after.right

@@ -50,7 +50,7 @@ where
         (record { source = input.new; sink = out.new; left = result.left; right = result.right })
         F.says F.text result.end }
     ensures takes { ReadsAtMost (taken_most LINES_MOST) (S.left input.old) (S.left input.new) }
-    ensures causes { HasCauses S.faults K.faults D.faults D.moment D.left_at
+    ensures causes { HasCauses S.faults K.faults D.seen D.faults D.moment D.left_at
         (record { source = input.old; sink = out.old; left = left; right = right })
         (record { source = input.new; sink = out.new; left = result.left; right = result.right }) result.end }
 {
@@ -132,7 +132,7 @@ fn stopped<K: Sink, D: Disk>(stop: Stop, out: &mut K, left: D, right: D) -> Endi
     ensures written { Adds [] (last (halt_at stop)) (Rose (K.faults out.old) (K.faults out.new))
         (K.held out.old) (K.held out.new) }
     ensures sink { LastCause result.end (K.faults out.old) (K.faults out.new) }
-    ensures disks { DisksGoOn D.faults D.moment D.left_at left right result.end result.left result.right }
+    ensures disks { DisksGoOn D.seen D.faults D.moment D.left_at left right result.end result.left result.right }
 {
     let halt = halt_at(stop);
     write_last(out, halt);

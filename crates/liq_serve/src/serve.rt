@@ -32,7 +32,7 @@ pub fn serve_on<S: Source, K: Sink, D: Disk + Send, G: Gate + Sync, R: Threads +
         (record { source = input.old; sink = out.old; left = left; right = right })
         (record { source = input.new; sink = out.new; left = result.left; right = result.right }) result.end }
     ensures takes { ReadsAtMost (taken_most LINES_MOST) (S.left input.old) (S.left input.new) }
-    ensures causes { HasCauses S.faults K.faults D.faults D.moment D.left_at
+    ensures causes { HasCauses S.faults K.faults D.seen D.faults D.moment D.left_at
         (record { source = input.old; sink = out.old; left = left; right = right })
         (record { source = input.new; sink = out.new; left = result.left; right = result.right }) result.end }
     // It goes on in whatever generation.

@@ -2,9 +2,11 @@
 use Rattle.std.proofs.Common.{ℕ, inl, inr, ⊎_elim, List, map, Option, Some, None, ◌∙◌, ◌≡◌, sym, subst, refl, arith}
 use Rattle.liq_types.specs.declared.requests.Command.{Command}
 use Rattle.liq_types.specs.declared.requests.Request.{Request}
+use Rattle.liq_types.specs.declared.requests.Request.TheVariants.{Do, Ask}
 use Rattle.liq_types.specs.State.{State}
 use Rattle.liq_rules.specs.History as history
 use Rattle.liq_rules.specs.History.{IsLegal, requests_of}
+use Rattle.liq_rules.specs.Memory.{IsAccepted}
 use Rattle.liq_rules.proofs.AlikeReads.{Alike}
 use Rattle.liq_rules.proofs.AlikeReplies.{after_alike, replies_alike, ruling_alike, run_alike, step_alike}
 use Rattle.liq_pairs.specs.Past.{AtCommand, Fault, LeavesPast, NoFault}
@@ -26,6 +28,10 @@ use Rattle.liq_serving.specs.Serves.{AreSettled, LeavesDisks, Serves, disk_at}
 legal_alike : {s t : State} → Alike s t → (entries : List history.Entry) → IsLegal s entries → IsLegal t entries
 legal_alike alike entries legal = record { replies = legal.replies ∙ replies_alike (requests_of entries) alike; indices = legal.indices }
 
+accepted_alike : {s t : State} → Alike s t → (request : Request) → IsAccepted s request → IsAccepted t request
+accepted_alike alike (Do c) is = sym (ruling_alike alike c) ∙ is
+accepted_alike alike (Ask query) is = is
+
 around_alike : {s t : State} → Alike s t → (request : Request) (l r : List ℕ) → IsKeptAround s request l r → IsKeptAround t request l r
 around_alike alike request l r kept = ⊎_elim (λ before. inl (kept_alike alike l r before)) (λ after. inr (kept_alike (step_alike alike request) l r after)) kept
 
@@ -44,8 +50,9 @@ module _ {D : Type 0} (seen : D → Option (List ℕ)) (faults : D → ℕ) (mom
   disks_alike scripts entries alike end.NoMemory left right disks = settles_alike alike left right disks
   disks_alike scripts entries alike (end.DiskFault halt) left right disks = (
     disks.0,
+    accepted_alike alike halt.request disks.1,
     λ l r told_left told_right.
-        let around = disks.1 l r told_left told_right in
+        let around = disks.2 l r told_left told_right in
         (around_alike alike halt.request l r around.0, λ a b in_left in_right. around_alike alike halt.request a b (around.1 a b in_left in_right)),
   )
 
@@ -102,5 +109,10 @@ module _ {D : Type 0} (seen : D → Option (List ℕ)) (faults : D → ℕ) (mom
     seen = refl;
     faults = refl;
     moment = refl;
-    time = record { later = omega arith; past = λ k image early there. there; kept = λ k image early there. there };
+    time = record {
+      telling = (λ told. told, λ told. told);
+      later = omega arith;
+      past = λ k image early there. there;
+      kept = λ k image early there. there;
+    };
   }

@@ -213,7 +213,8 @@ module _ {D : Type 0} (seen : D → Option (List ℕ)) (faults : D → ℕ) (mom
       let script = script_of scripts numbered halt.session range.0 range.1 in
       let entries : entries_of left ≡ map recorded served.history = entries_of-chronicle served.history (Some halt) in
       let next = next_told (map item.Entry served.history) halt script.0 (rw items at (all_at (IsTold (chronicle_of served)) scripts script.0 told script.1)) script.2 in
-      ((script.0, script.1, script.2, rw entries at next), rw is at l.disks)
+      let kept = rw is at l.disks in
+      ((script.0, script.1, script.2, rw entries at next), kept.0, kept.1)
 
   serves : {O : Type 0} {o : Ghosts O} (all : Bool) (seats : List (BookSeat O o)) (served : Served D)
       → AreNumbered scripts → Leaves seen faults moment left_at base left_origin right_origin (length scripts) all seats served

@@ -1,11 +1,11 @@
 -- What serving an input comes to, by what was read, opened and served.
-use Rattle.std.proofs.Common.{ℕ, zero, suc, ◌+◌, ◌<◌, ◌≤◌, ◌≡◌, ◌⊎◌, inl, inr, List, [], ◌∷◌, map, length, Option, Some, None, Result, Ok, Err, refl, sym, ap, ap₂, ◌∙◌, subst, arith}
+use Rattle.std.proofs.Common.{ℕ, zero, suc, ◌+◌, ◌<◌, ◌≤◌, ◌≡◌, ◌⊎◌, inl, inr, List, [], ◌∷◌, map, length, false, true, Option, Some, None, Result, Ok, Err, refl, sym, ap, ap₂, ◌∙◌, subst, arith}
 use Rattle.std.specs.Prelude.{◌↔◌, ◌≢◌, All, Contains, IsSome, Vec, slice_index_or}
 use Rattle.std.specs.List.{AllByRecursion}
 use Rattle.std.proofs.lemmas.List.Elements.{All-map}
 use Rattle.std.specs.Global.{Global}
 use Rattle.liq_outside.specs.Disk.{GoesOn, LeftNow}
-use Rattle.liq_outside.proofs.Moments.{joined}
+use Rattle.liq_outside.proofs.Moments.{joined, started}
 use Rattle.liq_types.specs.declared.amounts.TheConstants.{LINES_MOST}
 use Rattle.liq_types.specs.declared.requests.Command.{Command}
 use Rattle.liq_types.specs.declared.requests.Request.{Request}
@@ -14,19 +14,23 @@ use Rattle.liq_types.specs.State.{State}
 use Rattle.liq_core.specs.Core.{StandsFor}
 use Rattle.liq_rules.specs.History as history
 use Rattle.liq_rules.specs.History.{state_after}
-use Rattle.liq_rules.specs.Step.{Ruling, Refused, Repeated, Allowed, after, after_ruling, ruling}
+use Rattle.liq_rules.specs.Memory.{IsAccepted}
+use Rattle.liq_rules.specs.Step.{Ruling, Allowed, after, after_ruling, ruling}
 use Rattle.liq_rules.proofs.Histories.{legal-empty}
 use Rattle.liq_rules.specs.Recorded.{recorded}
 use Rattle.liq_journal.specs.declared.damage.Damage.{Damage}
+use Rattle.liq_journal.specs.Opened.{OpenLeaves}
 use Rattle.liq_pairs.specs.declared.side.Side.{Side}
 use Rattle.liq_pairs.specs.Kept.{IsKept}
 use Rattle.liq_pairs.specs.Pair.{state_on}
+use Rattle.liq_pairs.specs.Unfinished.{LeftLeaves}
 use Rattle.liq_pairs.proofs.Keeping.{settled_kept}
 use Rattle.liq_store.specs.declared.answers.StoreWhy.{StoreWhy}
 use Rattle.liq_store.specs.declared.answers.StoreWhy.TheVariants as why
 use Rattle.liq_store.specs.Causes.{Faults, counts_of}
 use Rattle.liq_store.specs.Keeping.{IsAtRest, IsInOrder, IsKeptAround}
 use Rattle.liq_store.specs.Opening.{IsNotOpened, OpensOn}
+use Rattle.liq_store.specs.Standing.{OnlyShuts}
 use Rattle.liq_store.specs.Stored.{Stored}
 use Rattle.liq_store.proofs.Recovered.{still_kept}
 use Rattle.liq_sessions.specs.declared.script.Script.{Script}
@@ -48,9 +52,9 @@ use Rattle.liq_serving.specs.declared.served.End.{End}
 use Rattle.liq_serving.specs.declared.served.End.TheVariants as end
 use Rattle.liq_serving.specs.declared.served.Served.{Served}
 use Rattle.liq_serving.specs.Ends.{halt_of}
-use Rattle.liq_serving.specs.Input.{Answers, DiskCause, EndsDamaged, HoldsAfter, IsFinishOf, ServesInput, StayFor, Written, reading_of}
-use Rattle.liq_serving.specs.Serves.{AreNumbered, AreSettled, LeavesDisks, Serves, disk_at}
-use Rattle.liq_serving.proofs.Stops.{LeavesAt, LeavesOpening, halted_in, leaves_served, leaves_unopened, leaves_unread}
+use Rattle.liq_serving.specs.Input.{Answers, AreAtRest, DiskCause, EndsDamaged, HoldsAfter, IsFinishOf, LeavesDamaged, ServesInput, StayFor, Written, reading_of}
+use Rattle.liq_serving.specs.Serves.{AreKeptAround, AreNumbered, AreSettled, LeavesDisks, Serves, disk_at}
+use Rattle.liq_serving.proofs.Stops.{LeavesAt, LeavesOpening, called, halted_in, leaves_served, leaves_unopened, leaves_unread}
 use Rattle.liq_serving.proofs.Told.{all_from, all_to, all_unmap}
 
 -- ---- the scripts of what was asked
@@ -98,15 +102,10 @@ in_range asked scripts script session are there whose =
 
 -- ---- a call that met a fault
 
--- its step was not made, or it was an accepted command's
-around : (s : State) (request : Request) (a b : List ℕ) → IsKeptAround s request a b → IsKept a b s ⊎ ((c : Command) × (request ≡ Do c) × (ruling s c ≡ Allowed) × IsKept a b (after s c))
-around s request a b (inl kept) = inl kept
-around s (Ask query) a b (inr kept) = inl kept
-around s (Do c) a b (inr kept) = by (ruling s c) refl where
-  by : (r : Ruling) → ruling s c ≡ r → IsKept a b s ⊎ ((d : Command) × (Do c ≡ Do d) × (ruling s d ≡ Allowed) × IsKept a b (after s d))
-  by (Refused refusal) is = inl (subst (λ (r : Ruling). IsKept a b (after_ruling s c r).0) is kept)
-  by (Repeated done) is = inl (subst (λ (r : Ruling). IsKept a b (after_ruling s c r).0) is kept)
-  by Allowed is = inr (c, refl, is, subst (λ (r : Ruling). IsKept a b (after_ruling s c r).0) is kept)
+-- the step of a command that is accepted was made, or not
+around : (s : State) (c : Command) → ruling s c ≡ Allowed → (a b : List ℕ) → IsKeptAround s (Do c) a b → IsKept a b s ⊎ IsKept a b (after s c)
+around s c accepted a b (inl kept) = inl kept
+around s c accepted a b (inr kept) = inr (subst (λ (r : Ruling). IsKept a b (after_ruling s c r).0) accepted kept)
 
 -- ---- by the finish
 
@@ -118,7 +117,7 @@ by_finish P end.NoMemory how is all memory fault = subst P (sym is) (memory refl
 by_finish P (end.DiskFault halt) how is all memory fault = subst P (sym is) (fault halt refl)
 
 -- all was read
-reads_whole : (e : End) (how : Finish) → IsFinishOf e how → reading_of how ≡ Ok tt
+pub reads_whole : (e : End) (how : Finish) → IsFinishOf e how → reading_of how ≡ Ok tt
 reads_whole e how how_is = by_finish (λ (h : Finish). reading_of h ≡ Ok tt) e how how_is (λ is. (refl, refl)) (λ is. refl) (λ halt is. refl)
 
 -- ---- nothing was answered
@@ -150,7 +149,8 @@ module _ {K D : Type 0} (held : K → Option (List ℕ)) (seen : D → Option (L
       → ((bytes : List ℕ) → before ≡ Some bytes → EndsAfter (reading_of finished.finish) bytes unread asked)
       → Answers finished.finish None asked [] → Written held finished.finish [] out out
       → ((l r : List ℕ) (start : State) → seen left ≡ Some l → seen right ≡ Some r → state_on l r ≡ Ok start → HoldsAfter seen finished.finish None [] l r start finished.left finished.right)
-      → ((l r : List ℕ) (side : Side) (damage : Damage) → seen left ≡ Some l → seen right ≡ Some r → state_on l r ≡ Err (side, damage) → EndsDamaged seen finished.finish side damage finished.left finished.right)
+      → ((l r : List ℕ) (side : Side) (damage : Damage) → seen left ≡ Some l → seen right ≡ Some r → state_on l r ≡ Err (side, damage)
+      → LeavesDamaged seen moment left_at left right l r side damage finished.finish finished.left finished.right)
       → LeavesAt seen moment left_at left right finished.finish None [] finished.left finished.right
       → ServesInput held seen moment left_at before unread out out left right finished
   serves_none before unread out left right finished asked few read answers written disks damaged past = record {
@@ -177,7 +177,12 @@ module _ {K D : Type 0} (held : K → Option (List ℕ)) (seen : D → Option (L
   serves_unread before unread out left right why_not gathers =
       serves_none before unread out left right (record { left = left; right = right; finish = finish.NotRead why_not }) gathers.asked gathers.few gathers.read refl refl
       (λ l r start told_l told_r is. untouched seen left right l r start told_l told_r is)
-      (λ l r side damage told_l told_r is a b told_a told_b. same_state seen left right l r a b told_l told_r told_a told_b ∙ is)
+      (λ l r side damage told_l told_r is. record {
+        ends = λ a b told_a told_b. same_state seen left right l r a b told_l told_r told_a told_b ∙ is;
+        left_leaves = λ only. started moment left_at left (LeftLeaves l r) (λ image there. inl (inl (only image there)));
+        right_leaves = λ only. started moment left_at right (OpenLeaves false r) (λ image there. inl (only image there));
+        shut = λ other a b told_a told_b. (inl (cc (sym told_a ∙ told_l)), inl (cc (sym told_b ∙ told_r)));
+      })
       (leaves_unread seen moment left_at may_stay left right why_not)
 
   -- there was no memory for the output, and nothing was read
@@ -217,18 +222,25 @@ module _ {K D : Type 0} (held : K → Option (List ℕ)) (seen : D → Option (L
       → LeavesOpening seen moment left_at left right now_left now_right
       → GoesOn moment left_at left now_left → GoesOn moment left_at right now_right
       → (why_not ≢ why.DiskFault → IsAtRest seen moment left_at now_left × IsAtRest seen moment left_at now_right)
+      → (why_not ≢ why.DiskFault → (l r a b : List ℕ) (first : Side × Damage) → seen left ≡ Some l → seen right ≡ Some r → state_on l r ≡ Err first
+      → seen now_left ≡ Some a → seen now_right ≡ Some b → OnlyShuts true l a × OnlyShuts false r b)
       → ServesInput held seen moment left_at before unread out out left right (record { left = now_left; right = now_right; finish = finish.NotOpened why_not })
-  serves_unopened scripts why_not now_left now_right gathers unopened opening left_time right_time rest =
+  serves_unopened scripts why_not now_left now_right gathers unopened opening left_time right_time rest shuts =
       serves_none held seen moment left_at may_stay before unread out left right (record { left = now_left; right = now_right; finish = finish.NotOpened why_not }) gathers.asked gathers.few gathers.read refl refl
       (unopened_holds seen faults left right why_not now_left now_right unopened)
-      (unopened_damaged seen faults left right why_not now_left now_right unopened)
+      (λ l r side damage told_l told_r is. record {
+        ends = unopened_damaged seen faults left right why_not now_left now_right unopened l r side damage told_l told_r is;
+        left_leaves = opening.left_leaves l r told_l told_r;
+        right_leaves = opening.right_leaves r told_r;
+        shut = λ other a b. shuts (λ is_why. other (ap finish.NotOpened is_why)) l r a b (side, damage) told_l told_r is;
+      })
       (leaves_unopened seen moment left_at may_stay left right why_not now_left now_right opening left_time right_time rest)
 
 -- ---- the sessions were served
 
 module _ {D : Type 0} (seen : D → Option (List ℕ)) (faults : D → ℕ) (moment : D → ℕ) (left_at : D → ℕ → List ℕ → Type 0) where
   -- the law of moments from a disk as it was
-  pub time_since : (old new : D) → GoesOnFrom (disk_at seen faults moment left_at old) moment left_at new → GoesOn moment left_at old new
+  pub time_since : (old new : D) → GoesOnFrom (disk_at seen faults moment left_at old) seen moment left_at new → GoesOn moment left_at old new
   time_since old new from = record { later = from.later; past = from.past; kept = from.kept }
 
 module _ {D : Type 0} (seen : D → Option (List ℕ)) (faults : D → ℕ) (moment : D → ℕ) (left_at : D → ℕ → List ℕ → Type 0) (store : Stored D) (scripts : List Script) (served : Served D) (asked : List (ℕ × Request)) (are : scripts ≡ scripts_of asked) where
@@ -244,10 +256,15 @@ module _ {D : Type 0} (seen : D → Option (List ℕ)) (faults : D → ℕ) (mom
       (λ is. let whole = by_session (IsServedWhole entries) asked scripts are (serves.whole is) in (whole, whole))
       (λ is. subst (λ (list : List Script). LacksMemory list entries) are (serves.memory is))
       (λ halt is.
-      let next = (rw is at serves.disks).0 in
+      let disks = rw is at serves.disks in
+      let next = disks.0 in
       let range = in_range asked scripts next.0 halt.session are next.1 next.2 in
       subst (λ (e : End). Answers finish.DiskFault (halted_in e) asked entries) (sym is)
-      (range.0, range.1, next_asked asked scripts entries halt.request next.0 halt.session are next.1 next.2 next.3))
+      (at halt.session halt.request disks.1 range.0 range.1 (next_asked asked scripts entries halt.request next.0 halt.session are next.1 next.2 next.3))) where
+        at : (session : ℕ) (request : Request) → IsAccepted (state_after s entries) request → 1 ≤ session → session ≤ SESSIONS → IsNextOf entries request (script_of asked session)
+            → Answers finish.DiskFault (called session request) asked entries
+        at session (Do c) accepted least most next = (least, most, next)
+        at session (Ask query) accepted least most next = absurd accepted
 
   disks_by : (start : State) → ServesAt start → (how : Finish) → IsFinishOf served.end how → (l r : List ℕ) → HoldsAfter seen how (halted_in served.end) entries l r start served.left served.right
   disks_by start serves how how_is l r =
@@ -259,8 +276,19 @@ module _ {D : Type 0} (seen : D → Option (List ℕ)) (faults : D → ℕ) (mom
         settled both a b told_a told_b = settled_kept both.side a b (state_after start entries) (both.settled a b told_a told_b)
 
         fault : (halt : Halt) → LeavesDisks seen moment left_at scripts entries (state_after start entries) (end.DiskFault halt) served.left served.right
-            → HoldsAfter seen finish.DiskFault (Some (halt.session, halt.request)) entries l r start served.left served.right
-        fault halt kept a b told_a told_b = around (state_after start entries) halt.request a b (kept.1 a b told_a told_b).0
+            → HoldsAfter seen finish.DiskFault (called halt.session halt.request) entries l r start served.left served.right
+        fault halt left = by halt.session halt.request left.1 left.2 where
+          by : (session : ℕ) (request : Request) → IsAccepted (state_after start entries) request → AreKeptAround seen moment left_at (state_after start entries) request served.left served.right
+              → HoldsAfter seen finish.DiskFault (called session request) entries l r start served.left served.right
+          by session (Do c) accepted kept = (accepted, λ a b told_a told_b. around (state_after start entries) c accepted a b (kept a b told_a told_b).0)
+          by session (Ask query) accepted kept = absurd accepted
+
+  -- where all was answered nothing is pending
+  pub rests_by : (s : State) → ServesAt s → (how : Finish) → IsFinishOf served.end how → AreAtRest seen moment left_at served.left served.right how
+  rests_by s serves how how_is =
+      by_finish (λ (h : Finish). AreAtRest seen moment left_at served.left served.right h) served.end how how_is
+      (λ is. let both = rw is at serves.disks in ((both.left_rests, both.right_rests), (both.left_rests, both.right_rests)))
+      (λ is. tt) (λ halt is. tt)
 
   -- time went on, in the opening and since
   pub left_time_by : (s : State) → ServesAt s → (left : D) → GoesOn moment left_at left store.left → GoesOn moment left_at left served.left
@@ -268,6 +296,17 @@ module _ {D : Type 0} (seen : D → Option (List ℕ)) (faults : D → ℕ) (mom
 
   pub right_time_by : (s : State) → ServesAt s → (right : D) → GoesOn moment left_at right store.right → GoesOn moment left_at right served.right
   right_time_by s serves right opening = joined moment left_at right store.right served.right opening (time_since seen faults moment left_at store.right served.right serves.since.right_time)
+
+  -- a disk that told its bytes tells them, through the opening and since
+  pub left_telling_by : (s : State) → ServesAt s → (left : D) → IsSome (seen store.left) ↔ IsSome (seen left) → IsSome (seen served.left) ↔ IsSome (seen left)
+  left_telling_by s serves left opening =
+      let since = serves.since.left_time.telling in
+      (λ now. opening.0 (since.0 now), λ then. since.1 (opening.1 then))
+
+  pub right_telling_by : (s : State) → ServesAt s → (right : D) → IsSome (seen store.right) ↔ IsSome (seen right) → IsSome (seen served.right) ↔ IsSome (seen right)
+  right_telling_by s serves right opening =
+      let since = serves.since.right_time.telling in
+      (λ now. opening.0 (since.0 now), λ then. since.1 (opening.1 then))
 
   -- a count rose exactly where a call met a fault
   pub cause_by : (left right : D) (s : State) → ServesAt s → OpensOn seen faults left right store → (how : Finish) → IsFinishOf served.end how

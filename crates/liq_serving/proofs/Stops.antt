@@ -5,6 +5,7 @@ use Rattle.liq_outside.specs.Disk.{GoesOn, LeavesOnly, LeftNow, Only}
 use Rattle.liq_outside.proofs.Moments.{started}
 use Rattle.liq_types.specs.declared.requests.Command.{Command}
 use Rattle.liq_types.specs.declared.requests.Request.{Request}
+use Rattle.liq_types.specs.declared.requests.Request.TheVariants.{Do, Ask}
 use Rattle.liq_types.specs.State.{State}
 use Rattle.liq_types.proofs.Tests.{value_of}
 use Rattle.liq_rules.specs.History as history
@@ -38,15 +39,20 @@ use Rattle.liq_serving.specs.Ends.{halt_of}
 use Rattle.liq_serving.specs.Input.{IsFaultAt, IsFinishOf}
 use Rattle.liq_serving.specs.Serves.{Serves, disk_at}
 
+-- a session and its command
+abbrev pub called : ℕ → Request → Option (ℕ × Command)
+called session (Do c) = Some (session, c)
+called session (Ask query) = None
+
 -- the call that met a disk's fault
-abbrev pub halted_in : End → Option (ℕ × Request)
-halted_in (end.DiskFault halt) = Some (halt.session, halt.request)
+abbrev pub halted_in : End → Option (ℕ × Command)
+halted_in (end.DiskFault halt) = called halt.session halt.request
 halted_in end.All = None
 halted_in end.NoMemory = None
 
 module _ {D : Type 0} (seen : D → Option (List ℕ)) (moment : D → ℕ) (left_at : D → ℕ → List ℕ → Type 0) (left right : D) where
   -- what a stop leaves of these disks, when serving them finished so
-  abbrev pub LeavesAt : Finish → Option (ℕ × Request) → List history.Entry → D → D → Type 0
+  abbrev pub LeavesAt : Finish → Option (ℕ × Command) → List history.Entry → D → D → Type 0
   LeavesAt how halted entries now_left now_right =
       (l r : List ℕ) (start : State) → seen left ≡ Some l → seen right ≡ Some r
       → Only l (LeftNow moment left_at left) → Only r (LeftNow moment left_at right)
@@ -62,7 +68,7 @@ module _ {D : Type 0} (seen : D → Option (List ℕ)) (moment : D → ℕ) (lef
 
 module _ {D : Type 0} (seen : D → Option (List ℕ)) (moment : D → ℕ) (left_at : D → ℕ → List ℕ → Type 0)
     (may_stay : (disk : D) (held : List ℕ) → seen disk ≡ Some held → LeftNow moment left_at disk held) (left right : D) where
-  abbrev At : Finish → Option (ℕ × Request) → List history.Entry → D → D → Type 0
+  abbrev At : Finish → Option (ℕ × Command) → List history.Entry → D → D → Type 0
   At = LeavesAt seen moment left_at left right
 
   -- ---- nothing was opened
@@ -123,7 +129,7 @@ module _ {D : Type 0} (seen : D → Option (List ℕ)) (moment : D → ℕ) (lef
         × RestAtEnd seen moment left_at a b start (requests_of entries) fault served.left served.right
 
     -- what is left at the finish, by the disks that there were at first
-    abbrev Finishes : List ℕ → List ℕ → State → Finish → Option (ℕ × Request) → Type 0
+    abbrev Finishes : List ℕ → List ℕ → State → Finish → Option (ℕ × Command) → Type 0
     Finishes l r start h halted = LeavesBoth seen moment left_at left right (IsFaultAt h halted) l r start (requests_of entries) served.left served.right
 
     -- images are counted from the same moments
@@ -174,5 +180,7 @@ module _ {D : Type 0} (seen : D → Option (List ℕ)) (moment : D → ℕ) (lef
           by_end (end.DiskFault halt) from h h_is =
               let c : Command = from.1.0 in
               let at_c : LeftBy a.0 b.0 start (AtCommand c) = subst (LeftBy a.0 b.0 start) from.1.2 from.2 in
-              subst (λ (h : Finish). Finishes l r start h (Some (halt.session, halt.request))) (sym h_is)
-              (record { fault = AtCommand c; fault_is = (c, refl, from.1.1); images = along (AtCommand c) at_c.0; rests = at_c.1 })
+              let at : IsFaultAt finish.DiskFault (called halt.session halt.request) (AtCommand c) =
+              subst (λ (q : Request). IsFaultAt finish.DiskFault (called halt.session q) (AtCommand c)) (sym from.1.1) refl in
+              subst (λ (h : Finish). Finishes l r start h (called halt.session halt.request)) (sym h_is)
+              (record { fault = AtCommand c; fault_is = at; images = along (AtCommand c) at_c.0; rests = at_c.1 })

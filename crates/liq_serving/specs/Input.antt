@@ -1,9 +1,9 @@
 -- What serving an input comes to.
-use Rattle.std.specs.Prelude.{ℕ, ◌≡◌, ◌≤◌, ◌⊎◌, List, [], length, All}
-use Rattle.std.specs.Prelude.{Option, Some, Result, Ok, Err}
+use Rattle.std.specs.Prelude.{ℕ, ◌≡◌, ◌≢◌, ◌≤◌, ◌⊎◌, List, [], length, All}
+use Rattle.std.specs.Prelude.{false, true, Option, Some, Result, Ok, Err}
 use Rattle.std.specs.Option.{IsSomeAnd}
 use Rattle.liq_outside.specs.declared.showing.Showing.{Showing}
-use Rattle.liq_outside.specs.Disk.{LeftNow, Only}
+use Rattle.liq_outside.specs.Disk.{LeavesOnly, LeftNow, Only}
 use Rattle.liq_outside.specs.Faults.{Rose}
 use Rattle.liq_outside.specs.Showings.{Notes}
 use Rattle.liq_types.specs.declared.amounts.TheConstants.{LINES_MOST}
@@ -14,13 +14,16 @@ use Rattle.liq_types.specs.State.{State}
 use Rattle.liq_rules.specs.History.{Entry, IsLegal, requests_of, state_after}
 use Rattle.liq_rules.specs.Step.{Allowed, after, ruling}
 use Rattle.liq_journal.specs.declared.damage.Damage.{Damage}
+use Rattle.liq_journal.specs.Opened.{OpenLeaves}
 use Rattle.liq_pairs.specs.declared.side.Side.{Side}
 use Rattle.liq_pairs.specs.Kept.{IsKept}
 use Rattle.liq_pairs.specs.Pair.{state_on}
 use Rattle.liq_pairs.specs.Past.{AtCommand, Fault, InOpening, NoFault}
-use Rattle.liq_pairs.specs.Unfinished.{IsRecovered}
+use Rattle.liq_pairs.specs.Unfinished.{IsRecovered, LeftLeaves}
 use Rattle.liq_store.specs.declared.answers.StoreWhy.TheVariants as why
 use Rattle.liq_store.specs.Causes.{CausesWhy, Faults, OneRose}
+use Rattle.liq_store.specs.Keeping.{IsAtRest}
+use Rattle.liq_store.specs.Standing.{OnlyShuts}
 use Rattle.liq_store.specs.Leaving.{LeavesBoth}
 use Rattle.liq_lines.specs.Writing.{Writes, WritesPart}
 use Rattle.liq_lines.specs.declared.stops.Stop.{Stop}
@@ -44,15 +47,15 @@ reading_of _ = Ok tt
 
 -- ---- what was answered
 
--- All where the output was begun, and none where no store was opened. Where a call met a disk's fault, it is that of
--- the next request of its session, which is one of the eight.
-abbrev pub Answers : Finish → Option (ℕ × Request) → List (ℕ × Request) → List Entry → Type 0
+-- All where the output was begun, and none where no store was opened. Where a call met a disk's fault, its session is
+-- one of the eight, and its command the next request of that session.
+abbrev pub Answers : Finish → Option (ℕ × Command) → List (ℕ × Request) → List Entry → Type 0
 Answers finish.All halted asked history = AreServedWhole asked history
 Answers finish.WriteFault halted asked history = AreServedWhole asked history
 Answers finish.NoMemory halted asked history = LacksMemory (scripts_of asked) history
 Answers finish.DiskFault halted asked history =
-    IsSomeAnd halted (λ (call : ℕ × Request).
-    (1 ≤ call.0) × (call.0 ≤ SESSIONS) × IsNextOf history call.1 (script_of asked call.0))
+    IsSomeAnd halted (λ (call : ℕ × Command).
+    (1 ≤ call.0) × (call.0 ≤ SESSIONS) × IsNextOf history (Do call.1) (script_of asked call.0))
 Answers _ halted asked history = history ≡ []
 
 -- ---- what was written
@@ -72,6 +75,15 @@ module _
   IsShown finish.WriteFault = Notes moment (held before) left right (shown before) (shown now)
   IsShown _ = shown now ≡ shown before
 
+-- Where all was answered nothing is pending on either disk.
+module _
+    {D : Type 0} (seen : D → Option (List ℕ)) (moment : D → ℕ) (left_at : D → ℕ → List ℕ → Type 0)
+    (left right : D) where
+  abbrev pub AreAtRest : Finish → Type 0
+  AreAtRest finish.All = IsAtRest seen moment left_at left × IsAtRest seen moment left_at right
+  AreAtRest finish.WriteFault = IsAtRest seen moment left_at left × IsAtRest seen moment left_at right
+  AreAtRest _ = Unit {0}
+
 -- ---- what the disks hold
 
 -- Where both disks tell their bytes, these stand for the state; and they are kept for it, if l and r were.
@@ -82,17 +94,15 @@ StayFor seen l r s left right =
     → (state_on a b ≡ Ok s) × (IsKept l r s → IsKept a b s)
 
 module _ {D : Type 0} (seen : D → Option (List ℕ)) where
-  -- They are kept for the state after the history. After a call's fault they are kept for it, or for it after that
-  -- call's command, if it is accepted there. Where no store was opened they stand for what they stood for, and stay
-  -- kept; after a disk's fault they are, if they were kept, as an opening leaves them.
+  -- They are kept for the state after the history. A call that met a disk's fault was of a command that is accepted
+  -- there; they are kept for that state or for the one after this command. Where no store was opened they stand for
+  -- what they stood for, and stay kept; after a disk's fault they are, if they were kept, as an opening leaves them.
   abbrev pub HoldsAfter :
-      Finish → Option (ℕ × Request) → List Entry → List ℕ → List ℕ → State → D → D → Type 0
+      Finish → Option (ℕ × Command) → List Entry → List ℕ → List ℕ → State → D → D → Type 0
   HoldsAfter finish.DiskFault halted history l r start left right =
       let s = state_after start history in
-      (a b : List ℕ) → seen left ≡ Some a → seen right ≡ Some b
-      → IsKept a b s
-      ⊎ ((c : Command) × IsSomeAnd halted (λ (call : ℕ × Request). call.1 ≡ Do c) × (ruling s c ≡ Allowed)
-      × IsKept a b (after s c))
+      IsSomeAnd halted (λ (call : ℕ × Command). (ruling s call.1 ≡ Allowed)
+      × ((a b : List ℕ) → seen left ≡ Some a → seen right ≡ Some b → IsKept a b s ⊎ IsKept a b (after s call.1)))
   HoldsAfter (finish.NotOpened why.DiskFault) halted history l r start left right =
       IsKept l r start → (a b : List ℕ) → seen left ≡ Some a → seen right ≡ Some b
       → IsRecovered l r start a b
@@ -117,10 +127,24 @@ module _ {D : Type 0} (seen : D → Option (List ℕ)) where
       (which ≡ side) × (found ≡ damage) × StaysDamaged side damage left right
   EndsDamaged _ side damage left right = ⊥
 
+-- Over damaged disks it comes to such a finish; and of either, if nothing was pending on it, a stop leaves what it leaves
+-- of an opening. Where no disk met a fault each tells its bytes as they were, or with a 0 where an opening shuts one.
+pub record LeavesDamaged
+    {D : Type 0} (seen : D → Option (List ℕ)) (moment : D → ℕ) (left_at : D → ℕ → List ℕ → Type 0)
+    (old_left old_right : D) (l r : List ℕ) (side : Side) (damage : Damage) (how : Finish)
+    (left right : D) : Type 0 where
+  pub ends : EndsDamaged seen how side damage left right
+  pub left_leaves :
+      Only l (LeftNow moment left_at old_left) → LeavesOnly moment left_at old_left left (LeftLeaves l r)
+  pub right_leaves :
+      Only r (LeftNow moment left_at old_right) → LeavesOnly moment left_at old_right right (OpenLeaves false r)
+  pub shut :
+      how ≢ finish.NotOpened why.DiskFault → (a b : List ℕ) → seen left ≡ Some a → seen right ≡ Some b
+      → OnlyShuts true l a × OnlyShuts false r b
+
 -- where a disk met a fault: in the opening, or at the command that a call was to write
-abbrev pub IsFaultAt : Finish → Option (ℕ × Request) → Fault → Type 0
-IsFaultAt finish.DiskFault halted fault =
-    (c : Command) × (fault ≡ AtCommand c) × IsSomeAnd halted (λ (call : ℕ × Request). call.1 ≡ Do c)
+abbrev pub IsFaultAt : Finish → Option (ℕ × Command) → Fault → Type 0
+IsFaultAt finish.DiskFault halted fault = IsSomeAnd halted (λ (call : ℕ × Command). fault ≡ AtCommand call.1)
 IsFaultAt (finish.NotOpened why.DiskFault) halted fault = fault ≡ InOpening
 IsFaultAt _ halted fault = fault ≡ NoFault
 
@@ -135,8 +159,8 @@ pub record AnswersInput
   pub few : length asked ≤ LINES_MOST
   pub read : (bytes : List ℕ) → before ≡ Some bytes → EndsAfter (reading_of finished.finish) bytes unread asked
   pub fronts : AreServedFrom asked history
-  -- the session whose call met a disk's fault, and what it asked
-  pub halted : Option (ℕ × Request)
+  -- the session whose call met a disk's fault, and its command
+  pub halted : Option (ℕ × Command)
   pub sessions : All (λ (e : Entry). (1 ≤ e.session) × (e.session ≤ SESSIONS)) history
   pub answers : Answers finished.finish halted asked history
   pub legal :
@@ -154,7 +178,7 @@ pub record AnswersInput
   pub damaged :
       (l r : List ℕ) (side : Side) (damage : Damage) → seen left ≡ Some l → seen right ≡ Some r
       → state_on l r ≡ Err (side, damage)
-      → EndsDamaged seen finished.finish side damage finished.left finished.right
+      → LeavesDamaged seen moment left_at left right l r side damage finished.finish finished.left finished.right
 
 -- it was, and the history was written, as far as the finish says
 pub record ServesInput

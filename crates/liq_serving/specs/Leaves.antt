@@ -2,6 +2,7 @@
 use Rattle.std.specs.Prelude.{ℕ, ◌≡◌, List, [], ◌∷◌, map, All, Bool, Option, Some, None}
 use Rattle.liq_types.specs.State.{State}
 use Rattle.liq_rules.specs.History.{IsLegal, state_after}
+use Rattle.liq_rules.specs.Memory.{IsAccepted}
 use Rattle.liq_lock.specs.History.{Behind, Within}
 use Rattle.liq_book.specs.declared.items.Halt.{Halt}
 use Rattle.liq_book.specs.declared.items.Item.{Item}
@@ -24,7 +25,8 @@ module _
     (left_at : D → ℕ → List ℕ → Type 0) where
   abbrev pub KeepsBehind : Option Halt → State → D → D → Type 0
   KeepsBehind None s left right = AreSettled seen moment left_at s left right
-  KeepsBehind (Some halt) s left right = AreKeptAround seen moment left_at s halt.request left right
+  KeepsBehind (Some halt) s left right =
+      IsAccepted s halt.request × AreKeptAround seen moment left_at s halt.request left right
 
 -- The seats are those with which it was closed.
 pub record Leaves

@@ -6,6 +6,7 @@ use Rattle.liq_types.specs.declared.requests.Request.{Request}
 use Rattle.liq_types.specs.State.{State}
 use Rattle.liq_rules.specs.History as history
 use Rattle.liq_rules.specs.History.{IsLegal, requests_of, state_after}
+use Rattle.liq_rules.specs.Memory.{IsAccepted}
 use Rattle.liq_pairs.specs.declared.side.Side.{Side}
 use Rattle.liq_pairs.specs.Kept.{IsSettledFor}
 use Rattle.liq_store.specs.Keeping.{IsAtRest, IsKeptAround}
@@ -57,17 +58,19 @@ module _
       × ((a b : List ℕ) → LeftNow moment left_at left a → LeftNow moment left_at right b
       → IsKeptAround s request a b)
 
-  -- Settled; or, after a fault, kept with one request more, which is the next one of the session whose call met it.
+  -- Settled; or, after a fault, kept with one request more, which is the next one of the session whose call met it, and
+  -- a command that the rules accept there.
   abbrev pub LeavesDisks : List Script → List history.Entry → State → End → D → D → Type 0
   LeavesDisks scripts entries s end.All left right = AreSettled s left right
   LeavesDisks scripts entries s end.NoMemory left right = AreSettled s left right
   LeavesDisks scripts entries s (end.DiskFault halt) left right =
       ((script : Script) × Contains scripts script × (script.session ≡ halt.session)
       × IsNextOf entries halt.request script)
-      × AreKeptAround s halt.request left right
+      × IsAccepted s halt.request × AreKeptAround s halt.request left right
 
--- What became of the disks since the service began. A count of faults rose exactly where a call met the fault, time
--- went on at both, and what a stop may have left of them is of a run of the history's requests.
+-- What became of the disks since the service began. A count of faults rose exactly where a call met the fault; each tells
+-- its bytes exactly if it told them then, time went on, and what a stop may have left of them is of a run of the
+-- history's requests.
 pub record HasGoneOn
     {D : Type 0} (seen : D → Option (List ℕ)) (faults : D → ℕ) (moment : D → ℕ)
     (left_at : D → ℕ → List ℕ → Type 0) (base : State) (left_origin right_origin : DiskAt)
@@ -75,8 +78,8 @@ pub record HasGoneOn
   pub cause :
       CausesHalt (halt_of served.end) (faults_at left_origin right_origin)
       (record { left = faults served.left; right = faults served.right })
-  pub left_time : GoesOnFrom left_origin moment left_at served.left
-  pub right_time : GoesOnFrom right_origin moment left_at served.right
+  pub left_time : GoesOnFrom left_origin seen moment left_at served.left
+  pub right_time : GoesOnFrom right_origin seen moment left_at served.right
   pub past :
       LeavesFrom seen moment left_at left_origin right_origin base (requests_of (map recorded served.history))
       (halt_of served.end) served.left served.right

@@ -1,6 +1,6 @@
 //! The word `serve`: what the lines of all sessions ask is answered at once over two disks, and the history is written.
 
-ghost use Rattle.std.specs.Prelude.{◌≡◌, [], map};
+ghost use Rattle.std.specs.Prelude.{◌≡◌, ◌↔◌, [], map, IsSome};
 ghost use Rattle.liq_outside.specs.Disk.{GoesOn};
 ghost use Rattle.liq_types.specs.declared.amounts.TheConstants.{LINES_MOST};
 ghost use Rattle.liq_store.specs.Causes.{counts_of};
@@ -8,7 +8,8 @@ ghost use Rattle.liq_lines.specs.Reading.{taken_most, ReadsAtMost};
 ghost use Rattle.liq_lines.specs.declared.stops.Stop.{Stop};
 ghost use Rattle.liq_scripts.specs.Gathering.{ReadCause};
 ghost use Rattle.liq_rules.specs.Recorded.{recorded};
-ghost use Rattle.liq_serving.specs.Input.{DiskCause, IsFinishOf, IsShown, ServesInput, WriteCause, Written, reading_of};
+ghost use Rattle.liq_serving.specs.Input.{AreAtRest, DiskCause, IsFinishOf, IsShown, ServesInput, WriteCause, Written};
+ghost use Rattle.liq_serving.specs.Input.{reading_of};
 
 use crate::served::{End, Served};
 use crate::serving::serve_sessions;
@@ -52,7 +53,7 @@ pub struct Finished<D> {
 ///
 /// Where the input was not read to its end the disks are as they were. Some call met a fault of a disk exactly where the finish is
 /// [`Finish::DiskFault`], whatever other calls were told; want of memory is told only where none did. Where all was answered
-/// `out` is shown the disks before the first byte of the history, as no call can touch them from then on.
+/// `out` is shown the disks before the first byte of the history, as no call can touch them from then on: nothing is pending on them.
 pub fn serve_input<S: Source, K: Sink, D: Disk + Send, G: Gate + Sync, R: Threads + Wait + Sync>(
     rt: &R,
     alloc: Global,
@@ -65,6 +66,7 @@ pub fn serve_input<S: Source, K: Sink, D: Disk + Send, G: Gate + Sync, R: Thread
     ensures served { ServesInput K.held D.seen D.moment D.left_at (S.left input.old) (S.left input.new)
         out.old out.new left right result }
     ensures shown { IsShown D.moment K.held K.shown result.left result.right out.old out.new result.finish }
+    ensures rests { AreAtRest D.seen D.moment D.left_at result.left result.right result.finish }
     ensures unread { (stop : Stop) → result.finish ≡ Finish.NotRead stop
         → (result.left ≡ left) × (result.right ≡ right) }
 
@@ -76,6 +78,10 @@ pub fn serve_input<S: Source, K: Sink, D: Disk + Send, G: Gate + Sync, R: Thread
     ensures sink { WriteCause result.finish (K.faults out.old) (K.faults out.new) }
     ensures disks { DiskCause result.finish
         (counts_of D.faults left right) (counts_of D.faults result.left result.right) }
+
+    // A disk that told its bytes tells them afterwards, and one that told none tells none.
+    ensures left_telling { IsSome (D.seen result.left) ↔ IsSome (D.seen left) }
+    ensures right_telling { IsSome (D.seen result.right) ↔ IsSome (D.seen right) }
 
     // Time goes on at both disks, and what a crash may have left of them before stays what it was.
     ensures left_time { GoesOn D.moment D.left_at left result.left }

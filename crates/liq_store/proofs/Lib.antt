@@ -14,6 +14,7 @@ pub mod Opening
 pub mod Past
 pub mod Recovered
 pub mod Rulings
+pub mod Shutting
 pub mod Steps
 pub mod Turning
 pub mod Verbs

@@ -10,6 +10,7 @@ use Rattle.liq_journal.specs.Crash.{CreateLeaves, beginning}
 use Rattle.liq_journal.specs.Opened.{CrashOfOpen, IsUnshut, OpenLeaves, ReadsOfOpen}
 use Rattle.liq_journal.specs.Written.{found_on}
 use Rattle.liq_journal.specs.declared.damage.Damage.{Damage}
+use Rattle.liq_pairs.specs.declared.side.Side.{Side}
 use Rattle.liq_pairs.specs.declared.side.Side.TheVariants.{Left, Right}
 use Rattle.liq_pairs.specs.Pair.{Faulty, standing, state_on}
 use Rattle.liq_pairs.specs.Kept.{IsKept}
@@ -17,7 +18,7 @@ use Rattle.liq_pairs.specs.Unfinished.{IsRecovered, LeftLeaves}
 use Rattle.liq_pairs.proofs.Beginning.{created_from, left_faulty, right_faulty, right_faulty_beside}
 use Rattle.liq_pairs.proofs.Commands.{commands_alike}
 use Rattle.liq_pairs.proofs.Recovering.{recovered}
-use Rattle.liq_pairs.proofs.Standings.{standing_absent, standing_open, state_alike}
+use Rattle.liq_pairs.proofs.Standings.{standing_absent, standing_open, state_alike, state_by}
 use Rattle.liq_store.specs.declared.answers.StoreFault.{StoreFault}
 use Rattle.liq_store.specs.declared.answers.StoreWhy.{StoreWhy}
 use Rattle.liq_store.specs.declared.answers.StoreWhy.TheVariants as why
@@ -32,7 +33,7 @@ use Rattle.liq_store.specs.Judging.{IsDamagedBy, IsFine, IsJudged, MetFault, dis
 use Rattle.liq_records.specs.Reading.{CountsFault}
 use Rattle.liq_store.specs.Keeping.{IsAtRest}
 use Rattle.liq_store.specs.Opening.{IsNotOpened, IsWhyOf, OpensOn, left_after, right_after}
-use Rattle.liq_store.specs.Standing.{CountsStand, IsCounted, IsFaultless, IsFoundOn, IsLeftOn, IsWhyOn, disk_in}
+use Rattle.liq_store.specs.Standing.{CountsStand, IsCounted, IsFaultless, IsFoundOn, IsLeftOn, IsWhyOn, OnlyShuts, disk_in}
 use Rattle.liq_store.specs.Stored.{Stored}
 use Rattle.liq_store.proofs.OneDisk.{told_too}
 
@@ -42,6 +43,7 @@ StandsAs seen moment left_at faults odd old result = record {
   found : (held : List ℕ) → seen old ≡ Some held → IsFoundOn odd held result;
   left : IfSome (seen (disk_in result)) (λ after. IsLeftOn after result);
   same : IsFaultless result → (held after : List ℕ) → seen old ≡ Some held → seen (disk_in result) ≡ Some after → found_on odd after ≡ found_on odd held;
+  shut : IsFaultless result → (held after : List ℕ) → seen old ≡ Some held → seen (disk_in result) ≡ Some after → OnlyShuts odd held after;
   rest : IsFaultless result → IsAtRest seen moment left_at (disk_in result);
   journal : IfOk result (IsCounted odd);
   crash : CrashOfOpen seen moment left_at old (disk_in result) odd;
@@ -256,6 +258,15 @@ judged_faultless lr rr (why.Damaged Left damage) judged other = (judged.1, judge
 judged_faultless lr rr (why.Damaged Right damage) judged other = (judged.2, judged.3)
 judged_faultless lr rr why.NoMemory judged other = judged
 
+-- two with which nothing is wrong stand for a state
+fine_stand : {D : Type 0} (l r : List ℕ) (first : Side × Damage) (stood_left stood_right : Stood D) → IsFoundOn true l (Ok stood_left) → IsFoundOn false r (Ok stood_right)
+    → state_on l r ≡ Err first → ⊥
+fine_stand l r first (Nothing dl) (Nothing dr) fl fr is = absurd (cc (state_by l r _ _ (standing_absent true l fl) (standing_absent false r fr), is))
+fine_stand l r first (Nothing dl) (Holding jr cr) fl fr is = absurd (cc (state_by l r _ _ (standing_absent true l fl) (standing_open false r fr.written fr.state fr.found fr.came), is))
+fine_stand l r first (Holding jl cl) (Nothing dr) fl fr is = absurd (cc (state_by l r _ _ (standing_open true l fl.written fl.state fl.found fl.came) (standing_absent false r fr), is))
+fine_stand l r first (Holding jl cl) (Holding jr cr) fl fr is =
+    absurd (cc (state_by l r _ _ (standing_open true l fl.written fl.state fl.found fl.came) (standing_open false r fr.written fr.state fr.found fr.came), is))
+
 damaged_so : {D : Type 0} (odd : Bool) (held : List ℕ) (damage : Damage) (result : Result (Stood D) (StandFault D)) → IsDamagedBy damage result → IsFoundOn odd held result → standing odd held ≡ Faulty damage
 damaged_so odd held damage (Ok stood) is found = absurd is
 damaged_so odd held damage (Err met) is found = subst (λ (y : AcceptedFault). IsWhyOn odd held y) is found
@@ -336,3 +347,27 @@ module _ {D : Type 0} (seen : D → Option (List ℕ)) (moment : D → ℕ) (lef
         subst (IsAtRest seen moment left_at) (sym is_left) (sl.rest faultless.0),
         subst (IsAtRest seen moment left_at) (sym is_right) (sr.rest faultless.1),
       )
+
+  -- each tells its bytes as they were, or with a 0 where one was shut
+  pub judged_shuts : (left right : D) (lr rr : Result (Stood D) (StandFault D))
+      → StandsAs seen moment left_at faults true left lr → StandsAs seen moment left_at faults false right rr
+      → (e : StoreFault D) → e.left ≡ disk_in lr → e.right ≡ disk_in rr → IsJudged lr rr e.why
+      → e.why ≢ why.DiskFault → (l r a b : List ℕ) → seen left ≡ Some l → seen right ≡ Some r
+      → seen e.left ≡ Some a → seen e.right ≡ Some b → OnlyShuts true l a × OnlyShuts false r b
+  judged_shuts left right lr rr sl sr e is_left is_right judged other l r a b tl tr ta tb =
+      let faultless = judged_faultless lr rr e.why judged other in (
+        sl.shut faultless.0 l a tl (ap seen (sym is_left) ∙ ta),
+        sr.shut faultless.1 r b tr (ap seen (sym is_right) ∙ tb),
+      )
+
+  -- where both were fine, neither was damaged
+  pub begun_undamaged : (left right : D) (stood_left stood_right : Stood D)
+      → StandsAs seen moment left_at faults true left (Ok stood_left)
+      → StandsAs seen moment left_at faults false right (Ok stood_right) → (result : Result (Stored D) (StoreFault D))
+      → IfErr result (λ e. (e.why ≢ why.DiskFault) → (l r a b : List ℕ) (first : Side × Damage) → seen left ≡ Some l
+      → seen right ≡ Some r → state_on l r ≡ Err first → seen e.left ≡ Some a → seen e.right ≡ Some b
+      → OnlyShuts true l a × OnlyShuts false r b)
+  begun_undamaged left right stood_left stood_right sl sr (Ok store) = tt
+  begun_undamaged left right stood_left stood_right sl sr (Err e) =
+      λ other l r a b first tl tr is ta tb.
+      absurd (fine_stand l r first stood_left stood_right (sl.found l tl) (sr.found r tr) is)

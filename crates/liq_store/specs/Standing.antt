@@ -1,8 +1,9 @@
 -- What one disk is found to be, and what is left of it.
-use Rattle.std.specs.Prelude.{◌≡◌, ℕ, List, Bool, true, Result, Ok, Err}
+use Rattle.std.specs.Prelude.{◌≡◌, ◌⊎◌, ℕ, List, [], ◌∷◌, Bool, true, Result, Ok, Err}
+use Rattle.liq_outside.specs.Disk.{overwritten}
 use Rattle.liq_types.specs.State.{State}
 use Rattle.liq_core.specs.Core.{Core, StandsFor}
-use Rattle.liq_journal.specs.Opened.{IsUnshut}
+use Rattle.liq_journal.specs.Opened.{IsUnsettled, IsUnshut}
 use Rattle.liq_journal.specs.Settled.{IsSettled, JournalOn}
 use Rattle.liq_journal.specs.Written.{Absent, Open, Written, found_on, is_generation}
 use Rattle.liq_pairs.specs.Pair.{Faulty, standing}
@@ -58,6 +59,12 @@ HoldsTo w (Ok (Holding journal core)) = (s : State) × (outcome w ≡ Ok s) × S
 HoldsTo w (Err met) = FailsTo w met.why
 
 -- ---- what is left
+
+-- The bytes are as they were, or have a 0 at the one place that an opening shuts.
+abbrev pub OnlyShuts : Bool → List ℕ → List ℕ → Type 0
+OnlyShuts odd held bytes =
+    (bytes ≡ held)
+    ⊎ ((place : ℕ) × IsUnsettled odd held place × (bytes ≡ overwritten held place (0 ∷ [])))
 
 -- a disk on which no gate other than 0 is at place 0, or whole records and a 0 behind them
 abbrev pub IsLeftOn : {D : Type 0} → List ℕ → Result (Stood D) (StandFault D) → Type 0

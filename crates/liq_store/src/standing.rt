@@ -6,7 +6,7 @@ ghost use Rattle.liq_journal.specs.Looked.{Looked};
 ghost use Rattle.liq_journal.specs.Opened.{CrashOfOpen, ReadsOfOpen};
 ghost use Rattle.liq_journal.specs.Written.{Written, found_on, is_generation};
 ghost use Rattle.liq_store.specs.Keeping.{IsAtRest};
-ghost use Rattle.liq_store.specs.Standing.{Continues, CountsStand, HoldsTo, IsCounted, IsFaultless, IsFoundOn, IsLeftOn, disk_in};
+ghost use Rattle.liq_store.specs.Standing.{Continues, CountsStand, HoldsTo, IsCounted, IsFaultless, IsFoundOn, IsLeftOn, OnlyShuts, disk_in};
 
 use crate::checkpoint::base;
 use liq_guided::Guided;
@@ -73,6 +73,8 @@ pub fn stand<D: Disk>(alloc: Global, disk: D, odd: bool) -> Result<Stood<D>, Sta
     ensures found { (held : List ℕ) → D.seen disk ≡ Some held → IsFoundOn odd held result }
     ensures left { IfSome (D.seen (disk_in result)) (λ after. IsLeftOn after result) }
     ensures same { IsFaultless result → (held after : List ℕ) → D.seen disk ≡ Some held → D.seen (disk_in result) ≡ Some after → found_on odd after ≡ found_on odd held }
+    ensures shut { IsFaultless result → (held after : List ℕ) → D.seen disk ≡ Some held
+        → D.seen (disk_in result) ≡ Some after → OnlyShuts odd held after }
     ensures rest { IsFaultless result → IsAtRest D.seen D.moment D.left_at (disk_in result) }
     ensures journal { IfOk result (IsCounted odd) }
 

@@ -13,6 +13,7 @@ ghost use Rattle.liq_core.specs.Core.{StandsFor};
 ghost use Rattle.liq_core.specs.Entries.{told_whole};
 ghost use Rattle.liq_rules.specs.View.{all_followed, view_of};
 ghost use Rattle.liq_journal.specs.Causes.{Counted};
+ghost use Rattle.liq_journal.specs.declared.damage.Damage.{Damage};
 ghost use Rattle.liq_journal.specs.Looked.{Looked};
 ghost use Rattle.liq_journal.specs.Opened.{IsUnshut, OpenLeaves};
 ghost use Rattle.liq_journal.specs.Written.{Absent, Open, Written, found_on, is_rotate};
@@ -30,6 +31,7 @@ ghost use Rattle.liq_store.specs.Judging.{disk_of};
 ghost use Rattle.liq_store.specs.Keeping.{IsAtRest, IsInOrder, LeavesPairs};
 ghost use Rattle.liq_store.specs.Opening.{OpensOn, left_after, right_after};
 ghost use Rattle.liq_store.specs.declared.standing.Stood.TheVariants.{Holding};
+ghost use Rattle.liq_store.specs.Standing.{OnlyShuts};
 ghost use Rattle.liq_store.specs.Stored.{disk_beside, taken_disk};
 ghost use Rattle.liq_store.specs.Telling.{told};
 ghost use Rattle.liq_store.specs.Within.{IsWithin, stored};
@@ -125,6 +127,13 @@ impl<D: Disk> Store<D> {
         // Where nothing is opened and no disk met a fault nothing is pending: both disks are synced before either is judged.
         ensures rests { IfErr result (λ e. (e.why ≢ StoreWhy.DiskFault)
             → IsAtRest D.seen D.moment D.left_at e.left × IsAtRest D.seen D.moment D.left_at e.right) }
+
+        // And where one of them is damaged each tells its bytes as they were, or with a 0 at the one
+        // place that an opening shuts.
+        ensures damaged { IfErr result (λ e. (e.why ≢ StoreWhy.DiskFault)
+            → (l r a b : List ℕ) (first : Side × Damage) → D.seen left ≡ Some l → D.seen right ≡ Some r
+            → state_on l r ≡ Err first → D.seen e.left ≡ Some a → D.seen e.right ≡ Some b
+            → OnlyShuts true l a × OnlyShuts false r b) }
 
         // Of two disks that are kept for a state a stop leaves two that are kept for it, or for it after the command that they held
         // unfinished; and so does a fault, whatever was pending.

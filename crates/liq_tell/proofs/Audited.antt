@@ -1,5 +1,5 @@
 -- What is told of the commands on two disks, which are only looked at.
-use Rattle.std.proofs.Common.{◌≡◌, ◌≢◌, ℕ, List, Option, Some, None, Result, Ok, Err, inl, inr, refl, sym, ap, ◌∙◌}
+use Rattle.std.proofs.Common.{◌≡◌, ◌≢◌, ℕ, List, Option, Some, None, Result, Ok, Err, inl, inr, refl, sym, subst, ap, ◌∙◌}
 use Rattle.std.specs.Prelude.{◌⊎◌, ◌↔◌, IsSome}
 use Rattle.liq_types.specs.declared.requests.Command.{Command}
 use Rattle.liq_types.specs.State.{State, opening_with}
@@ -78,6 +78,12 @@ module _ {D : Type 0} (seen : D → Option (List ℕ)) where
   on_tells : (side : Side) (l r : D) → IsSome (seen l) → IsSome (seen r) → IsSome (seen (on side l r))
   on_tells Left l r left right = left
   on_tells Right l r left right = right
+
+  -- one that was only looked at tells them where it did before
+  pub tells_still : (old mid new : D) → (IsSome (seen mid) ↔ IsSome (seen old)) → seen new ≡ seen mid
+      → (IsSome (seen new) ↔ IsSome (seen old))
+  tells_still old mid new telling same =
+      subst (λ (o : Option (List ℕ)). IsSome o ↔ IsSome (seen old)) (sym same) telling
 
   -- the one that is taken tells its bytes where both did before
   pub taken_tells : (side : Side) (ol or nl nr : D) → (IsSome (seen nl) ↔ IsSome (seen ol)) → (IsSome (seen nr) ↔ IsSome (seen or)) → (l r : List ℕ) → seen ol ≡ Some l → seen or ≡ Some r → (now : List ℕ) × (seen (on side nl nr) ≡ Some now)

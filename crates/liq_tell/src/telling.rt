@@ -4,7 +4,7 @@ ghost use Rattle.std.specs.Prelude.{◌≡◌, [], None, Ok, Err};
 ghost use Rattle.liq_outside.specs.Faults.{Rose};
 ghost use Rattle.liq_pairs.specs.Pair.{commands_on};
 ghost use Rattle.liq_ends.specs.Causes.{DisksGoOn, LastCause, WriteCause};
-ghost use Rattle.liq_ends.specs.Disks.{DisksStay, EndsDamaged, IsFaultOfTelling, LeavesOfRun, OfDamage, OfState};
+ghost use Rattle.liq_ends.specs.Disks.{DisksStay, IsFaultOfTelling, LeavesDamaged, LeavesOfRun, OfDamage, OfState};
 ghost use Rattle.liq_ends.specs.Stops.{StopsDamaged};
 ghost use Rattle.liq_tell.specs.Told.{EndsTelling, HasFewLines, MayEnd, WritesTold};
 ghost use Rattle.liq_tell.specs.Whole.{OfJournal, OnlyLooks};
@@ -53,11 +53,12 @@ pub fn tell_on<K: Sink, D: Disk>(
     ensures past { OfState D.seen left right (λ l r start. LeavesOfRun D.seen D.moment D.left_at left right
         (IsFaultOfTelling result.end) l r start [] result.left result.right) }
     // Of damaged disks nothing is told.
-    ensures damaged { OfDamage D.seen left right (λ side damage. StopsDamaged D.seen side damage result.end
+    ensures damaged { OfDamage D.seen left right (λ l r side damage.
+        StopsDamaged D.seen D.moment D.left_at left right l r side damage result.end
         (Rose (K.faults out.old) (K.faults out.new)) (K.held out.old) (K.held out.new) result.left result.right) }
     ensures ends { MayEnd what result.end }
     ensures sink { LastCause result.end (K.faults out.old) (K.faults out.new) }
-    ensures disks { DisksGoOn D.faults D.moment D.left_at left right result.end result.left result.right }
+    ensures disks { DisksGoOn D.seen D.faults D.moment D.left_at left right result.end result.left result.right }
 {
     let ending = tell(alloc, what, out, left, right);
     tell_last(out, ending.end);
@@ -72,11 +73,11 @@ fn tell<K: Sink, D: Disk>(alloc: Global, what: Told, out: &mut K, left: D, right
         × DisksStay D.seen result.end l r start result.left result.right) }
     ensures past { OfState D.seen left right (λ l r start. LeavesOfRun D.seen D.moment D.left_at left right
         (IsFaultOfTelling result.end) l r start [] result.left result.right) }
-    ensures damaged { OfDamage D.seen left right (λ side damage.
-        (out.new ≡ out.old) × EndsDamaged D.seen side damage result.end result.left result.right) }
+    ensures damaged { OfDamage D.seen left right (λ l r side damage. (out.new ≡ out.old)
+        × LeavesDamaged D.seen D.moment D.left_at left right l r side damage result.end result.left result.right) }
     ensures ends { MayEnd what result.end }
     ensures sink { WriteCause result.end (K.faults out.old) (K.faults out.new) }
-    ensures disks { DisksGoOn D.faults D.moment D.left_at left right result.end result.left result.right }
+    ensures disks { DisksGoOn D.seen D.faults D.moment D.left_at left right result.end result.left result.right }
 {
     commands_lead_to_the_state();
     journals_keep_their_limit();

@@ -25,6 +25,6 @@ pub at_start : {D : Type 0} (seen : D → Option (List ℕ)) (faults moment : D 
     → IsAtOrigin seen faults moment left_at (state_of store.core) (disk_at seen faults moment left_at store.left) (disk_at seen faults moment left_at store.right) store
 at_start seen faults moment left_at store stands = record {
   state = stands;
-  left = record { seen = refl; faults = refl; moment = refl; time = record { later = omega arith; past = λ k image early there. there; kept = λ k image early there. there } };
-  right = record { seen = refl; faults = refl; moment = refl; time = record { later = omega arith; past = λ k image early there. there; kept = λ k image early there. there } };
+  left = record { seen = refl; faults = refl; moment = refl; time = record { telling = (λ told. told, λ told. told); later = omega arith; past = λ k image early there. there; kept = λ k image early there. there } };
+  right = record { seen = refl; faults = refl; moment = refl; time = record { telling = (λ told. told, λ told. told); later = omega arith; past = λ k image early there. there; kept = λ k image early there. there } };
 }

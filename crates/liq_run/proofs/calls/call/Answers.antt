@@ -46,10 +46,10 @@ returns-in-DiskFault-clause-past g c begun requests past out =
     c.clear_changes.ensures.cleared c.clear_changes.ensures.order (g.K.Sink.shown c.args.out.now) past command.0 command.1 (c.in-DiskFault.ensures.step c.requires.going) c.in-DiskFault.ensures.disks
 
 pub returns-in-Reply-clause-time : goal.returns-in-Reply-clause-time
-returns-in-Reply-clause-time g c = called g.D.Disk.moment g.D.Disk.left_at g.D.Disk.seen c.args.store.now c.call-answer.new.self c.clear_changes.new.self c.args.request.now _ c.call-answer.ensures.disks c.clear_changes.ensures.cleared
+returns-in-Reply-clause-time g c = called g.D.Disk.seen g.D.Disk.moment g.D.Disk.left_at c.args.store.now c.call-answer.new.self c.clear_changes.new.self c.args.request.now _ c.call-answer.ensures.disks c.clear_changes.ensures.cleared
 
 pub returns-in-NoMemory-clause-time : goal.returns-in-NoMemory-clause-time
-returns-in-NoMemory-clause-time g c = called g.D.Disk.moment g.D.Disk.left_at g.D.Disk.seen c.args.store.now c.call-answer.new.self c.clear_changes.new.self c.args.request.now _ c.call-answer.ensures.disks c.clear_changes.ensures.cleared
+returns-in-NoMemory-clause-time g c = called g.D.Disk.seen g.D.Disk.moment g.D.Disk.left_at c.args.store.now c.call-answer.new.self c.clear_changes.new.self c.args.request.now _ c.call-answer.ensures.disks c.clear_changes.ensures.cleared
 
 pub returns-in-DiskFault-clause-time : goal.returns-in-DiskFault-clause-time
-returns-in-DiskFault-clause-time g c = called g.D.Disk.moment g.D.Disk.left_at g.D.Disk.seen c.args.store.now c.call-answer.new.self c.clear_changes.new.self c.args.request.now _ c.call-answer.ensures.disks c.clear_changes.ensures.cleared
+returns-in-DiskFault-clause-time g c = called g.D.Disk.seen g.D.Disk.moment g.D.Disk.left_at c.args.store.now c.call-answer.new.self c.clear_changes.new.self c.args.request.now _ c.call-answer.ensures.disks c.clear_changes.ensures.cleared

@@ -5,11 +5,13 @@ use Rattle.liq_ends.specs.declared.ending.Ending.{Ending}
 use Rattle.liq_outside.proofs.Moments.{joined}
 use Rattle.liq_store.specs.Causes.{Faults, counts_of}
 use Rattle.liq_ends.specs.Causes.{DiskCause, DisksGoOn}
+use Rattle.liq_ends.specs.Disks.{LeavesDamaged}
 use Rattle.liq_ends.specs.Unopened.{halt_of}
 use Rattle.liq_run.specs.Passing.{Begun}
 use Rattle.liq_run.specs.Progress.{GivesBack}
 use Rattle.liq_run.specs.Turns.{Reached}
 use Rattle.liq_run.proofs.Leaving.{gives_back, unopened_by}
+use Rattle.liq_run.proofs.Passing.{both}
 use Rattle.liq_run.proofs.run.answer_input.Goals as goal
 use Rattle.liq_lines.proofs.Readings.{takes_none}
 
@@ -53,18 +55,36 @@ returns-clause-disks g c =
     let ran = c.answer_all-end in
     let end = ran.result in
     let store = ran.new.self.store in
+    let seen = g.D.Disk.seen in
     let faults = g.D.Disk.faults in
     let moment = g.D.Disk.moment in
     let left_at = g.D.Disk.left_at in
-    let goes_on : DisksGoOn faults moment left_at c.args.left c.args.right end store.left store.right = record {
+    let goes_on : DisksGoOn seen faults moment left_at c.args.left c.args.right end store.left store.right = record {
       count = subst (λ (before : Faults). DiskCause end before (counts_of faults store.left store.right)) opened.opened.0.counts ran.ensures.disks;
       left_time = joined moment left_at _ _ _ opened.time.0 ran.ensures.time.left;
       right_time = joined moment left_at _ _ _ opened.time.1 ran.ensures.time.right;
+      left_telling = both opened.telling.0 ran.ensures.time.left_telling;
+      right_telling = both opened.telling.1 ran.ensures.time.right_telling;
     } in
-    let given : (s : Stored g.row.D.Denot) → s ≡ store → DisksGoOn faults moment left_at c.args.left c.args.right end s.left s.right =
-    λ s same. subst (λ (s : Stored g.row.D.Denot). DisksGoOn faults moment left_at c.args.left c.args.right end s.left s.right) (sym same) goes_on in
-    subst (λ (e : Ending g.row.D.Denot). DisksGoOn faults moment left_at c.args.left c.args.right e.end e.left e.right) (sym c.closed.ensures.is)
+    let given : (s : Stored g.row.D.Denot) → s ≡ store → DisksGoOn seen faults moment left_at c.args.left c.args.right end s.left s.right =
+    λ s same. subst (λ (s : Stored g.row.D.Denot). DisksGoOn seen faults moment left_at c.args.left c.args.right end s.left s.right) (sym same) goes_on in
+    subst (λ (e : Ending g.row.D.Denot). DisksGoOn seen faults moment left_at c.args.left c.args.right e.end e.left e.right) (sym c.closed.ensures.is)
     (given c.into_store.result c.into_store.ensures)
+
+pub returns-in-Err-clause-disks : goal.returns-in-Err-clause-disks
+returns-in-Err-clause-disks g c =
+    subst (λ (e : Ending g.row.D.Denot).
+    DisksGoOn g.D.Disk.seen g.D.Disk.faults g.D.Disk.moment g.D.Disk.left_at c.args.left c.args.right e.end e.left e.right)
+    (sym c.unopened.ensures) c.in-Err.ensures.disks
+
+pub returns-in-Err-clause-damaged : goal.returns-in-Err-clause-damaged
+returns-in-Err-clause-damaged g c l r told_l told_r side damage is = (
+  refl,
+  c.in-Err.ensures.untouched,
+  subst (λ (e : Ending g.row.D.Denot).
+      LeavesDamaged g.D.Disk.seen g.D.Disk.moment g.D.Disk.left_at c.args.left c.args.right l r side damage e.end e.left
+      e.right) (sym c.unopened.ensures) (c.in-Err.ensures.damaged l r told_l told_r side damage is),
+)
 
 pub returns-clause-damaged : goal.returns-clause-damaged
 returns-clause-damaged g c l r told_l told_r side damage is =

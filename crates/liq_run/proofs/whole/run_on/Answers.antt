@@ -2,7 +2,7 @@ use Rattle.std.proofs.Common.{List, [], Option, Err, Result, sym, subst}
 use Rattle.liq_outside.specs.declared.showing.Showing.{Showing}
 use Rattle.liq_outside.specs.Faults.{Rose}
 use Rattle.liq_ends.specs.declared.halts.Halt.{Halt}
-use Rattle.liq_ends.specs.Disks.{EndsDamaged}
+use Rattle.liq_ends.specs.Disks.{LeavesDamaged}
 use Rattle.liq_ends.specs.Output.{last}
 use Rattle.liq_ends.specs.Stops.{Adds, EndsIn}
 use Rattle.liq_ends.proofs.EndingLines.{rose_later, adds_weaker}
@@ -52,7 +52,9 @@ returns-in-Err-clause-damaged g c l r told_l told_r side damage is =
       (
         halt,
         c.in-Err.is,
-        subst (λ (e : Result (Unit {0}) Halt). EndsDamaged g.D.Disk.seen side damage e ran.result.left ran.result.right) c.in-Err.is found.2,
+        subst (λ (e : Result (Unit {0}) Halt).
+            LeavesDamaged g.D.Disk.seen g.D.Disk.moment g.D.Disk.left_at c.args.left c.args.right l r side damage e
+            ran.result.left ran.result.right) c.in-Err.is found.2,
         subst (λ o. Adds [] (last halt) (Rose (faults o) (faults after)) (held o) (held after)) found.1 c.write_last.ensures.written,
       ),
     )
@@ -61,5 +63,5 @@ pub returns-in_default-clause-damaged : goal.returns-in_default-clause-damaged
 returns-in_default-clause-damaged g c l r told_l told_r side damage is =
     let ran = c.answer_input-ending in
     let found = ran.ensures.damaged l r told_l told_r side damage is in
-    let halts = damaged_halts g.D.Disk.seen side damage ran.result.end ran.result.left ran.result.right found.2 in
+    let halts = damaged_halts g.D.Disk.seen side damage ran.result.end ran.result.left ran.result.right found.2.ends in
     absurd (c.in_default.not-Err halts.0 halts.1)

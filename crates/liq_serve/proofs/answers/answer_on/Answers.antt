@@ -3,7 +3,7 @@ use Rattle.liq_pairs.specs.Pair.{commands_on, state_on}
 use Rattle.liq_ends.specs.declared.ending.Ending.{Ending}
 use Rattle.liq_ends.specs.declared.halts.Halt.{Halt}
 use Rattle.liq_ends.specs.Causes.{ReadCause}
-use Rattle.liq_ends.specs.Disks.{EndsDamaged}
+use Rattle.liq_ends.specs.Disks.{LeavesDamaged}
 use Rattle.liq_ends.specs.Stops.{TellsBehind}
 use Rattle.liq_outside.specs.Faults.{Rose}
 use Rattle.liq_ends.proofs.Causes.{unread_causes}
@@ -34,8 +34,8 @@ returns-in-Ok-clause-answered g c =
     (so.0.0, text, so.1, ran.ensures.past l r told_l told_r start is))
     (λ side damage is.
     let found = ran.ensures.damaged l r told_l told_r side damage is in
-    let told = last_told g.S.Source.left g.S.Source.faults held g.K.Sink.shown faults seen g.D.Disk.faults g.D.Disk.moment g.D.Disk.left_at before after side damage found.0 found.2 found.3 in
-    subst (λ (e : Result (Unit {0}) Halt). EndsDamaged seen side damage e ran.result.left ran.result.right × TellsBehind [] [] e (Rose (faults c.args.out.now) (faults ran.new.out)) (held c.args.out.now) (held ran.new.out))
+    let told = last_told g.S.Source.left g.S.Source.faults held g.K.Sink.shown faults seen g.D.Disk.faults g.D.Disk.moment g.D.Disk.left_at before after side damage found.0 found.2.ends found.3 in
+    subst (λ (e : Result (Unit {0}) Halt). LeavesDamaged seen g.D.Disk.moment g.D.Disk.left_at c.args.left c.args.right l r side damage e ran.result.left ran.result.right × TellsBehind [] [] e (Rose (faults c.args.out.now) (faults ran.new.out)) (held c.args.out.now) (held ran.new.out))
     (sym found.1) (found.2, told)))
 
 pub returns-in-Err-clause-answered : goal.returns-in-Err-clause-answered

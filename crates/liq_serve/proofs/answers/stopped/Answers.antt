@@ -13,5 +13,5 @@ returns-clause-sink g c =
 
 pub returns-clause-disks : goal.returns-clause-disks
 returns-clause-disks g c =
-    subst (λ (halt : Halt). DisksGoOn g.D.Disk.faults g.D.Disk.moment g.D.Disk.left_at c.args.left c.args.right (Err halt) c.args.left c.args.right) (sym c.halt_at-halt.ensures)
-    (same_go_on g.D.Disk.faults g.D.Disk.moment g.D.Disk.left_at c.args.left c.args.right _ (stop_disks c.args.stop (counts_of g.D.Disk.faults c.args.left c.args.right)))
+    subst (λ (halt : Halt). DisksGoOn g.D.Disk.seen g.D.Disk.faults g.D.Disk.moment g.D.Disk.left_at c.args.left c.args.right (Err halt) c.args.left c.args.right) (sym c.halt_at-halt.ensures)
+    (same_go_on g.D.Disk.seen g.D.Disk.faults g.D.Disk.moment g.D.Disk.left_at c.args.left c.args.right _ (stop_disks c.args.stop (counts_of g.D.Disk.faults c.args.left c.args.right)))

@@ -84,7 +84,7 @@ returns-in-Follow g c words asks only =
     (record {
       source = ran.ensures.source;
       sink = ran.ensures.sink;
-      disks = same_go_on g.D.Disk.faults g.D.Disk.moment g.D.Disk.left_at c.args.left c.args.right ran.result (disks_unfollowed ran.result so.0 left so.2.0 so.2.1 _);
+      disks = same_go_on g.D.Disk.seen g.D.Disk.faults g.D.Disk.moment g.D.Disk.left_at c.args.left c.args.right ran.result (disks_unfollowed ran.result so.0 left so.2.0 so.2.1 _);
     })
     (so.0, so.1, taken_followed ran.result so.0 left so.2.0 so.2.1)
 
@@ -100,7 +100,7 @@ returns-in-Gen g c words asks only =
     (record {
       source = source_unasked ran.result _ ran.ensures.ends;
       sink = ran.ensures.sink;
-      disks = same_go_on g.D.Disk.faults g.D.Disk.moment g.D.Disk.left_at c.args.left c.args.right ran.result (disks_unasked ran.result _ ran.ensures.ends);
+      disks = same_go_on g.D.Disk.seen g.D.Disk.faults g.D.Disk.moment g.D.Disk.left_at c.args.left c.args.right ran.result (disks_unasked ran.result _ ran.ensures.ends);
     })
     (takes_none (g.S.Source.left c.args.input.now))
 

@@ -1,4 +1,5 @@
 use Rattle.std.proofs.Common.{rules, ◌≡◌, refl, Ok, ℕ, List, [], Option, sym, subst, ap, ◌∙◌}
+use Rattle.std.specs.Prelude.{◌↔◌, IsSome}
 use Rattle.liq_types.specs.declared.requests.Command.{Command}
 use Rattle.liq_types.specs.State.{opening_with}
 use Rattle.liq_pairs.specs.Pair.{commands_on}
@@ -9,13 +10,16 @@ use Rattle.liq_outside.proofs.Moments.{joined}
 use Rattle.liq_store.specs.Keeping.{IsInOrderWith}
 use Rattle.liq_store.specs.Leaving.{LeavesBoth}
 use Rattle.liq_store.proofs.Past.{begins, ends_kept}
-use Rattle.liq_ends.specs.Disks.{DisksStay, IsFaultOfTelling, LeavesOfRun}
+use Rattle.liq_ends.specs.Causes.{DisksGoOn}
+use Rattle.liq_ends.specs.Disks.{DisksStay, IsFaultOfTelling, LeavesDamaged, LeavesOfRun}
+use Rattle.liq_ends.proofs.Causes.{unopened_cause}
+use Rattle.liq_ends.proofs.Damaged.{unopened_damaged}
 use Rattle.liq_ends.proofs.Opened.{is_some_of, opened_at, opened_still}
 use Rattle.liq_ends.proofs.Passing.{looked_past, unopened_past}
 use Rattle.liq_tell.specs.Told.{WritesTold}
-use Rattle.liq_tell.proofs.Audited.{stand_too, taken_tells}
+use Rattle.liq_tell.proofs.Audited.{stand_too, taken_tells, tells_still}
 use Rattle.liq_tell.proofs.Generations.{opened_from_one}
-use Rattle.liq_tell.proofs.Standing.{not_told, disks_stay, ends_damaged}
+use Rattle.liq_tell.proofs.Standing.{not_told, disks_stay}
 use Rattle.liq_tell.proofs.telling.tell.Goals as goal
 
 pub returns-in-Err-clause-told : goal.returns-in-Err-clause-told
@@ -29,7 +33,20 @@ returns-in-Err-clause-told g c l r told_l told_r start is =
     (sym c.unopened.ensures) found
 
 pub returns-in-Err-clause-damaged : goal.returns-in-Err-clause-damaged
-returns-in-Err-clause-damaged g c l r told_l told_r side damage is = (refl, ends_damaged g.D.Disk.seen g.D.Disk.faults c.in-Err.fault c.args.left c.args.right c.in-Err.ensures.not_opened _ c.unopened.ensures l r told_l told_r side damage is)
+returns-in-Err-clause-damaged g c l r told_l told_r side damage is =
+    let seen = g.D.Disk.seen in
+    let moment = g.D.Disk.moment in
+    let left_at = g.D.Disk.left_at in
+    let fault = c.in-Err.fault in
+    let opens = c.in-Err.ensures in (
+      refl,
+      subst (λ (e : Ending g.row.D.Denot).
+          LeavesDamaged seen moment left_at c.args.left c.args.right l r side damage e.end e.left e.right)
+          (sym c.unopened.ensures)
+          (unopened_damaged seen moment left_at c.args.left c.args.right l r side damage told_l told_r is
+          g.D.Disk.faults fault.left fault.right fault.why opens.not_opened (opens.left_leaves l r told_l told_r)
+          (opens.right_leaves r told_r) (λ other a b. opens.damaged other l r a b (side, damage) told_l told_r is)),
+    )
 
 pub returns-clause-told : goal.returns-clause-told
 returns-clause-told g c l r told_l told_r start is =
@@ -94,8 +111,23 @@ returns-clause-past g c l r told_l told_r start is only_l only_r kept =
     (looked_past seen moment left_at stays c.args.left c.args.right end l r start store.left store.right left.left left.right past.later wrote.ensures.disks.left wrote.ensures.disks.right now.left now.right past.leaves
     (ends_kept seen moment left_at stays _ l r start [] store past opens.order)))
 
+pub returns-in-Err-clause-disks : goal.returns-in-Err-clause-disks
+returns-in-Err-clause-disks g c =
+    let opens = c.in-Err.ensures in
+    let faults = g.D.Disk.faults in
+    subst (λ (e : Ending g.row.D.Denot).
+    DisksGoOn g.D.Disk.seen faults g.D.Disk.moment g.D.Disk.left_at c.args.left c.args.right e.end e.left e.right)
+    (sym c.unopened.ensures) (record {
+      count = unopened_cause c.in-Err.fault.why _ _ opens.not_opened.cause;
+      left_time = opens.left_time;
+      right_time = opens.right_time;
+      left_telling = opens.left_telling;
+      right_telling = opens.right_telling;
+    })
+
 pub returns-clause-disks : goal.returns-clause-disks
 returns-clause-disks g c =
+    let seen = g.D.Disk.seen in
     let moment = g.D.Disk.moment in
     let left_at = g.D.Disk.left_at in
     let looked = c.write_told-end.ensures.disks in
@@ -107,4 +139,8 @@ returns-clause-disks g c =
           (joined moment left_at c.args.left opened.left closed.left c.in-Ok.ensures.left_time looked.left.leaves.goes_on);
       right_time = subst (GoesOn moment left_at c.args.right) (sym c.close-left.ensures.right)
           (joined moment left_at c.args.right opened.right closed.right c.in-Ok.ensures.right_time looked.right.leaves.goes_on);
+      left_telling = subst (λ (d : g.row.D.Denot). IsSome (seen d) ↔ IsSome (seen c.args.left)) (sym c.close-left.ensures.left)
+          (tells_still seen c.args.left opened.left closed.left c.in-Ok.ensures.left_telling looked.left.same);
+      right_telling = subst (λ (d : g.row.D.Denot). IsSome (seen d) ↔ IsSome (seen c.args.right)) (sym c.close-left.ensures.right)
+          (tells_still seen c.args.right opened.right closed.right c.in-Ok.ensures.right_telling looked.right.same);
     }

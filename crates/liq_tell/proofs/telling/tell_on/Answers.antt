@@ -21,4 +21,6 @@ pub returns-clause-damaged : goal.returns-clause-damaged
 returns-clause-damaged g c l r told_l told_r side damage is =
     let ran = c.tell-ending in
     let found = ran.ensures.damaged l r told_l told_r side damage is in
-    damaged_told g.D.Disk.seen g.K.Sink.faults g.K.Sink.held c.args.out.now ran.new.out c.tell_last.new.out side damage ran.result.end ran.result.left ran.result.right found.0 found.1 c.tell_last.ensures.last
+    damaged_told g.D.Disk.seen g.D.Disk.moment g.D.Disk.left_at c.args.left c.args.right l r g.K.Sink.faults g.K.Sink.held
+    c.args.out.now ran.new.out c.tell_last.new.out side damage ran.result.end ran.result.left ran.result.right found.0
+    found.1 c.tell_last.ensures.last

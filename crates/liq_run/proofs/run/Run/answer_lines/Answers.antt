@@ -20,7 +20,7 @@ loop-answered-init g c = record {
       subst (λ (before : Option (List ℕ)). Answered begun.start bytes 0 c.args.self.now.store.core (unread c.args.self.now.reader (g.S.Source.left c.args.input.now)) c.args.self.now.waiting.items begun.held before
       (λ requests. IsPastOf g.D.Disk.seen g.D.Disk.moment g.D.Disk.left_at begun requests c.args.self.now.store (g.K.Sink.shown c.args.out.now))) held
       (opened begun.start bytes c.args.self.now.reader c.args.self.now.waiting.items c.args.self.now.store.core (g.S.Source.left c.args.input.now) begun.held _ past.past.stands c.requires.unread c.requires.waiting told past);
-  time = still g.D.Disk.moment g.D.Disk.left_at c.args.self.now.store;
+  time = still g.D.Disk.seen g.D.Disk.moment g.D.Disk.left_at c.args.self.now.store;
   few = few_begins (g.S.Source.left c.args.input.now) c.args.self.now.reader c.requires.unread;
   going = c.requires.going;
   disks_count = refl;
@@ -35,7 +35,7 @@ returns-then-not-branch-clause-run g c begun bytes told held past =
 pub loop-answered-preserved : goal.loop-answered-preserved
 loop-answered-preserved g c = record {
   answered = λ begun bytes told held past. (rw c.if-not-branch.false at c.in_ok-turn.ensures.turn).turn begun bytes (c.loop-answered.invariant.answered begun bytes told held past);
-  time = behind g.D.Disk.moment g.D.Disk.left_at _ _ _ c.loop-answered.invariant.time c.turn.ensures.shows.time;
+  time = behind g.D.Disk.seen g.D.Disk.moment g.D.Disk.left_at _ _ _ c.loop-answered.invariant.time c.turn.ensures.shows.time;
   few = c.turn.ensures.turn.few (g.S.Source.left c.args.input.now) c.loop-answered.invariant.few;
   going = c.in_ok-turn.ensures.shows.stopped;
   disks_count = c.in_ok-turn.ensures.shows.disks ∙ c.loop-answered.invariant.disks_count;
@@ -117,7 +117,7 @@ returns-then-not-branch-clause-shows g c =
       source = h.source ∙ before.source_count;
       sink = h.sink ∙ before.sink_count;
       stopped = h.stopped;
-      time = behind g.D.Disk.moment g.D.Disk.left_at _ _ _ before.time h.time;
+      time = behind g.D.Disk.seen g.D.Disk.moment g.D.Disk.left_at _ _ _ before.time h.time;
       disks = h.disks ∙ before.disks_count;
     }
 
@@ -125,8 +125,8 @@ pub returns-in_err-turn-clause-shows : goal.returns-in_err-turn-clause-shows
 returns-in_err-turn-clause-shows g c =
     let before = c.loop-answered.invariant in
     let halt = c.in_err-turn.field-0.0 in
-    let shows = shows_behind g.D.Disk.faults g.D.Disk.moment g.D.Disk.left_at _ _ _ _ _ _ _ _ _ _ _ before.time before.disks_count before.source_count before.sink_count c.in_err-turn.ensures.shows in
-    shows_halt g.D.Disk.faults g.D.Disk.moment g.D.Disk.left_at _ _ _ _ _ _ _ c.from_residual.result halt (handed_on c.from_residual.result halt c.from_residual.ensures.1) shows
+    let shows = shows_behind g.D.Disk.seen g.D.Disk.faults g.D.Disk.moment g.D.Disk.left_at _ _ _ _ _ _ _ _ _ _ _ before.time before.disks_count before.source_count before.sink_count c.in_err-turn.ensures.shows in
+    shows_halt g.D.Disk.seen g.D.Disk.faults g.D.Disk.moment g.D.Disk.left_at _ _ _ _ _ _ _ c.from_residual.result halt (handed_on c.from_residual.result halt c.from_residual.ensures.1) shows
 
 pub returns-in-Ok-None-clause-shows : goal.returns-in-Ok-None-clause-shows
 returns-in-Ok-None-clause-shows g c =
@@ -175,4 +175,4 @@ returns-in_err-flush-clause-shows g c =
     let end = c.from_residual-in_err-flush.result in
     let cut = cut_at end halt _ _ _ _ c.from_residual-in_err-flush.ensures.1 c.in_err-flush.ensures.written in
     let cause = subst (λ (e : Result (Unit {0}) Halt). WriteCause e (g.K.Sink.faults c.loop-answered.out) (g.K.Sink.faults c.flush.new.out)) (sym (handed_on end halt c.from_residual-in_err-flush.ensures.1)) c.in_err-flush.ensures.cause in
-    shows_cut g.D.Disk.faults g.D.Disk.moment g.D.Disk.left_at _ _ _ _ _ _ _ end _ cut c.flush.ensures.empty before.source_count before.sink_count cause before.going before.time before.disks_count
+    shows_cut g.D.Disk.seen g.D.Disk.faults g.D.Disk.moment g.D.Disk.left_at _ _ _ _ _ _ _ end _ cut c.flush.ensures.empty before.source_count before.sink_count cause before.going before.time before.disks_count

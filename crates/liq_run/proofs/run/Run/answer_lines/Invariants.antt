@@ -17,7 +17,7 @@ invariant-loop-answered g l =
           → HasAnswered g.D.Disk.seen g.D.Disk.moment g.D.Disk.left_at begun bytes l.answered
           (record { store = l.self.store; taken = l.self.reader; left = left l.input; waiting = l.self.waiting.items; held = held l.out; shown = g.K.Sink.shown l.out });
       few : ReadsFew (left l.fn.input) l.answered l.self.reader (left l.input);
-      time : GoOn g.D.Disk.moment g.D.Disk.left_at l.fn.self.store l.self.store;
+      time : GoOn g.D.Disk.seen g.D.Disk.moment g.D.Disk.left_at l.fn.self.store l.self.store;
       going : l.self.store.stopped ≡ None;
       disks_count : counts_of g.D.Disk.faults l.self.store.left l.self.store.right ≡ counts_of g.D.Disk.faults l.fn.self.store.left l.fn.self.store.right;
       source_count : g.S.Source.faults l.input ≡ g.S.Source.faults l.fn.input;

@@ -1,7 +1,10 @@
-use Rattle.std.proofs.Common.{rules, subst, sym}
+use Rattle.std.proofs.Common.{rules, refl, subst, sym}
+use Rattle.std.specs.Prelude.{◌↔◌, IsSome}
 use Rattle.liq_outside.specs.Disk.{GoesOn}
+use Rattle.liq_outside.proofs.Moments.{unmoved}
 use Rattle.liq_store.specs.Stored.{Stored}
-use Rattle.liq_ends.proofs.Opened.{is_some_of}
+use Rattle.liq_ends.proofs.Causes.{unopened_cause}
+use Rattle.liq_ends.proofs.Damaged.{unopened_damaged, untouched_damaged}
 use Rattle.liq_ends.proofs.Passing.{unopened_past}
 use Rattle.liq_run.proofs.Cleared.{opens_cleared}
 use Rattle.liq_run.proofs.Passing.{begins_run, begins_untouched}
@@ -24,8 +27,6 @@ returns-in-Err-open-clause-begins_none g c l r start told_l told_r is =
     let fault = c.in-Err-open.fault in
     let opens = c.in-Err-open.ensures in
     record {
-      left_tells = opens.left_telling.1 (is_some_of (g.D.Disk.seen c.args.left) l told_l);
-      right_tells = opens.right_telling.1 (is_some_of (g.D.Disk.seen c.args.right) r told_r);
       left_time = opens.left_time.later;
       right_time = opens.right_time.later;
       past = unopened_past g.D.Disk.seen g.D.Disk.moment g.D.Disk.left_at g.met.D.Disk.seen_may_stay g.D.Disk.faults fault.why fault.left fault.right c.args.left c.args.right
@@ -43,3 +44,46 @@ returns-in-Ok-open-clause-time g c =
       subst (λ (s : Stored g.row.D.Denot). GoesOn g.D.Disk.moment g.D.Disk.left_at c.args.left s.left) (sym c.clear_changes.ensures.cleared) opens.left_time,
       subst (λ (s : Stored g.row.D.Denot). GoesOn g.D.Disk.moment g.D.Disk.left_at c.args.right s.right) (sym c.clear_changes.ensures.cleared) opens.right_time,
     )
+
+pub returns-in-Ok-open-clause-telling : goal.returns-in-Ok-open-clause-telling
+returns-in-Ok-open-clause-telling g c =
+    let seen = g.D.Disk.seen in
+    let opens = c.in-Ok-open.ensures in
+    subst (λ (s : Stored g.row.D.Denot).
+    (IsSome (seen s.left) ↔ IsSome (seen c.args.left)) × (IsSome (seen s.right) ↔ IsSome (seen c.args.right)))
+    (sym c.clear_changes.ensures.cleared) (opens.left_telling, opens.right_telling)
+
+-- ---- none was opened
+
+pub returns-in-Err-open-clause-disks : goal.returns-in-Err-open-clause-disks
+returns-in-Err-open-clause-disks g c =
+    let opens = c.in-Err-open.ensures in
+    record {
+      count = unopened_cause c.in-Err-open.fault.why _ _ opens.not_opened.cause;
+      left_time = opens.left_time;
+      right_time = opens.right_time;
+      left_telling = opens.left_telling;
+      right_telling = opens.right_telling;
+    }
+
+pub returns-in-Err-clause-disks : goal.returns-in-Err-clause-disks
+returns-in-Err-clause-disks g c = record {
+  count = refl;
+  left_time = unmoved g.D.Disk.moment g.D.Disk.left_at c.args.left;
+  right_time = unmoved g.D.Disk.moment g.D.Disk.left_at c.args.right;
+  left_telling = (λ tells. tells, λ tells. tells);
+  right_telling = (λ tells. tells, λ tells. tells);
+}
+
+pub returns-in-Err-open-clause-damaged : goal.returns-in-Err-open-clause-damaged
+returns-in-Err-open-clause-damaged g c l r told_l told_r side damage is =
+    let fault = c.in-Err-open.fault in
+    let opens = c.in-Err-open.ensures in
+    unopened_damaged g.D.Disk.seen g.D.Disk.moment g.D.Disk.left_at c.args.left c.args.right l r side damage told_l told_r
+    is g.D.Disk.faults fault.left fault.right fault.why opens.not_opened (opens.left_leaves l r told_l told_r)
+    (opens.right_leaves r told_r) (λ other a b. opens.damaged other l r a b (side, damage) told_l told_r is)
+
+pub returns-in-Err-clause-damaged : goal.returns-in-Err-clause-damaged
+returns-in-Err-clause-damaged g c l r told_l told_r side damage is =
+    untouched_damaged g.D.Disk.seen g.D.Disk.moment g.D.Disk.left_at c.args.left c.args.right l r side damage told_l
+    told_r is

@@ -2,7 +2,7 @@ use Rattle.std.proofs.Common.{◌≡◌, ℕ, List, Some, true, false, Ok, rules
 use Rattle.liq_outside.specs.Disk.{LeftNow, Only}
 use Rattle.liq_pairs.proofs.Recovering.{recovered}
 use Rattle.liq_store.specs.Opening.{left_after, right_after}
-use Rattle.liq_store.proofs.Opening.{begun_not, begun_opened, begun_reads_kept, both_fine, judged_not, judged_rests, left_begun, left_opened, right_opened, same_disk, stood_on}
+use Rattle.liq_store.proofs.Opening.{begun_not, begun_opened, begun_reads_kept, begun_undamaged, both_fine, judged_not, judged_rests, judged_shuts, left_begun, left_opened, right_opened, same_disk, stood_on}
 use Rattle.liq_store.proofs.store.Store.open.Goals as goal
 
 pub begin_told-requires : goal.begin_told-requires
@@ -26,6 +26,7 @@ returns-in-Ok g c =
       followed = c.begin_told.ensures.followed;
       shut = c.begin_told.ensures.shut;
       rests = c.begin_told.ensures.rests;
+      damaged = begun_undamaged g.D.Disk.seen g.D.Disk.moment g.D.Disk.left_at g.D.Disk.faults c.args.left c.args.right c.in-Ok.left c.in-Ok.right both.0 both.1 c.begin_told.result;
       recovers = λ l r s tl tr only_l only_r kept x y lx ly. recovered l r x y s kept ((left_leaves l r tl tr only_l).each x lx) ((right_leaves r tr only_r).each y ly);
       reads = begun_reads_kept g.D.Disk.seen g.D.Disk.moment g.D.Disk.left_at g.D.Disk.faults c.args.left c.args.right c.in-Ok.left c.in-Ok.right both.0 both.1 c.begin_told.result c.begin_told.ensures.left c.begin_told.ensures.right;
       left_leaves = left_leaves;
@@ -48,6 +49,8 @@ returns-in-Err g c =
       followed = tt;
       shut = tt;
       rests = judged_rests g.D.Disk.seen g.D.Disk.moment g.D.Disk.left_at g.D.Disk.faults c.args.left c.args.right c.stand-left.result c.stand-right.result c.stand-left.ensures c.stand-right.ensures c.in-Err.fault c.in-Err.ensures.left c.in-Err.ensures.right c.in-Err.ensures.why;
+      damaged = λ other l r a b first tl tr is ta tb. judged_shuts g.D.Disk.seen g.D.Disk.moment g.D.Disk.left_at g.D.Disk.faults c.args.left c.args.right c.stand-left.result c.stand-right.result c.stand-left.ensures c.stand-right.ensures c.in-Err.fault c.in-Err.ensures.left c.in-Err.ensures.right c.in-Err.ensures.why
+          other l r a b tl tr ta tb;
       recovers = λ l r s tl tr only_l only_r kept x y lx ly. recovered l r x y s kept ((left_leaves l r tl only_l).each x lx) ((right_leaves r tr only_r).each y ly);
       reads = tt;
       left_leaves = λ l r tl tr only. left_leaves l r tl only;

@@ -1,0 +1,76 @@
+-- The disks of a word of which one is damaged.
+use Rattle.std.proofs.Common.{◌≡◌, ◌≢◌, ℕ, List, Option, Some, Result, Err, true, false, sym, ap, ap₂, ◌∙◌, inl, inr}
+use Rattle.liq_outside.specs.Disk.{LeavesOnly, LeftNow, Only}
+use Rattle.liq_outside.proofs.Moments.{started, weaker}
+use Rattle.liq_types.specs.State.{State}
+use Rattle.liq_journal.specs.declared.damage.Damage.{Damage}
+use Rattle.liq_journal.specs.Opened.{OpenLeaves}
+use Rattle.liq_pairs.specs.declared.side.Side.{Side}
+use Rattle.liq_pairs.specs.Pair.{state_on}
+use Rattle.liq_pairs.specs.Unfinished.{LeftLeaves}
+use Rattle.liq_pairs.proofs.Standings.{state_none}
+use Rattle.liq_store.specs.declared.answers.StoreWhy.{StoreWhy}
+use Rattle.liq_store.specs.declared.answers.StoreWhy.TheVariants as why
+use Rattle.liq_store.specs.Opening.{IsNotOpened}
+use Rattle.liq_store.specs.Standing.{OnlyShuts}
+use Rattle.liq_ends.specs.declared.halts.Halt.TheVariants.{NoMemory}
+use Rattle.liq_ends.specs.Disks.{EndsDamaged, LeavesDamaged}
+use Rattle.liq_ends.specs.Unopened.{halt_of}
+
+-- two disks have one first damage
+first_damage : (found : Result State (Side × Damage)) (a b : Side × Damage) → found ≡ Err a → found ≡ Err b → a ≡ b
+first_damage found a b one other = cc
+
+-- where one is damaged no generation is created
+pub left_opened : (l r image : List ℕ) (first : Side × Damage) → LeftLeaves l r image → state_on l r ≡ Err first
+    → OpenLeaves true l image
+left_opened l r image first (inl opened) is = opened
+left_opened l r image first (inr created) is = absurd (cc (state_none l r created.0 created.1, is))
+
+module _ {D : Type 0} (seen : D → Option (List ℕ)) (moment : D → ℕ) (left_at : D → ℕ → List ℕ → Type 0)
+    (left right : D) (l r : List ℕ) (side : Side) (damage : Damage) (told_l : seen left ≡ Some l)
+    (told_r : seen right ≡ Some r) (is : state_on l r ≡ Err (side, damage)) where
+  same_left : (a : List ℕ) → seen left ≡ Some a → a ≡ l
+  same_left a told_a = cc (sym told_a ∙ told_l)
+
+  same_right : (b : List ℕ) → seen right ≡ Some b → b ≡ r
+  same_right b told_b = cc (sym told_b ∙ told_r)
+
+  -- nobody touched them, for want of memory
+  pub untouched_damaged : LeavesDamaged seen moment left_at left right l r side damage (Err NoMemory) left right
+  untouched_damaged = record {
+    ends = λ a b told_a told_b. ap₂ state_on (same_left a told_a) (same_right b told_b) ∙ is;
+    left_leaves = λ only. started moment left_at left (OpenLeaves true l) (λ image at. inl (only image at));
+    right_leaves = λ only. started moment left_at right (OpenLeaves false r) (λ image at. inl (only image at));
+    shut = λ other a b told_a told_b. (inl (same_left a told_a), inl (same_right b told_b));
+  }
+
+  module _ (faults : D → ℕ) (fl fr : D) where
+    unopened_ends : (why_is : StoreWhy)
+        → IsNotOpened seen faults left right (record { left = fl; right = fr; why = why_is })
+        → EndsDamaged seen side damage (Err (halt_of why_is)) fl fr
+    unopened_ends why.DiskFault h = tt
+    unopened_ends (why.Damaged which found) h =
+        let same = first_damage (state_on l r) (which, found) (side, damage) (h.is_why l r told_l told_r) is in (
+          ap (λ (d : Side × Damage). d.0) same,
+          ap (λ (d : Side × Damage). d.1.index) same,
+          λ a b told_a told_b. h.stays (λ e. cc) l r a b told_l told_r told_a told_b ∙ is,
+        )
+    unopened_ends why.NoMemory h = λ a b told_a told_b.
+        h.stays (λ e. cc) l r a b told_l told_r told_a told_b ∙ is
+
+    -- no store was opened
+    pub unopened_damaged : (why_is : StoreWhy)
+        → IsNotOpened seen faults left right (record { left = fl; right = fr; why = why_is })
+        → (Only l (LeftNow moment left_at left) → LeavesOnly moment left_at left fl (LeftLeaves l r))
+        → (Only r (LeftNow moment left_at right) → LeavesOnly moment left_at right fr (OpenLeaves false r))
+        → (why_is ≢ why.DiskFault → (a b : List ℕ) → seen fl ≡ Some a → seen fr ≡ Some b
+        → OnlyShuts true l a × OnlyShuts false r b)
+        → LeavesDamaged seen moment left_at left right l r side damage (Err (halt_of why_is)) fl fr
+    unopened_damaged why_is h left_so right_so shut_so = record {
+      ends = unopened_ends why_is h;
+      left_leaves = λ only. weaker moment left_at left fl (LeftLeaves l r) (OpenLeaves true l) (left_so only)
+          (λ image at. left_opened l r image (side, damage) at is);
+      right_leaves = right_so;
+      shut = λ other. shut_so (λ w. other (ap (λ (y : StoreWhy). Err (halt_of y)) w));
+    }
