@@ -12,6 +12,7 @@ use Rattle.liq_rules.specs.History.{Entry, state_after}
 use Rattle.liq_rules.specs.View.{view_of, view_after}
 use Rattle.liq_version.specs.Versions.{Numbered, empty_version}
 use Rattle.liq_views.specs.Batches.{Given, version_after, with_batch, last_from}
+use Rattle.liq_book.specs.Opened.{IsVersionOf}
 use Rattle.liq_book.specs.Publishing.{AreViews}
 
 -- ---- the version of batches
@@ -21,6 +22,10 @@ seen_after batches = (version_after batches).view
 
 one_more : (batches : List Given) (b : Given) → seen_after (batches ++ b ∷ []) ≡ all_followed (seen_after batches) b.changes
 one_more batches b = ap (λ (v : Numbered). v.view) (fold-append with_batch empty_version batches (b ∷ []))
+
+-- its number is that of the last one
+number_more : (batches : List Given) (b : Given) → (version_after (batches ++ b ∷ [])).number ≡ b.number
+number_more batches b = ap (λ (v : Numbered). v.number) (fold-append with_batch empty_version batches (b ∷ []))
 
 all_ascend : (v : Numbered) (batches : List Given) → IsAscending v.view.list → IsAscending (fold with_batch v batches).view.list
 all_ascend v [] h = h
@@ -100,12 +105,13 @@ low_from base entries before n (b ∷ bs) low h =
 pub last_low : (base : State) (entries : List Entry) (batches : List Given) → AreViews base entries batches → last_from 0 batches ≤ length entries
 last_low base entries batches h = low_from base entries [] 0 batches (omega arith) h
 
--- batches, the last of which makes the view after some of the entries
+-- batches, the last of which makes the view after some of the entries, under their number
 abbrev EndsIn : State → List Entry → List Given → Type 0
-EndsIn base entries batches = (n : ℕ) × (n ≤ length entries) × (seen_after batches ≡ view_after base entries n)
+EndsIn base entries batches =
+    (n : ℕ) × (n ≤ length entries) × (seen_after batches ≡ view_after base entries n) × ((version_after batches).number ≡ n)
 
 end_from : (base : State) (entries : List Entry) (before : List Given) (b : Given) (batches : List Given) → AreViews base entries (before ++ b ∷ batches) → EndsIn base entries (before ++ b ∷ batches)
-end_from base entries before b [] h = let here = h before [] b refl in (b.number, here.0, here.1)
+end_from base entries before b [] h = let here = h before [] b refl in (b.number, here.0, here.1, number_more before b)
 end_from base entries before b (c ∷ bs) h =
     let same = along before b (c ∷ bs) in
     subst (EndsIn base entries) same (end_from base entries (before ++ b ∷ []) c bs (subst (AreViews base entries) (sym same) h))
@@ -116,3 +122,25 @@ view_at_first base b batches h =
     let last = end_from base [] [] b batches h in
     let none : last.0 ≡ 0 = omega (arith, last.1) in
     last.2 ∙ ap (λ n. view_after base [] n) none
+
+-- ---- what a reader has seen
+
+-- some batches make a version of the history
+some_version : (base : State) (entries : List Entry) (b : Given) (batches : List Given) → AreViews base entries (b ∷ batches) → IsVersionOf base entries (version_after (b ∷ batches))
+some_version base entries b batches h =
+    let last = end_from base entries [] b batches h in
+    (rw last.3 last.1, rw last.3 last.2)
+
+-- so do those with which they begin
+views_front : (base : State) (entries : List Entry) (front rest : List Given) → AreViews base entries (front ++ rest) → AreViews base entries front
+views_front base entries front rest h before after b is =
+    h before (after ++ rest) b (ap (λ (bs : List Given). bs ++ rest) is ∙ append_assoc before (b ∷ after) rest)
+
+pub front_version : (base : State) (entries : List Entry) (all : List Given) (b : Given) (seen rest : List Given) → all ≡ (b ∷ seen) ++ rest → AreViews base entries all
+    → IsVersionOf base entries (version_after (b ∷ seen))
+front_version base entries all b seen rest is h = some_version base entries b seen (views_front base entries (b ∷ seen) rest (subst (AreViews base entries) is h))
+
+pub seen_version : (base : State) (entries : List Entry) (all seen rest : List Given) → all ≡ seen ++ rest → AreViews base entries all
+    → (seen ≡ []) ⊎ IsVersionOf base entries (version_after seen)
+seen_version base entries all [] rest is h = inl refl
+seen_version base entries all (b ∷ seen) rest is h = inr (front_version base entries all b seen rest is h)

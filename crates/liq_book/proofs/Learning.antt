@@ -18,7 +18,7 @@ use Rattle.liq_book.specs.declared.items.Item.{Item}
 use Rattle.liq_book.specs.declared.items.Item.TheVariants as item
 use Rattle.liq_book.specs.Answered.{Answered, IsLimited}
 use Rattle.liq_book.specs.Booked.{Booked}
-use Rattle.liq_book.specs.Entered.{Enters, IsAsBefore, IsTestedFirst}
+use Rattle.liq_book.specs.Entered.{Enters, IsTestedFirst}
 use Rattle.liq_rules.specs.Recorded.{recorded}
 use Rattle.liq_book.specs.Items.{calls_of, chronicle, entries_of, faulted_in, session_of}
 use Rattle.liq_book.proofs.Chronicles.{entries_of-append, entries_of-chronicle, faulted_behind, faulted_in-append, faulted_on, own_behind, own_entries-append, own_on, same_session}
@@ -39,15 +39,6 @@ ends_in book faults some = at book.halt refl some where
 
 pub same_items : {D : Type 0} (old new : Booked D) → (new.entries ≡ old.entries) × (new.halt ≡ old.halt) → items_in new ≡ items_in old
 same_items old new same = ap (λ entries. chronicle entries new.halt) same.0 ∙ ap (chronicle old.entries) same.1
-
--- what is entered stays entered where nothing more is
-pub enters_still : {D : Type 0} (base : State) (session calls : ℕ) (request : Request) (a : Answer) (old new after : Booked D)
-    → Enters base session calls request a old new → IsAsBefore new after → Enters base session calls request a old after
-enters_still base session calls request (answer.Reply reply) old new after h same = (h.0, same.1 ∙ h.1, same.0 ∙ h.2, h.3)
-enters_still base session calls request answer.NoMemory old new after h same = (same.0 ∙ h.0, same.1 ∙ h.1)
-enters_still base session calls request answer.DiskFault old new after h same = (h.0, same.0 ∙ h.1, (h.2.0, same.1 ∙ h.2.1))
-enters_still base session calls request (answer.Stopped faults) old new after h same = ((same.0 ∙ h.0.0, same.1 ∙ h.0.1), h.1)
-enters_still base session calls request (answer.HistoryFull entries) old new after h same = ((same.0 ∙ h.0.0, same.1 ∙ h.0.1), h.1)
 
 -- one more entry is the last item
 entered : {D : Type 0} (old new : Booked D) (e : Entry) → old.halt ≡ None → new.halt ≡ None → new.entries ≡ old.entries ++ e ∷ [] → items_in new ≡ items_in old ++ item.Entry e ∷ []
@@ -159,3 +150,7 @@ faults_after base session calls request answer.DiskFault before after a =
     rw (a.2.1, faulted_in-append session (before ++ a.0) (item.Halt (record { session = session; request = request; faults = a.2.0 }) ∷ []), same_session session) refl
 faults_after base session calls request (answer.Stopped faults) before after a = faulted_behind session after before a.0
 faults_after base session calls request (answer.HistoryFull entries) before after a = faulted_behind session after before a.0
+
+-- items of others leave a session's calls
+pub calls_behind : (session : ℕ) (after before : List Item) → Behind session_of after (session ∷ []) before → calls_of session after ≡ calls_of session before
+calls_behind session after before b = ap (map (λ (e : history.Entry). (e.request, e.reply))) (own_behind session after before b)

@@ -15,8 +15,8 @@ pub record DiskAt : Type 1 where
   -- what a crash at each moment up to that one may have left
   pub left_at : ℕ → List ℕ → Type 0
 
--- What holds of a disk from there on: it tells its bytes if it told them then, time goes on, and what a crash may have
--- left up to that moment stays what it was.
+-- What holds of a disk from there on: it tells its bytes exactly if it told them then, time goes on, and what a crash
+-- may have left up to that moment stays what it was.
 pub record GoesOnFrom
     {D : Type 0} (origin : DiskAt) (seen_by : D → Option (List ℕ)) (moment_of : D → ℕ)
     (left_by : D → ℕ → List ℕ → Type 0) (disk : D) : Type 0 where

@@ -1,10 +1,15 @@
 -- What a book publishes: batches of the list's changes, each under the number of entries that it comes behind.
-use Rattle.std.specs.Prelude.{◌≡◌, ◌≤◌, List, [], ◌∷◌, ◌++◌, map, length, Option}
+use Rattle.std.specs.Prelude.{◌≡◌, ◌≤◌, ◌==◌, ◌⊎◌, List, [], ◌∷◌, ◌++◌, map, length, Option, Result}
+use Rattle.std.specs.Prelude.{MatchResult, IsTrue}
+use Rattle.std.specs.List.{list_any}
 use Rattle.liq_types.specs.State.{State}
 use Rattle.liq_types.specs.declared.entries.Entry.{Entry}
+use Rattle.liq_types.specs.declared.replies.Answer.{Answer}
+use Rattle.liq_types.specs.declared.replies.Answer.TheVariants as answer
+use Rattle.liq_types.specs.declared.replies.Reply.TheVariants as reply
 use Rattle.liq_rules.specs.History as history
 use Rattle.liq_rules.specs.Recorded.{recorded}
-use Rattle.liq_rules.specs.View.{all_followed, view_of, view_after}
+use Rattle.liq_rules.specs.View.{all_followed, list_kinds, view_of, view_after}
 use Rattle.liq_views.specs.Batches.{Given, version_after}
 use Rattle.liq_store.specs.Stored.{Stored}
 use Rattle.liq_book.specs.declared.items.Halt.{Halt}
@@ -43,3 +48,22 @@ pub record IsPublishing {D : Type 0} (base : State) (b : OpenBook D) : Type 0 wh
 -- the batch of all that the store has to tell
 abbrev pub batch_of : {D : Type 0} → Booked D → Given
 batch_of book = record { changes = book.store.changes; number = length book.entries }
+
+-- the reply of an accepted command of a kind that may change the list
+abbrev pub ChangesList : Answer → Type 0
+ChangesList (answer.Reply (reply.Said done)) = IsTrue (list_any (λ k. k == done.kind) list_kinds)
+ChangesList _ = ⊥
+
+-- nothing is published, and what waits waits on
+abbrev pub PublishesNothing : {D : Type 0} → OpenBook D → OpenBook D → Type 0
+PublishesNothing old new = (new.published ≡ old.published) × (new.waiting ≡ old.waiting)
+
+-- What was to be told went out, behind all that had and all that waited, and is told no more. Without memory nothing
+-- went out, the book is as it was, and what was to be told may wait.
+abbrev pub Publishes : {D T E : Type 0} → OpenBook D → Result T E → OpenBook D → Type 0
+Publishes old result new =
+    MatchResult result
+    (λ _. (new.published ≡ old.published ++ (old.waiting ++ batch_of old.book ∷ [])) × (new.waiting ≡ [])
+    × (new.book ≡ record old.book { store = record old.book.store { changes = [] } }))
+    (λ _. (new.published ≡ old.published) × (new.book ≡ old.book)
+    × ((new.waiting ≡ old.waiting) ⊎ (new.waiting ≡ old.waiting ++ batch_of old.book ∷ [])))

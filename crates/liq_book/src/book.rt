@@ -1,6 +1,6 @@
 //! The value behind the lock of a service: a store, all that was entered, and the publisher of the list.
 
-ghost use Rattle.std.specs.Prelude.{◌≡◌, ◌≤◌, ◌⊎◌, ◌++◌, MatchResult, map, length, [], ◌∷◌, None};
+ghost use Rattle.std.specs.Prelude.{◌≡◌, ◌≤◌, ◌⊎◌, IfOk, map, length, [], ◌∷◌, None};
 ghost use Rattle.std.specs.Option.{option_map};
 ghost use Rattle.liq_rules.specs.History.{IsLegal, own_entries};
 ghost use Rattle.liq_rules.specs.Recorded.{recorded};
@@ -10,7 +10,6 @@ ghost use Rattle.liq_book.specs.Items.{chronicle};
 
 use crate::entering::enter;
 use crate::items::{ENTRIES_MOST, Halt};
-use crate::kinds::changes_list;
 use crate::looking::Looking;
 use crate::origin::Origin;
 use crate::publishing::publish;
@@ -18,8 +17,8 @@ use crate::service::Closed;
 use liq_core::laws::protocols_are_sound;
 use liq_outside::Disk;
 use liq_store::Store;
-use liq_types::{Answer, Entry, Hint, NoMemory, Reply, Request};
-use liq_views::{Finder, Publisher};
+use liq_types::{Answer, Entry, Hint, NoMemory, Request};
+use liq_views::{Finder, Publication, Publisher};
 use std::alloc::Global;
 use std::marker::{Model, PhantomData};
 use std::sync::Wait;
@@ -92,8 +91,9 @@ impl<D: Disk, O: Origin> Book<D, O> {
     ghost use Rattle.liq_book.specs.Booked.{IsBook};
     ghost use Rattle.liq_book.specs.Closing.{booked_by};
     ghost use Rattle.liq_book.specs.Entered.{Enters, IsAsBefore, IsTestedFirst};
+    ghost use Rattle.liq_book.specs.Opened.{HasOpened};
     ghost use Rattle.liq_book.specs.Origin.{IsAtOrigin, TellsList};
-    ghost use Rattle.liq_book.specs.Publishing.{batch_of, open_book};
+    ghost use Rattle.liq_book.specs.Publishing.{Publishes, PublishesNothing, open_book};
 
     /// A book without entries, over a store that was never stopped, whose opened list was published.
     pub(crate) fn new(
@@ -105,8 +105,7 @@ impl<D: Disk, O: Origin> Book<D, O> {
         requires going { store.stopped ≡ None }
         requires origin { IsAtOrigin D.seen D.faults D.moment D.left_at O.state O.left O.right store }
         requires listed { TellsList store }
-        requires published { published publisher ≡ record { changes = store.changes; number = 0 } ∷ [] }
-        requires waiting { waiting publisher ≡ [] }
+        requires opened { HasOpened store.changes publisher }
         ensures { result ≡ open_book store [] None (published publisher) (waiting publisher) }
     {
         // What holds of a store is told by its calls alone.
@@ -177,6 +176,7 @@ impl<D: Disk, O: Origin> Book<D, O> {
         ensures first { IsTestedFirst self.old.book.entries result }
         ensures legal { IsLegal O.state (map recorded self.new.book.entries) }
         ensures few { length self.new.book.entries ≤ ENTRIES_MOST }
+        ensures silent { PublishesNothing self.old self.new }
     {
         if self.entries.len() == ENTRIES_MOST {
             let entries = ENTRIES_MOST as u64;
@@ -208,42 +208,12 @@ impl<D: Disk, O: Origin> Book<D, O> {
         }
     }
 
-    /// As [`Book::call`]. Where it is asked to, it publishes the list behind an accepted command that may have changed it. A publication
-    /// for which there is no memory is passed over: the next one makes up for it.
-    pub(crate) fn call_in_turn<W: Wait>(
-        &mut self,
-        rt: &W,
-        session: u8,
-        calls: u32,
-        request: &Request,
-        hint: &Hint,
-        publishes: bool,
-    ) -> Answer
-        requires calls { length (own_entries session (map recorded self.old.book.entries)) ≡ calls }
-        ensures enters { Enters O.state session calls request.now result self.old.book self.new.book }
-        ensures first { IsTestedFirst self.old.book.entries result }
-        ensures legal { IsLegal O.state (map recorded self.new.book.entries) }
-        ensures few { length self.new.book.entries ≤ ENTRIES_MOST }
-    {
-        let answer = self.call(session, calls, request, hint);
-        match answer {
-            Answer::Reply(Reply::Said(done)) if publishes && changes_list(done.kind) => {
-                let _ = self.publish(rt);
-                answer
-            }
-            _ => answer,
-        }
-    }
-
     /// Publishes what the calls since the last publication changed in the list, as the version after all entries. Without memory what
     /// is told is kept, and goes out with the next publication.
-    pub(crate) fn publish<W: Wait>(&mut self, rt: &W) -> Result<(), NoMemory>
+    pub(crate) fn publish<W: Wait>(&mut self, rt: &W) -> Result<Publication, NoMemory>
         ensures same { IsAsBefore self.old.book self.new.book }
-        ensures sent { MatchResult result
-            (λ _. (self.new.published ≡ self.old.published ++ (self.old.waiting ++ batch_of self.old.book ∷ [])) × (self.new.waiting ≡ [])
-            × (self.new.book ≡ record self.old.book { store = record self.old.book.store { changes = [] } }))
-            (λ _. (self.new.published ≡ self.old.published) × (self.new.book ≡ self.old.book)
-            × ((self.new.waiting ≡ self.old.waiting) ⊎ (self.new.waiting ≡ self.old.waiting ++ batch_of self.old.book ∷ []))) }
+        ensures number { IfOk result (λ sent. sent.number ≡ length self.old.book.entries) }
+        ensures sent { Publishes self.old result self.new }
     {
         let number = self.entries.len() as u64;
         publish(&mut self.store, &mut self.publisher, rt, number)

@@ -1,13 +1,13 @@
 //! A book behind one pointer.
 
-ghost use Rattle.std.specs.Prelude.{◌≡◌, ◌≤◌, ◌⊎◌, ◌++◌, [], ◌∷◌, MatchResult, IfErr, IfOk, length, map};
+ghost use Rattle.std.specs.Prelude.{◌≡◌, ◌≤◌, IfErr, IfOk, length, map};
 ghost use Rattle.liq_rules.specs.History.{IsLegal, own_entries};
 ghost use Rattle.liq_rules.specs.Recorded.{recorded};
 ghost use Rattle.liq_book.specs.Booked.{IsBook};
 ghost use Rattle.liq_book.specs.Closing.{booked_by};
 ghost use Rattle.liq_book.specs.Entered.{Enters, IsAsBefore, IsTestedFirst};
 ghost use Rattle.liq_book.specs.Items.{chronicle, session_of};
-ghost use Rattle.liq_book.specs.Publishing.{batch_of};
+ghost use Rattle.liq_book.specs.Publishing.{Publishes};
 
 use crate::book::Book;
 use crate::items::{ENTRIES_MOST, Item};
@@ -16,6 +16,7 @@ use crate::service::Closed;
 use liq_lock::Chronicle;
 use liq_outside::Disk;
 use liq_types::{Answer, Hint, NoMemory, Request};
+use liq_views::Publication;
 use std::alloc::Global;
 use std::sync::Wait;
 
@@ -64,34 +65,22 @@ impl<D: Disk, O: Origin> BoxedBook<D, O> {
         self.into_book().close(rt)
     }
 
-    /// As [`Book::call_in_turn`].
-    pub(crate) fn call_in_turn<W: Wait>(
-        &mut self,
-        rt: &W,
-        session: u8,
-        calls: u32,
-        request: &Request,
-        hint: &Hint,
-        publishes: bool,
-    ) -> Answer
+    /// As [`Book::call`].
+    pub(crate) fn call(&mut self, session: u8, calls: u32, request: &Request, hint: &Hint) -> Answer
         requires calls { length (own_entries session (map recorded self.old.boxed.value.book.entries)) ≡ calls }
         ensures enters { Enters O.state session calls request.now result self.old.boxed.value.book self.new.boxed.value.book }
         ensures first { IsTestedFirst self.old.boxed.value.book.entries result }
         ensures legal { IsLegal O.state (map recorded self.new.boxed.value.book.entries) }
         ensures few { length self.new.boxed.value.book.entries ≤ ENTRIES_MOST }
     {
-        self.boxed
-            .call_in_turn(rt, session, calls, request, hint, publishes)
+        self.boxed.call(session, calls, request, hint)
     }
 
     /// As [`Book::publish`].
-    pub(crate) fn publish<W: Wait>(&mut self, rt: &W) -> Result<(), NoMemory>
+    pub(crate) fn publish<W: Wait>(&mut self, rt: &W) -> Result<Publication, NoMemory>
         ensures same { IsAsBefore self.old.boxed.value.book self.new.boxed.value.book }
-        ensures sent { MatchResult result
-            (λ _. (self.new.boxed.value.published ≡ self.old.boxed.value.published ++ (self.old.boxed.value.waiting ++ batch_of self.old.boxed.value.book ∷ [])) × (self.new.boxed.value.waiting ≡ [])
-            × (self.new.boxed.value.book ≡ record self.old.boxed.value.book { store = record self.old.boxed.value.book.store { changes = [] } }))
-            (λ _. (self.new.boxed.value.published ≡ self.old.boxed.value.published) × (self.new.boxed.value.book ≡ self.old.boxed.value.book)
-            × ((self.new.boxed.value.waiting ≡ self.old.boxed.value.waiting) ⊎ (self.new.boxed.value.waiting ≡ self.old.boxed.value.waiting ++ batch_of self.old.boxed.value.book ∷ []))) }
+        ensures number { IfOk result (λ sent. sent.number ≡ length self.old.boxed.value.book.entries) }
+        ensures sent { Publishes self.old.boxed.value result self.new.boxed.value }
     {
         self.boxed.publish(rt)
     }

@@ -1,15 +1,19 @@
 //! Which commands change the ordered list.
 
-ghost use Rattle.std.specs.Prelude.{◌≡◌, ◌==◌};
-ghost use Rattle.std.specs.List.{list_any};
-ghost use Rattle.liq_rules.specs.View.{list_kinds};
+ghost use Rattle.std.specs.Prelude.{◌↔◌, IsTrue};
+ghost use Rattle.liq_book.specs.Publishing.{ChangesList};
+
+use liq_types::{Answer, Reply};
 
 /// The kinds of accepted commands that change the ordered list.
 const LIST_KINDS: [u8; 7] = [6, 7, 8, 11, 12, 13, 14];
 
-/// Whether an accepted command of this kind may have changed the ordered list.
-pub(crate) fn changes_list(kind: u8) -> bool
-    ensures { result ≡ list_any (λ k. k == kind) list_kinds }
+/// Whether this is the reply of an accepted command that may have changed the ordered list.
+pub(crate) fn changes_list(answer: &Answer) -> bool
+    ensures { IsTrue result ↔ ChangesList answer.now }
 {
-    LIST_KINDS.contains(&kind)
+    match answer {
+        Answer::Reply(Reply::Said(done)) => LIST_KINDS.contains(&done.kind),
+        _ => false,
+    }
 }

@@ -1,22 +1,26 @@
 //! A publication, and a desk that publishes the list behind each call that changed it.
-ghost use Rattle.std.specs.Prelude.{◌≡◌, ◌≤◌, ◌⊎◌, ◌++◌, [], ◌∷◌, MatchResult};
+ghost use Rattle.std.specs.Prelude.{◌≡◌, ◌≤◌, ◌⊎◌, ◌↔◌, ◌++◌, [], ◌∷◌, length};
+ghost use Rattle.std.specs.Prelude.{IfOk, IfSome, IsSome, MatchResult};
 ghost use Rattle.liq_types.specs.Desks.{own_after, faulted_after, EndsKnown};
 ghost use Rattle.liq_views.specs.Batches.{last_from};
 ghost use Rattle.liq_views.specs.Publishers.{published, waiting};
-ghost use Rattle.liq_book.specs.Items.{ShowsEnd, calls_of, faulted_in};
+ghost use Rattle.liq_book.specs.Items.{ShowsEnd, calls_of, entries_of, faulted_in};
+ghost use Rattle.liq_book.specs.Publishing.{ChangesList};
 ghost use Rattle.liq_book.specs.Seats.{IsSeatOf, items_seen, session_at};
 
+use crate::kinds::changes_list;
 use crate::origin::Origin;
 use crate::seat::BookSeat;
 use crate::service::Service;
 use liq_outside::Disk;
 use liq_store::Store;
 use liq_types::{Answer, Desk, Hint, NoMemory, Request};
-use liq_views::Publisher;
+use liq_views::{Publication, Publisher};
 use std::sync::Wait;
 
-/// A service as a desk that publishes the list behind each accepted command that may have changed it, before the command's turn ends: no
-/// other session's call comes between. A publication for which there is no memory is passed over: the next one makes up for it.
+/// A service as a desk that publishes the list behind each accepted command that may have changed
+/// it, in a turn of its own. A publication for which there is no memory is passed over: the next
+/// one makes up for it.
 #[derive(Drop)]
 pub struct Publishing<'a, D: Disk, O: Origin> {
     service: &'a Service<D, O>,
@@ -28,6 +32,36 @@ impl<'a, D: Disk, O: Origin> Publishing<'a, D, O> {
         ensures { result.service.now ≡ service.now }
     {
         Publishing { service }
+    }
+
+    /// A turn for the call; and, exactly behind the reply of an accepted command that may have
+    /// changed the list, one for a publication, of which it is told what came.
+    pub fn call_then_publish<W: Wait>(
+        &self,
+        rt: &W,
+        seat: BookSeat<O>,
+        request: &Request,
+        hint: &Hint,
+    ) -> (BookSeat<O>, Answer, Option<Result<Publication, NoMemory>>)
+        requires own { IsSeatOf self.now.service.now seat }
+        ensures own { IsSeatOf self.now.service.now result.0 }
+        ensures session { session_at result.0 ≡ session_at seat }
+        ensures calls { calls_of (session_at seat) (items_seen result.0)
+            ≡ own_after (calls_of (session_at seat) (items_seen seat)) request.now result.1 }
+        ensures faulted { faulted_in (session_at seat) (items_seen result.0)
+            ≡ faulted_after (faulted_in (session_at seat) (items_seen seat)) request.now result.1 }
+        ensures end { EndsKnown (ShowsEnd (items_seen result.0)) result.1 }
+        ensures published { IsSome result.2 ↔ ChangesList result.1 }
+        ensures number { IfSome result.2 (λ sent.
+            IfOk sent (λ p. p.number ≡ length (entries_of (items_seen result.0)))) }
+    {
+        let (seat, answer) = Desk::call(self.service, rt, seat, request, hint);
+        if changes_list(&answer) {
+            let (seat, sent) = self.service.publish(rt, seat);
+            (seat, answer, Some(sent))
+        } else {
+            (seat, answer, None)
+        }
     }
 }
 
@@ -51,7 +85,8 @@ impl<'a, D: Disk, O: Origin> Desk for Publishing<'a, D, O> {
         request: &Request,
         hint: &Hint,
     ) -> (BookSeat<O>, Answer) {
-        self.service.turn(rt, seat, request, hint, true)
+        let (seat, answer, _) = self.call_then_publish(rt, seat, request, hint);
+        (seat, answer)
     }
 }
 
@@ -62,8 +97,9 @@ pub(crate) fn publish<D: Disk, W: Wait>(
     publisher: &mut Publisher,
     rt: &W,
     number: u64,
-) -> Result<(), NoMemory>
+) -> Result<Publication, NoMemory>
     requires { last_from 0 (published publisher.old ++ waiting publisher.old) ≤ number }
+    ensures number { IfOk result (λ sent. sent.number ≡ number) }
     ensures sent { MatchResult result
         (λ _. (published publisher.new ≡ published publisher.old ++ (waiting publisher.old ++ record { changes = store.old.changes; number = number } ∷ []))
         × (waiting publisher.new ≡ []))
@@ -73,10 +109,10 @@ pub(crate) fn publish<D: Disk, W: Wait>(
     ensures told { MatchResult result (λ _. store.new ≡ record store.old { changes = [] }) (λ _. store.new ≡ store.old) }
 {
     match publisher.publish(rt, store.changes(), number) {
-        Ok(()) => {
+        Ok(sent) => {
             store.clear_changes();
             store.drop_guide();
-            Ok(())
+            Ok(sent)
         }
         Err(NoMemory) => Err(NoMemory),
     }

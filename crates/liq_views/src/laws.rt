@@ -11,8 +11,11 @@ ghost use Rattle.liq_views.specs.Rules.{Keeps};
 ghost use Rattle.liq_views.specs.Shelves.{after_all};
 
 /// Of two ends, one of which has seen batches that make what is published, as the publisher has, the other has seen a beginning
-/// of these.
+/// of these; and all of them, where what it has seen makes what is published too, as behind a look.
 pub fn ends_see_beginnings()
-    ensures { (x : Shelf) (views : List Sight) → Keeps x views → (publisher reader : Sight) (i j : ℕ)
+    ensures begins { (x : Shelf) (views : List Sight) → Keeps x views → (publisher reader : Sight) (i j : ℕ)
         → get_elem? views i ≡ some publisher → get_elem? views j ≡ some reader → x ≡ after_all publisher.seen → StartsWith publisher.seen reader.seen }
+    ensures looked { (x : Shelf) (views : List Sight) → Keeps x views → (publisher reader : Sight) (i j : ℕ)
+        → get_elem? views i ≡ some publisher → get_elem? views j ≡ some reader → x ≡ after_all publisher.seen → x ≡ after_all reader.seen
+        → reader.seen ≡ publisher.seen }
 {}

@@ -17,7 +17,7 @@ pub use batch::Batch;
 pub use finder::Finder;
 pub use liq_version::{Ask, Version};
 pub use pane::Pane;
-pub use publisher::Publisher;
+pub use publisher::{Publication, Publisher};
 pub use rule::{Published, Sight};
 pub use shelf::Shelf;
 pub use window::{Shown, Shut, Window};

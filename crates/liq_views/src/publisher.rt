@@ -14,6 +14,8 @@ use std::alloc::Global;
 mod made;
 mod sent;
 
+pub use sent::Publication;
+
 pub(crate) type ListWriter = Writer<Shelf, Batch, Sight, Published>;
 
 /// Publishes versions of the ordered list. It is not `Drop`: end it by `close`.

@@ -33,30 +33,9 @@ impl<D: Disk, O: Origin> Service<D, O> {
         ensures limited { IsLimited result.1 (items_seen result.0) }
         ensures legal { IsLegal O.state (entries_of (items_seen result.0)) }
     {
-        self.turn(rt, seat, request, hint, false)
-    }
-
-    /// A turn of a session: a call as [`Service::call`], and, where it is asked for, the publication behind an accepted command that may
-    /// have changed the list. No other session's call comes between. A publication for which there is no memory is passed over: the next
-    /// one makes up for it.
-    pub(crate) fn turn<W: Wait>(
-        &self,
-        rt: &W,
-        seat: BookSeat<O>,
-        request: &Request,
-        hint: &Hint,
-        publishes: bool,
-    ) -> (BookSeat<O>, Answer)
-        requires own { IsSeatOf self.now seat }
-        ensures own { IsSeatOf self.now result.0 }
-        ensures session { session_at result.0 ≡ session_at seat }
-        ensures answered { Answered O.state (session_at seat) (calls_at seat) request.now result.1 (items_seen seat) (items_seen result.0) }
-        ensures limited { IsLimited result.1 (items_seen result.0) }
-        ensures legal { IsLegal O.state (entries_of (items_seen result.0)) }
-    {
         let (session, calls) = (seat.session, seat.calls);
         let (held, mut book) = self.lock.take(rt, seat.seat);
-        match book.call_in_turn(rt, session, calls, request, hint, publishes) {
+        match book.call(session, calls, request, hint) {
             Answer::Reply(reply) => {
                 let seat = BookSeat {
                     seat: self.lock.give(held, book),

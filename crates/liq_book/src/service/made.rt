@@ -1,6 +1,7 @@
 //! A service is made, with its seats.
 ghost use Rattle.std.specs.Prelude.{◌≡◌, ◌≤◌, All, None, IfOk, IfErr, [], length, vec_capacity};
 ghost use Rattle.liq_lock.specs.Seats.{AreFresh, lock_id};
+ghost use Rattle.liq_book.specs.Opened.{HasOpened};
 ghost use Rattle.liq_book.specs.Origin.{IsAtOrigin, TellsList};
 ghost use Rattle.liq_book.specs.Seats.{AreNewSeats, AreSeated, sessions_of};
 ghost use Rattle.liq_views.specs.Publishers.{IsFresh};
@@ -15,6 +16,7 @@ use crate::seat::BookSeat;
 use liq_lock::{Lock, LockSeat};
 use liq_outside::Disk;
 use liq_store::Store;
+use liq_types::{ListChange, NoMemory};
 use liq_views::{Finder, Pane, Publisher};
 use std::alloc::Global;
 use std::marker::PhantomData;
@@ -22,7 +24,8 @@ use std::sync::Wait;
 
 impl<D: Disk, O: Origin> Service<D, O> {
     /// A service over a store that is at its origin, whose changes tell its list from nothing, with a seat and a finder for each
-    /// session from 1 on, in their order. The list is published as version 0. `Err` gives the store back where there was no memory.
+    /// session from 1 on, in their order. The list is published as version 0, and the finders are of a
+    /// publisher that did so. `Err` gives the store back where there was no memory.
     pub fn new<W: Wait>(
         rt: &W,
         alloc: Global,
@@ -37,21 +40,15 @@ impl<D: Disk, O: Origin> Service<D, O> {
         ensures count { IfOk result (λ made. length made.1.items ≡ sessions) }
         ensures seats { IfOk result (λ made. AreNewSeats made.0 made.1.items) }
         ensures finders { IfOk result (λ made. length made.2.items ≡ sessions) }
-        ensures fresh { IfOk result (λ made. (p : Publisher) × All (λ f. IsFresh p f.window × (f.last ≡ 0)) made.2.items) }
+        ensures fresh { IfOk result (λ made. (p : Publisher) × HasOpened store.changes p
+            × All (λ f. IsFresh p f.window × (f.last ≡ 0)) made.2.items) }
         ensures err { IfErr result (λ back. back ≡ store) }
     {
         let Ok(room) = Vec::with_capacity(alloc, sessions as usize) else {
             return Err(store);
         };
-        let Ok((mut publisher, mut finders)) = Publisher::new(alloc, u32::from(sessions) + 1) else {
+        let Ok((publisher, finders, finder)) = opened(rt, alloc, store.changes(), sessions) else {
             return Err(store);
-        };
-        let Ok(()) = publisher.publish(rt, store.changes(), 0) else {
-            publisher.close(rt);
-            return Err(store);
-        };
-        let Some(finder) = finders.pop() else {
-            unreachable!();
         };
         let book = match BoxedBook::new(alloc, Book::new(alloc, store, publisher, finder)) {
             Ok(book) => book,
@@ -63,6 +60,33 @@ impl<D: Disk, O: Origin> Service<D, O> {
                 Ok((Service { lock, sessions }, seats, finders))
             }
             Err(book) => Err(unused(rt, book.into_book())),
+        }
+    }
+}
+
+/// A publisher of the list that these changes make, as version 0, with a finder for each session and
+/// one more, which have seen nothing yet.
+fn opened<W: Wait>(
+    rt: &W,
+    alloc: Global,
+    changes: &[ListChange],
+    sessions: u8,
+) -> Result<(Publisher, Vec<Finder<Pane>>, Finder<Pane>), NoMemory>
+    ensures opened { IfOk result (λ made. HasOpened changes.now made.0) }
+    ensures count { IfOk result (λ made. length made.1.items ≡ sessions) }
+    ensures fresh { IfOk result (λ made. All (λ f. IsFresh made.0 f.window × (f.last ≡ 0)) made.1.items) }
+{
+    let room = Vec::with_capacity(alloc, sessions as usize)?;
+    let mut publisher = Publisher::alone(alloc, u32::from(sessions) + 1)?;
+    match publisher.publish(rt, changes, 0) {
+        Ok(_) => {
+            let finders = publisher.all_finders(room, u32::from(sessions));
+            let finder = publisher.finder();
+            Ok((publisher, finders, finder))
+        }
+        Err(NoMemory) => {
+            publisher.close(rt);
+            Err(NoMemory)
         }
     }
 }

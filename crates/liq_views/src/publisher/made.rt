@@ -20,15 +20,23 @@ impl Publisher {
         ensures fresh { IfOk result (λ made. All (λ f. IsFresh made.0 f.window × (f.last ≡ 0)) made.1.items) }
     {
         let finders = Vec::with_capacity(alloc, readers as usize)?;
-        let places = if readers == 0 { 1 } else { readers };
-        let writer = ListWriter::new(alloc, Shelf::new(alloc), Shelf::new(alloc), places as usize)?;
-        let publisher = Publisher { alloc, writer };
+        let publisher = Publisher::alone(alloc, readers)?;
         let finders = publisher.all_finders(finders, readers);
         Ok((publisher, finders))
     }
 
-    /// So many finders, for which there is room.
-    fn all_finders(&self, mut finders: Vec<Finder<Pane>>, readers: u32) -> Vec<Finder<Pane>>
+    /// A publisher of version 0, an empty list, with places for so many finders.
+    pub fn alone(alloc: Global, readers: u32) -> Result<Publisher, NoMemory>
+        ensures published { IfOk result (λ made. published made ≡ []) }
+        ensures waiting { IfOk result (λ made. waiting made ≡ []) }
+    {
+        let places = if readers == 0 { 1 } else { readers };
+        let writer = ListWriter::new(alloc, Shelf::new(alloc), Shelf::new(alloc), places as usize)?;
+        Ok(Publisher { alloc, writer })
+    }
+
+    /// So many finders of what is published, for which there is room. They have seen nothing yet.
+    pub fn all_finders(&self, mut finders: Vec<Finder<Pane>>, readers: u32) -> Vec<Finder<Pane>>
         requires empty { finders.items ≡ [] }
         requires room { readers ≤ vec_capacity finders }
         ensures count { length result.items ≡ readers }
@@ -40,8 +48,8 @@ impl Publisher {
         finders
     }
 
-    /// Where no reader is to be had, the finder's looks are shut.
-    fn finder(&self) -> Finder<Pane>
+    /// A finder of what is published, which has seen nothing yet. Where no reader is to be had, its looks are shut.
+    pub fn finder(&self) -> Finder<Pane>
         ensures { IsFresh self.now result.window × (result.last ≡ 0) }
     {
         Finder::new(Pane::over(self.writer.factory().reader().ok()))

@@ -1,6 +1,6 @@
 //! How a batch is published.
 
-ghost use Rattle.std.specs.Prelude.{◌≡◌, ◌≤◌, ◌⊎◌, [], ◌∷◌, ◌++◌, drop, MatchResult};
+ghost use Rattle.std.specs.Prelude.{◌≡◌, ◌≤◌, ◌⊎◌, [], ◌∷◌, ◌++◌, drop, IfOk, MatchResult};
 ghost use Rattle.left_right.specs.Sides.{view};
 ghost use Rattle.liq_views.specs.Batches.{last_from};
 ghost use Rattle.liq_views.specs.Publishers.{published, waiting};
@@ -15,6 +15,21 @@ use std::alloc::AllocError;
 use std::marker::Brand;
 use std::sync::Wait;
 
+/// One publication that went out. A publisher alone makes it, and nobody copies it: whoever has one had a publisher publish.
+#[derive(Drop)]
+pub struct Publication {
+    number: u64,
+}
+
+impl Publication {
+    /// The number of the version that it made.
+    pub fn number(&self) -> u64
+        ensures { result ≡ self.now.number }
+    {
+        self.number
+    }
+}
+
 impl Publisher {
     /// Publishes one more batch, behind those that wait, as version `number`, which isn't below the last one's.
     ///
@@ -25,8 +40,9 @@ impl Publisher {
         rt: &R,
         changes: &[ListChange],
         number: u64,
-    ) -> Result<(), NoMemory>
+    ) -> Result<Publication, NoMemory>
         requires { last_from 0 (published self.old ++ waiting self.old) ≤ number }
+        ensures number { IfOk result (λ p. p.number ≡ number) }
         ensures sent { MatchResult result
             (λ _. (published self.new ≡ published self.old ++ (waiting self.old ++ record { changes = changes.now; number = number } ∷ []))
             × (waiting self.new ≡ []))
@@ -51,7 +67,7 @@ impl Publisher {
             { send(rt, writer) },
         );
         match sent {
-            Ok(()) => Ok(()),
+            Ok(()) => Ok(Publication { number }),
             Err(_) => Err(NoMemory),
         }
     }

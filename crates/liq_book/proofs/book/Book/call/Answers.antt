@@ -91,4 +91,10 @@ returns-in_default g c =
     c.enter.ensures.store
     (omega (arith, c.if-len-eq-ENTRIES_MOST.false, c.len.ensures, c.self.invariant.0.few, c.self.inside.entries.ok.0))
     c.in_default.not-Reply c.in_default.not-DiskFault in
-    rw (← c.self.view_is, entries_stay c.args.session c.args.calls c.args.request.now c.enter.result _ _ c.in_default.not-Reply c.enter.ensures.entered, c.try_reserve.ensures.items) (record { enters = says.0; first = says.1; legal = book.legal; few = book.few })
+    rw (← c.self.view_is, entries_stay c.args.session c.args.calls c.args.request.now c.enter.result _ _ c.in_default.not-Reply c.enter.ensures.entered, c.try_reserve.ensures.items) (record { enters = says.0; first = says.1; legal = book.legal; few = book.few; silent = (refl, refl) })
+
+pub returns-in-Reply-clause-silent : goal.returns-in-Reply-clause-silent
+returns-in-Reply-clause-silent g c = rw (← c.self.view_is) (refl, refl)
+
+pub returns-in-DiskFault-clause-silent : goal.returns-in-DiskFault-clause-silent
+returns-in-DiskFault-clause-silent g c = rw (← c.self.view_is) (refl, refl)

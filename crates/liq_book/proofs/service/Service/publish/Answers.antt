@@ -1,7 +1,10 @@
-use Rattle.std.proofs.Common.{[], length, sym, ap, ◌∙◌, append-nil}
+use Rattle.std.proofs.Common.{◌≡◌, [], length, sym, ap, ◌∙◌, append-nil}
+use Rattle.std.proofs.lemmas.List.{length-map}
 use Rattle.liq_lock.specs.Seats.{seen_in, seen_of}
 use Rattle.liq_lock.proofs.Histories.{nothing_in_nil}
-use Rattle.liq_book.proofs.Chronicles.{own_behind}
+use Rattle.liq_rules.specs.Recorded.{recorded}
+use Rattle.liq_book.proofs.Chronicles.{entries_of-chronicle, own_behind}
+use Rattle.liq_book.specs.Items.{entries_of}
 use Rattle.liq_book.proofs.Learning.{items_in, same_items}
 use Rattle.liq_book.proofs.service.Service.publish.Goals as goal
 
@@ -22,3 +25,11 @@ invariant_of-seat g c = record {
 pub returns-clause-others : goal.returns-clause-others
 returns-clause-others g c =
     rw (c.give.ensures.seen, same_items c.take-held.result.1.boxed.value.book c.publish-sent.new.self.boxed.value.book c.publish-sent.ensures.same) (rw c.args.seat.stands at c.take-held.ensures.behind)
+
+pub returns-clause-sent : goal.returns-clause-sent
+returns-clause-sent g c =
+    let old = c.take-held.result.1.boxed.value.book in
+    let new = c.publish-sent.new.self.boxed.value.book in
+    let many : length (entries_of (items_in new)) ≡ length old.entries =
+    ap length (entries_of-chronicle new.entries new.halt) ∙ (length-map new.entries recorded ∙ ap length c.publish-sent.ensures.same.0) in
+    rw (c.give.ensures.seen, many) c.publish-sent.ensures.number
