@@ -1,13 +1,15 @@
 -- Seats as they are made, one behind the other.
-use Rattle.std.proofs.Common.{◌≡◌, ℕ, ◌+◌, ◌-◌, ◌<◌, false, ltb, List, [], ◌∷◌, ◌++◌, length, get_or, refl, sym, ap, subst, length-append, arith}
+use Rattle.std.proofs.Common.{◌≡◌, ℕ, zero, suc, ◌+◌, ◌-◌, ◌<◌, false, ltb, List, [], ◌∷◌, ◌++◌, length, get_or, refl, sym, ap, ap₂, ◌∙◌, subst, length-append, arith}
 use mathlib.Core.Logic.{dite}
 use native.Mathlib.Decide.{dec_lt}
 use Rattle.std.specs.Prelude.{None}
 use Rattle.std.proofs.lemmas.List.{get_or_append_left, get_or_push}
 use Rattle.atomic_table.specs.Seated.{TableId}
+use Rattle.atomic_table.specs.Table.{Me}
 use Rattle.liq_lock.specs.declared.seat.LockSeat.{LockSeat}
+use Rattle.liq_lock.specs.declared.view.View.{View}
 use Rattle.liq_lock.specs.Seats.{IsFresh, AreFresh}
-use Rattle.liq_lock.specs.Views.{dealer, keeping, no_past}
+use Rattle.liq_lock.specs.Views.{dealer, keeping, newcomer, no_past, opener}
 
 module _ {I : Type 0} where
   -- seats numbered from 2
@@ -24,11 +26,35 @@ module _ {I : Type 0} where
       let here : seat ≡ get_or (seats ++ seat ∷ []) j d = sym (get_or_push seats seat d j (sym last)) in
       subst (λ (z : ℕ × LockSeat I). IsFresh id z.0 z.1) (λ i. ((let e : k ≡ j + 2 = omega arith in e) i, here i)) one)
 
+  -- and the first in front of them
+  pub all_fresh : (id : TableId) (seats : List (LockSeat I)) (seat : LockSeat I) → Later id seats → IsFresh id 1 seat → AreFresh id (seat ∷ seats)
+  all_fresh id seats seat later first zero d below = first
+  all_fresh id seats seat later first (suc j) d below =
+      let next : j + 2 ≡ suc j + 1 = omega arith in
+      subst (λ (n : ℕ). IsFresh id n (get_or seats j d)) next (later j d (omega (arith, below)))
+
+  -- the first view before any split
+  pub none_dealt : (n : ℕ) → opener {I = I} n ≡ dealer 2 n
+  none_dealt n =
+      let all : n ≡ n + 2 - 2 = omega arith in
+      ap (λ (z : ℕ). record { number = 1; stands = 1 ∷ []; seen = []; ticket = None; inside = false; shares = z; splitting = ltb 1 z; next = 2; left = no_past; right = no_past }) all
+
   -- the first view after a split
   pub keeping_on : (k n : ℕ) → keeping {I = I} (dealer k n) ≡ dealer (k + 1) n
   keeping_on k n =
       let less : n + 2 - k - 1 ≡ n + 2 - (k + 1) = omega arith in
       ap (λ (z : ℕ). record { number = 1; stands = 1 ∷ []; seen = []; ticket = None; inside = false; shares = z; splitting = ltb 1 z; next = k + 1; left = no_past; right = no_past }) less
+
+  -- the first view when all others are made
+  pub last_dealt : (k n : ℕ) → k ≡ n → dealer {I = I} (k + 1) n ≡ newcomer 1 (k + 1)
+  last_dealt k n all =
+      let one : n + 2 - (k + 1) ≡ 1 = omega (arith, all) in
+      ap (λ (z : ℕ). record { number = 1; stands = 1 ∷ []; seen = []; ticket = None; inside = false; shares = z; splitting = ltb 1 z; next = k + 1; left = no_past; right = no_past }) one
+
+  -- a seat with a view that was made for one share, by what its own view tells
+  pub is_newcomer : {S : Type 0} (m : Me S (View I)) (k next : ℕ) → m ≡ (newcomer k next, []) → m ≡ (newcomer m.0.number m.0.next, [])
+  is_newcomer {S} m k next is =
+      is ∙ ap₂ (λ (a b : ℕ). (newcomer a b, [])) (sym (ap (λ (n : Me S (View I)). n.0.number) is)) (sym (ap (λ (n : Me S (View I)). n.0.next) is))
 
   -- the last seat that was made, and those before it
   pub fresh_pop : (id : TableId) (seats : List (LockSeat I)) (seat : LockSeat I) → AreFresh id (seats ++ seat ∷ []) → AreFresh id seats × IsFresh id (length seats + 1) seat

@@ -1,11 +1,11 @@
-use Rattle.std.proofs.Common.{rules, ℕ, ◌+◌, ◌-◌, ◌<◌, ◌∙◌, [], sym, ap, subst, arith}
+use Rattle.std.proofs.Common.{rules, ℕ, ◌≡◌, ◌+◌, ◌-◌, ◌<◌, ◌∙◌, [], sym, ap, subst, arith}
 use Rattle.std.specs.Prelude.{Option}
 use Rattle.atomic_table.specs.Seated.{TableId}
 use Rattle.atomic_table.specs.Table.{Me}
 use Rattle.liq_lock.specs.declared.view.View.{View}
 use Rattle.liq_lock.specs.Seats.{IsFresh, lock_id}
-use Rattle.liq_lock.specs.Views.{keeping}
-use Rattle.liq_lock.proofs.Fresh.{Later, later_push, keeping_on}
+use Rattle.liq_lock.specs.Views.{dealt, keeping}
+use Rattle.liq_lock.proofs.Fresh.{Later, all_fresh, is_newcomer, keeping_on, last_dealt, later_push}
 use Rattle.liq_lock.proofs.Histories.{lt-ltb}
 use Rattle.liq_lock.proofs.Parts.{splits}
 use Rattle.liq_lock.proofs.lock.Lock.deal.Goals as goal
@@ -42,3 +42,14 @@ loop-preserved g c =
           (subst (λ (z : TableId × ℕ). IsFresh z.0 z.1 c.seated.result) (λ i. (own i, number i)) c.seated.ensures)),
       search rules,
     )
+
+pub seated-requires : goal.seated-requires
+seated-requires g c =
+    is_newcomer c.split_seat-next.result.me (c.loop.counter + 1) 0
+    (c.split_seat-next.ensures.4 ∙ ap (λ (m : Me (Option g.row.T.Denot) (View g.row.T-Item.Denot)). (dealt m.0, [])) c.loop.invariant.1)
+
+pub seated-requires-2 : goal.seated-requires-2
+seated-requires-2 g c =
+    let all : c.loop.counter ≡ c.args.self.now.seats = omega arith in
+    is_newcomer c.loop.first.me 1 (c.loop.counter + 1)
+    (c.loop.invariant.1 ∙ ap (λ (v : View g.row.T-Item.Denot). (v, [])) (last_dealt c.loop.counter c.args.self.now.seats all))

@@ -5,7 +5,7 @@ use Rattle.atomic_table.specs.Table.{Me, rest, Allows, step}
 use Rattle.liq_lock.specs.declared.view.View.{View}
 use Rattle.liq_lock.specs.Rule.{Ruled}
 use Rattle.liq_lock.specs.Steps.{Counts, IsLeaving}
-use Rattle.liq_lock.specs.Views.{saw, is_empty_hand}
+use Rattle.liq_lock.specs.Views.{saw, outside, view_in, is_empty_hand}
 use Rattle.liq_lock.proofs.Rests.{at_turn, one_hand}
 use Rattle.liq_lock.proofs.Turns.{counts}
 use Rattle.liq_lock.proofs.lock.Lock.give.Goals as goal
@@ -13,6 +13,18 @@ use Rattle.liq_lock.proofs.lock.Lock.give.Goals as goal
 -- the seat after the value was put into its empty slot
 put : {T I : Type 0} (new old : Me (Option T) (View I)) (x : T) → new ≡ (old.0, (0, Some x) ∷ rest old.1) → is_empty_hand old.1 ≡ true → new ≡ (old.0, (0, Some x) ∷ [])
 put {T} new old x e h = e ∙ ap (λ (l : List (ℕ × Option T)). (old.0, (0, Some x) ∷ l)) (ap rest (one_hand old.1 h))
+
+-- the seat after the turn has ended: it has seen the history of the value
+left : {T I : Type 0} (history : T → List I) (old put_in counted now : Me (Option T) (View I)) (x : T) → put_in ≡ (old.0, (0, Some x) ∷ rest old.1) → is_empty_hand old.1 ≡ true
+    → ((y : T) → put_in.1 ≡ (0, Some y) ∷ [] → counted ≡ (saw put_in.0 (history y), put_in.1)) → now ≡ (outside counted.0, []) → now ≡ (outside (saw old.0 (history x)), [])
+left {T} {I} history old put_in counted now x exchanged empty counts leaves =
+    let here = put put_in old x exchanged empty in
+    leaves ∙ ap (λ (m : Me (Option T) (View I)). (outside m.0, []))
+    (counts x (ap (λ (m : Me (Option T) (View I)). m.1) here) ∙ ap (λ (m : Me (Option T) (View I)). (saw m.0 (history x), m.1)) here)
+
+-- and what its badge tells of it
+told : {T I : Type 0} (views : List (View I)) (now : Me (Option T) (View I)) (v : View I) → views ≡ now.0 ∷ [] → now ≡ (v, []) → view_in views ≡ v
+told {T} {I} views now v is whole = ap view_in is ∙ ap (λ (m : Me (Option T) (View I)). m.0) whole
 
 pub fetch_add-requires : goal.fetch_add-requires
 fetch_add-requires g c =
@@ -44,3 +56,40 @@ leave-requires-clause-turn g c =
     let counted = c.fetch_add.ensures.2 c.args.value hand
     ∙ ap (λ (m : Me (Option g.row.T.Denot) (View g.row.T-Item.Denot)). (saw m.0 (history c.args.value), m.1)) put' in
     subst (IsLeaving history) (sym counted) record { inside = turn.inside; alive = turn.alive; value = (c.args.value, refl, refl) }
+
+pub leave-requires-clause-own : goal.leave-requires-clause-own
+leave-requires-clause-own g c = c.fetch_add.ensures.0 ∙ c.exchange.ensures.0 ∙ c.requires.own
+
+pub into_badge-requires : goal.into_badge-requires
+into_badge-requires g c = ap (λ (m : Me (Option g.row.T.Denot) (View g.row.T-Item.Denot)). m.1) c.leave.ensures.outside
+
+pub returns-clause-own : goal.returns-clause-own
+returns-clause-own g c = c.into_badge.ensures.0 ∙ c.leave.ensures.own
+
+pub returns-clause-number : goal.returns-clause-number
+returns-clause-number g c =
+    let history = g.T.Chronicle.history in
+    let v : View g.row.T-Item.Denot = c.args.held.seat.me.0 in
+    let now = left history c.args.held.seat.me c.exchange.new.seat.me c.fetch_add.new.seat.me c.leave.new.seat.me c.args.value c.exchange.ensures.3 c.args.held.empty_hand c.fetch_add.ensures.2 c.leave.ensures.outside in
+    ap (λ (w : View g.row.T-Item.Denot). w.number) (told c.into_badge.result.views c.leave.new.seat.me (outside (saw v (history c.args.value))) c.into_badge.ensures.2 now)
+
+pub returns-clause-stands : goal.returns-clause-stands
+returns-clause-stands g c =
+    let history = g.T.Chronicle.history in
+    let v : View g.row.T-Item.Denot = c.args.held.seat.me.0 in
+    let now = left history c.args.held.seat.me c.exchange.new.seat.me c.fetch_add.new.seat.me c.leave.new.seat.me c.args.value c.exchange.ensures.3 c.args.held.empty_hand c.fetch_add.ensures.2 c.leave.ensures.outside in
+    ap (λ (w : View g.row.T-Item.Denot). w.stands) (told c.into_badge.result.views c.leave.new.seat.me (outside (saw v (history c.args.value))) c.into_badge.ensures.2 now)
+
+pub returns-clause-shares : goal.returns-clause-shares
+returns-clause-shares g c =
+    let history = g.T.Chronicle.history in
+    let v : View g.row.T-Item.Denot = c.args.held.seat.me.0 in
+    let now = left history c.args.held.seat.me c.exchange.new.seat.me c.fetch_add.new.seat.me c.leave.new.seat.me c.args.value c.exchange.ensures.3 c.args.held.empty_hand c.fetch_add.ensures.2 c.leave.ensures.outside in
+    ap (λ (w : View g.row.T-Item.Denot). w.shares) (told c.into_badge.result.views c.leave.new.seat.me (outside (saw v (history c.args.value))) c.into_badge.ensures.2 now)
+
+pub returns-clause-seen : goal.returns-clause-seen
+returns-clause-seen g c =
+    let history = g.T.Chronicle.history in
+    let v : View g.row.T-Item.Denot = c.args.held.seat.me.0 in
+    let now = left history c.args.held.seat.me c.exchange.new.seat.me c.fetch_add.new.seat.me c.leave.new.seat.me c.args.value c.exchange.ensures.3 c.args.held.empty_hand c.fetch_add.ensures.2 c.leave.ensures.outside in
+    ap (λ (w : View g.row.T-Item.Denot). w.seen) (told c.into_badge.result.views c.leave.new.seat.me (outside (saw v (history c.args.value))) c.into_badge.ensures.2 now)
