@@ -1,4 +1,4 @@
-use Rattle.std.proofs.Common.{rules, arith}
+use Rattle.std.proofs.Common.{rules, arith, ◌≤◌, vec_len, vec_capacity}
 use Rattle.std.proofs.lemmas.Slice.Zip.{AllZip-long, all_zipped_more}
 use Rattle.liq_sessions.proofs.Places.{ends, none_alone}
 use Rattle.liq_sessions.proofs.at_once.+fn-run_all-join+arg3+run_all.Goals as goal
@@ -24,10 +24,11 @@ returns-then-is_empty-clause-done g t c =
 pub join-one-requires-after_bounds : goal.join-one-requires-after_bounds
 join-one-requires-after_bounds g t c κs within =
     let ready = ends _ _ _ _ _ _ _ c.in-Some.ensures.items c.in-Some-pop.ensures.items c.requires.ready in
-    let others = ready.0 in
-    let last = ready.1 in
     let one_less = c.in-Some.ensures.len in
-    search rules
+    let room : vec_len c.pop.new.self ≤ vec_capacity c.args.done = omega (arith, one_less, c.requires.room) in (
+      ready.1,
+      (search rules, ((λ a here. here), ((λ a here. here), ((λ a here. here), ((λ a here. here), ((λ a here. here), (((search rules), ready.0, c.requires.fresh, room), (search rules)))))))),
+    )
 
 pub push_reserved-requires-2 : goal.push_reserved-requires-2
 push_reserved-requires-2 g t c =
