@@ -8,7 +8,7 @@ use crate::stage::Stage;
 use crate::sweeps::{CRASHES, DISK_FAULT, check_replies};
 use liq_casefiles::{At, Lines, Start, Stop, Told, put_words};
 use liq_outside::Disk;
-use std::alloc::AllocError;
+use std::alloc::{AllocError, Global};
 use std::sync::Wait;
 use std::thread::Threads;
 
@@ -178,6 +178,48 @@ fn check_stop<R: Threads + Wait + Sync>(
     check_crashes(rt, stops, told, stop, between)
 }
 
+/// What the crashes of a run leave, each way of the one disk beside each of the other, and each pair once.
+fn crashes<R: Threads + Wait + Sync>(
+    rt: &R,
+    alloc: Global,
+    devices: &Devices<'_>,
+) -> Result<Vec<Start>, AllocError> {
+    let mut lefts = Vec::new(alloc);
+    let mut rights = Vec::new(alloc);
+    for choice in 0..CRASHES {
+        let mut outcome = by_protocol(rt, alloc, devices)?;
+        let held = outcome.crash_both(alloc, choice)?;
+        add(alloc, &mut lefts, &held.left)?;
+        add(alloc, &mut rights, &held.right)?;
+    }
+    pairs(alloc, &lefts, &rights)
+}
+
+/// Adds what a disk holds, where it is not among these.
+fn add(alloc: Global, among: &mut Vec<Vec<u8>>, held: &[u8]) -> Result<(), AllocError> {
+    for one in among.iter() {
+        if one.as_slice() == held {
+            return Ok(());
+        }
+    }
+    among.push(held.to_vec(alloc)?)?;
+    Ok(())
+}
+
+/// Each of these left disks beside each of these right ones.
+fn pairs(alloc: Global, lefts: &[Vec<u8>], rights: &[Vec<u8>]) -> Result<Vec<Start>, AllocError> {
+    let mut pairs = Vec::new(alloc);
+    for left in lefts {
+        for right in rights {
+            pairs.push(Start {
+                left: left.to_vec(alloc)?,
+                right: right.to_vec(alloc)?,
+            })?;
+        }
+    }
+    Ok(pairs)
+}
+
 /// Crashes both disks in each way, up to the first after which something else is found. An opening of what is left is
 /// stopped too, if none of the same was.
 fn check_crashes<R: Threads + Wait + Sync>(
@@ -187,10 +229,7 @@ fn check_crashes<R: Threads + Wait + Sync>(
     stop: Stop,
     between: Between,
 ) -> Result<(), AllocError> {
-    let alloc = stops.stage.alloc;
-    for choice in 0..CRASHES {
-        let mut outcome = by_protocol(rt, alloc, &stops.stopping(stop))?;
-        let held = outcome.crash_both(alloc, choice)?;
+    for held in crashes(rt, stops.stage.alloc, &stops.stopping(stop))? {
         let Some(first) = find(rt, stops, told, &held, between)? else {
             return Ok(());
         };
@@ -298,11 +337,9 @@ fn check_second_crashes<'a, R: Threads + Wait + Sync>(
     stop: Stop,
     between: Between,
 ) -> Result<(), AllocError> {
-    let alloc = stops.stage.alloc;
-    for choice in 0..CRASHES {
-        let mut outcome = by_protocol(rt, alloc, &stops.asking(between.first, held, stop))?;
-        let left_behind = outcome.crash_both(alloc, choice)?;
-        if !is_same(&left_behind, held) && find(rt, stops, told, &left_behind, between)?.is_none() {
+    let devices = stops.asking(between.first, held, stop);
+    for left_behind in &crashes(rt, stops.stage.alloc, &devices)? {
+        if !is_same(left_behind, held) && find(rt, stops, told, left_behind, between)?.is_none() {
             return Ok(());
         }
     }
