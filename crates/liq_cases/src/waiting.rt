@@ -1,7 +1,8 @@
-//! A gate that holds sessions' first calls back.
+//! Gates that keep what sessions' calls were hinted by, and one of which holds first calls back.
 
 use liq_sessions::Gate;
 use liq_types::Hint;
+use std::alloc::{AllocError, Global};
 use std::sync::atomic::{AtomicBool, AtomicU64, Ordering};
 use std::thread;
 
@@ -125,6 +126,39 @@ impl Gate for Waiting {
                 self.arrived.fetch_add(1, Ordering::SeqCst);
             }
             _ => {}
+        }
+    }
+}
+
+/// Lets every call through at once, and keeps by which version of the list each call of the one session is hinted.
+#[derive(Drop)]
+pub struct Versions {
+    hinted: Vec<AtomicU64>,
+}
+
+impl Versions {
+    /// For so many calls.
+    pub fn new(alloc: Global, calls: usize) -> Result<Versions, AllocError> {
+        let mut hinted = Vec::new(alloc);
+        for _ in 0..calls {
+            hinted.push(AtomicU64::new(u64::MAX))?;
+        }
+        Ok(Versions { hinted })
+    }
+
+    /// The version of each call, in their order.
+    pub fn hinted(&self) -> &[AtomicU64] {
+        &self.hinted
+    }
+}
+
+impl Gate for Versions {
+    fn enter(&self, _session: u8, _index: u32) {}
+
+    fn leave(&self, _session: u8, index: u32, hint: &Hint) {
+        let before = (index as usize).wrapping_sub(1);
+        if let Some(version) = self.hinted.get(before) {
+            version.store(hint.version, Ordering::SeqCst);
         }
     }
 }
