@@ -422,12 +422,14 @@ class MarketClient(Calls):
             raise
         finally:
             held.lock.release()
-        sent_again: Row = self._behind(fault, row, verb, accounts, amounts, hints)
+        if not isinstance(fault, JournalFull):
+            raise fault
+        sent_again: Row = self._where_full(fault, row, verb, accounts, amounts, hints)
         return sent_again
 
-    def _behind(self, fault: Exception, *command: Any) -> Any:
-        """What comes of a command behind a refusal: where the market was full it is sent again, behind a rotation."""
-        if not isinstance(fault, JournalFull) or self.market.rotating is None:
+    def _where_full(self, fault: JournalFull, *command: Any) -> Any:
+        """What comes of a command that a full market refused: it is sent again, behind a rotation."""
+        if self.market.rotating is None:
             raise fault
         self.market.client(self.market.rotating).rotate()
         return self._send(*command)
@@ -440,7 +442,7 @@ class Preview(MarketClient):
         super().__init__(market, client)
         self._call, self._is_numbered = market._calls.one.preview, False
 
-    def _behind(self, fault: Exception, *command: Any) -> Any:
+    def _where_full(self, fault: JournalFull, *command: Any) -> Any:
         raise fault
 
 

@@ -57,6 +57,7 @@ def width(row: Optional[Type[Any]]) -> int:
 
 FORMS: Dict[str, Form] = {verb: form_of(verb) for verb in VERBS}
 ASKED: Dict[str, Asked] = {name: asked_by(topic, width(BY_QUERY.get(name))) for topic, name in enumerate(TOPICS, 1)}
+HALVES = [struct.Struct(f"<{2 * count}Q").unpack_from for count in range(6)]  # of a refusal's numbers, by their count
 pack_query = struct.Struct("=2I").pack_into
 
 
@@ -64,8 +65,9 @@ def fault_in(reply: Any) -> Exception:
     """What a reply says that is not what was asked for: a refusal, or that there was no memory."""
     kind, which, count = reply[0], reply[1], reply[2]
     if kind == REFUSED:
-        words = struct.unpack_from(f"<{2 * count}Q", reply, 8)
-        return refusal_of(which, [low | high << 64 for low, high in zip(words[::2], words[1::2])])
+        halves = HALVES[count](reply, 8)
+        numbers, above = halves[::2], halves[1::2]
+        return refusal_of(which, [low | high << 64 for low, high in zip(numbers, above)] if any(above) else numbers)
     if kind == OUT_OF_MEMORY:
         return OutOfMemory("there was no memory for it, and nothing changed")
     return NotReady(f"no reply to this: {bytes(reply[:16]).hex()}")
