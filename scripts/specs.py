@@ -50,6 +50,11 @@ class Item:
         """How many lines it has, without comments and blank ones."""
         return sum(bool(line.strip()) and not is_comment(line) for line in self.lines)
 
+    @property
+    def heads(self) -> List["Item"]:
+        """The heads of the modules in which it stands, the innermost first."""
+        return [self.head, *self.head.heads] if self.head else []
+
 
 @dataclass
 class Spec:
@@ -221,11 +226,7 @@ def pieces_of(item: Item) -> Iterator[Tuple[str, Set[str]]]:
 def names_in(spec: Spec, item: Item) -> List[object]:
     """What an item cites, in its order, without what its own variables hide."""
     found: List[object] = []
-    outer: Set[str] = set()
-    head = item.head
-    while head:
-        outer |= bound_in(code_of(head.lines))
-        head = head.head
+    outer = {name for head in item.heads for name in bound_in(code_of(head.lines))}
     for piece, bound in pieces_of(item):
         bound = bound | outer
         left, equal, _ = piece.partition(" =")
@@ -356,16 +357,14 @@ def item_at(key: Key) -> Item:
     spec = all_specs()[key.crate, key.file]
     item = spec.items[key.name]
     item.names = names_in(spec, item)
-    head = item.head
-    while head:
+    for head in item.heads:
         head.names = head.names or names_in(spec, head)
-        head = head.head
     return item
 
 
 def cited_by(item: Item) -> List[object]:
     """What an item cites, also in the heads of the modules in which it stands."""
-    return (cited_by(item.head) if item.head else []) + item.names
+    return [name for it in (*reversed(item.heads), item) for name in it.names]
 
 
 def reached_from(starts: Iterable[Key]) -> Dict[Key, Item]:
