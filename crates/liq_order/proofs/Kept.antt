@@ -30,7 +30,7 @@ pub record Put (v : Ring) (key : ℤ) (id : ℕ) (nodes : List Node) (free : Lis
 abbrev node_for : ℤ → ℕ → Gap → Node
 node_for key id gap = record { key = key; account = id; previous = gap.previous; next = gap.next }
 
-settled : (v : Ring) (free : List NodeNo) (place : ℕ → Option NodeNo) (first last : Option NodeNo) → IsRing v.nodes v.order free place first last → (node : Node) (at : NodeNo) (nodes' : List Node) (free' : List NodeNo) → IsSettled v.nodes free node at nodes' free' → Taken v.nodes v.order node at nodes' free'
+pub settled : (v : Ring) (free : List NodeNo) (place : ℕ → Option NodeNo) (first last : Option NodeNo) → IsRing v.nodes v.order free place first last → (node : Node) (at : NodeNo) (nodes' : List Node) (free' : List NodeNo) → IsSettled v.nodes free node at nodes' free' → Taken v.nodes v.order node at nodes' free'
 settled v free place first last r node at nodes' free' s = taken v.nodes v.order free node at nodes' free' r.apart r.within r.shared s
 
 pub put_within : (v : Ring) (free : List NodeNo) (place : ℕ → Option NodeNo) (first last : Option NodeNo) → IsRing v.nodes v.order free place first last → (e : Ranked) (gap : Gap) → IsBehind v e gap → (node : Node) (at : NodeNo) (nodes' : List Node) (free' : List NodeNo) → IsSettled v.nodes free node at nodes' free' → IsWithin nodes' gap.previous × IsWithin nodes' gap.next

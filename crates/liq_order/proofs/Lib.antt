@@ -4,6 +4,7 @@ pub mod Changed
 pub mod Found
 pub mod Kept
 pub mod Listing
+pub mod Marks
 pub mod Placed
 pub mod Present
 pub mod Ranking

@@ -1,6 +1,6 @@
 -- What is found among pairs in ascending accounts, and what an edit of them does.
-use Rattle.std.proofs.Common.{◌≡◌, ◌≢◌, ℕ, zero, suc, ◌+◌, ◌-◌, ◌<◌, ◌≤◌, Bool, true, false, cond, eqb, List, [], ◌∷◌, length, get_or, set, Some, None, Result, Ok, Err, IfOk, IfErr, refl, sym, ap, subst, arith}
-use Rattle.std.specs.List.{insert, remove}
+use Rattle.std.proofs.Common.{◌≡◌, ◌≢◌, ℕ, zero, suc, ◌+◌, ◌-◌, ◌<◌, ◌≤◌, cond, eqb, List, [], ◌∷◌, length, get_or, set, Some, None, Result, Ok, Err, IfOk, IfErr, refl, sym, ap, subst, arith}
+use Rattle.std.specs.List.{insert}
 use Rattle.std.specs.List.Sorted.{IsSearchInRange, IsBinarySearchResult, IsNonDecreasingBy}
 use Rattle.std.specs.Ordering.{nat_cmp, ordering_index}
 use Rattle.std.proofs.lemmas.Cmp.{ranked}
@@ -33,7 +33,7 @@ present (x ∷ l) k zero at h = grind (arith, nat_tests, at.has_account)
 present (x ∷ l) k (suc i) at h = grind (arith, nat_tests, h 0 (omega arith), present l k i (tail_at x l k i at) (tail_before x l k i h))
 
 -- what is found after an edit
-abbrev Puts : List Row → List Row → ℕ → NodeNo → Type 0
+abbrev pub Puts : List Row → List Row → ℕ → NodeNo → Type 0
 Puts old new k v = (q : ℕ) → row_of new q ≡ cond (eqb k q) (Some v) (row_of old q)
 
 put_over : (l : List Row) (k : ℕ) (v : NodeNo) (i : ℕ) → IsPairAt l k i → NoneBefore l k i → Puts l (set l i (k, v)) k v
@@ -45,18 +45,6 @@ put_more : (l : List Row) (k : ℕ) (v : NodeNo) (i : ℕ) → NoneBefore l k i 
 put_more l k v zero h q = refl
 put_more [] k v (suc i) h q = refl
 put_more (x ∷ l) k v (suc i) h q = grind (arith, nat_tests, h 0 (omega arith), put_more l k v i (tail_before x l k i h) q)
-
--- a pair less
-taken_out : (l : List Row) (k i : ℕ) → IsPairAt l k i → NoneBefore l k i → ((j : ℕ) → i < j → j < length l → account_at l j ≢ k) → (q : ℕ) → row_of (remove l i) q ≡ cond (eqb k q) None (row_of l q)
-taken_out [] k i at h later q = absurd (omega (arith, at.in_range))
-taken_out (x ∷ l) k zero at h later q =
-    let rest : row_of l k ≡ None = absent l k (λ j lt. later (suc j) (omega arith) (omega (arith, lt))) in
-    by (eqb k q) refl rest where
-      by : (b : Bool) → eqb k q ≡ b → row_of l k ≡ None → row_of l q ≡ cond b None (row_of (x ∷ l) q)
-      by true is rest = grind (arith, nat_tests, rest, is, λ (same : k ≡ q). ap (row_of l) same)
-      by false is rest = grind (arith, nat_tests, at.has_account, is)
-taken_out (x ∷ l) k (suc i) at h later q =
-    grind (arith, nat_tests, h 0 (omega arith), taken_out l k i (tail_at x l k i at) (tail_before x l k i h) (λ j lt less. later (suc j) (omega (arith, lt)) (omega (arith, less))) q)
 
 module _ (l : List Row) (strict : IsStrict l) (k : ℕ) where
   rise : IsNonDecreasingBy (λ row. ordering_index (nat_cmp row.0 k)) l
@@ -79,17 +67,11 @@ module _ (l : List Row) (strict : IsStrict l) (k at : ℕ) (is_at : IsPairAt l k
   none_before : NoneBefore l k at
   none_before j lt same = omega (arith, strict j at lt is_at.in_range, is_at.has_account)
 
-  none_after : (j : ℕ) → at < j → j < length l → account_at l j ≢ k
-  none_after j lt less same = omega (arith, strict at j lt less, is_at.has_account)
-
   pub row_at : row_of l k ≡ Some (get_or l at nowhere).1
   row_at = present l k at is_at none_before
 
   pub over : (v : NodeNo) → Puts l (set l at (k, v)) k v
   over v = put_over l k v at is_at none_before
-
-  pub without : (q : ℕ) → row_of (remove l at) q ≡ cond (eqb k q) None (row_of l q)
-  without = taken_out l k at is_at none_before none_after
 
 module _ (l : List Row) (k at : ℕ) (gap : IsGapFor l k at) where
   pub row_gap : row_of l k ≡ None

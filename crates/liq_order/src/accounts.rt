@@ -1,9 +1,10 @@
 //! At which place the node of each account is.
 
-ghost use Rattle.std.specs.Prelude.{◌≡◌, ℕ, ◌+◌, ◌<◌, ◌≤◌, ◌^◌, ◌==◌, false, length, None, Some, IsSome, IfSome, IfNone, IfOk, IfErr, OnOk, if◌then◌else◌};
+ghost use Rattle.std.specs.Prelude.{◌≡◌, ℕ, ◌+◌, ◌<◌, ◌≤◌, ◌^◌, ◌==◌, length, None, Some, IsSome, IfSome, IfOk, IfErr, OnOk, if◌then◌else◌, vec_capacity};
+ghost use Rattle.std.specs.List.{filter};
 ghost use Rattle.liq_order.specs.Chained.{paired};
 ghost use Rattle.liq_order.specs.Listed.{AreDistinct};
-ghost use Rattle.liq_order.specs.Pairs.{IsPaired, IsPairAt, IsGapFor, IsGoneAt, IsStrict, account_at, place_of, is_gone, row_of};
+ghost use Rattle.liq_order.specs.Pairs.{IsPaired, IsPairAt, IsGapFor, IsStrict, account_at, place_of, row_of, mark, has_place, unless_marked};
 
 use crate::at_once::rows_of;
 use crate::places::NodeNo;
@@ -11,24 +12,29 @@ use liq_types::NoMemory;
 use std::alloc::Global;
 use std::marker::Model;
 
-/// The places by their accounts, in ascending accounts. The pair of the account that left last stays, so that nothing moves where
-/// the same account comes again.
+// Marks the row of an account that left. No node has this place: there are 2^32 - 1 nodes at most.
+const MARK: NodeNo = NodeNo(u32::MAX);
+
+/// The places by their accounts, in ascending accounts. The row of an account that left is only marked, so that nothing moves
+/// where it leaves, and where it comes again. Once more than a quarter of the rows is marked, all marked ones go together.
 #[derive(Drop)]
 pub(crate) struct Pairs {
     rows: Vec<(u32, NodeNo)>,
-    // Where the pair of the account that left last is.
-    gone: Option<usize>,
+    // So many rows are marked.
+    marked: usize,
+    // Where the row is that was marked last, unless rows have moved since: mostly its account is the next to come.
+    last: Option<usize>,
 }
 
 impl Model for Pairs {
     ghost use Rattle.std.specs.Prelude.{◌+◌, ◌-◌, vec_len, vec_capacity};
-    ghost use Rattle.liq_order.specs.Pairs.{Paired, IsPaired, kept};
+    ghost use Rattle.liq_order.specs.Pairs.{Paired, IsPaired};
 
     ghost Value = { Paired };
 
-    ghost view = { λ p. record { rows = p.rows.items; gone = p.gone; room = vec_capacity p.rows + kept p.gone - vec_len p.rows } };
+    ghost view = { λ p. record { rows = p.rows.items; marked = p.marked; room = vec_capacity p.rows + p.marked - vec_len p.rows } };
 
-    ghost invariant = { λ p. IsPaired p.rows.items p.gone };
+    ghost invariant = { λ p. IsPaired p.rows.items p.marked };
 }
 
 impl Pairs {
@@ -37,7 +43,8 @@ impl Pairs {
     {
         Pairs {
             rows: Vec::new(alloc),
-            gone: None,
+            marked: 0,
+            last: None,
         }
     }
 
@@ -49,13 +56,18 @@ impl Pairs {
     {
         let mut rows = rows_of(alloc, entries)?;
         rows.sort_unstable_by_key(|&(account, _)| account);
-        Ok(Pairs { rows, gone: None })
+        Ok(Pairs {
+            rows,
+            marked: 0,
+            last: None,
+        })
     }
 
-    /// Room for so many more. The places stay.
+    /// Room for so many more, also beside the marked rows, which need not go then. The places stay.
     pub fn reserve(&mut self, more: usize) -> Result<(), NoMemory>
         ensures same { (account : ℕ) → place_of self.new account ≡ place_of self.old account }
         ensures room { OnOk result (more ≤ self.new.room) }
+        ensures beside { OnOk result (more + self.new.marked ≤ self.new.room) }
         ensures kept { self.old.room ≤ self.new.room }
     {
         match self.rows.reserve(more) {
@@ -68,11 +80,8 @@ impl Pairs {
     pub fn find(&self, account: u32) -> Option<NodeNo>
         ensures { result ≡ place_of self.now account }
     {
-        if self.gone_at(account).is_some() {
-            return None;
-        }
         match self.search(account) {
-            Ok(at) => Some(self.rows[at].1),
+            Ok(at) => unmarked(self.rows[at].1),
             Err(_) => None,
         }
     }
@@ -80,15 +89,19 @@ impl Pairs {
     /// An account without a place gets this one.
     pub fn put(&mut self, account: u32, place: NodeNo)
         requires absent { place_of self.old account ≡ None }
+        requires node { place.0 < mark }
         requires room { 1 ≤ self.old.room }
         ensures places { (a : ℕ) → place_of self.new a ≡ (if account == a then Some place else place_of self.old a) }
         ensures room { self.new.room + 1 ≡ self.old.room }
     {
-        match self.gone_at(account) {
-            Some(at) => self.give_back(at, account, place),
-            None => {
-                self.forget();
-                self.add(account, place);
+        match self.search(account) {
+            Ok(at) => self.give_back(at, account, place),
+            Err(at) => {
+                if self.rows.len() < self.rows.capacity() {
+                    self.add(at, account, place);
+                } else {
+                    self.add_compacted(account, place);
+                }
             }
         }
     }
@@ -100,80 +113,112 @@ impl Pairs {
         ensures places { (a : ℕ) → place_of self.new a ≡ (if account == a then None else place_of self.old a) }
         ensures room { self.new.room ≡ self.old.room + 1 }
     {
-        self.forget();
         match self.search(account) {
             Ok(at) => {
                 let place = self.rows[at].1;
-                self.gone = Some(at);
+                self.mark(at, account);
                 place
             }
             Err(_) => unreachable!(),
         }
     }
 
-    // The pair of the account that left last is used again.
+    // The row of an account that left is used again.
     fn give_back(&mut self, at: usize, account: u32, place: NodeNo)
-        requires { IsGoneAt self.old.rows self.old.gone account at }
+        requires pair { IsPairAt self.old.rows account at }
+        requires absent { place_of self.old account ≡ None }
+        requires node { place.0 < mark }
         ensures places { (a : ℕ) → place_of self.new a ≡ (if account == a then Some place else place_of self.old a) }
         ensures room { self.new.room + 1 ≡ self.old.room }
     {
         self.rows[at] = (account, place);
-        self.gone = None;
+        self.marked -= 1;
+        self.last = None;
     }
 
-    // A pair more.
-    fn add(&mut self, account: u32, place: NodeNo)
-        requires none { self.old.gone ≡ None }
+    // A row more.
+    fn add(&mut self, at: usize, account: u32, place: NodeNo)
+        requires gap { IsGapFor self.old.rows account at }
+        requires node { place.0 < mark }
+        requires room { self.old.marked < self.old.room }
+        ensures places { (a : ℕ) → place_of self.new a ≡ (if account == a then Some place else place_of self.old a) }
+        ensures room { self.new.room + 1 ≡ self.old.room }
+    {
+        match self.rows.insert(at, (account, place)) {
+            Ok(()) => {}
+            Err(_) => unreachable!(),
+        }
+    }
+
+    // A row more, once the marked ones are gone.
+    fn add_compacted(&mut self, account: u32, place: NodeNo)
         requires absent { place_of self.old account ≡ None }
+        requires node { place.0 < mark }
         requires room { 1 ≤ self.old.room }
         ensures places { (a : ℕ) → place_of self.new a ≡ (if account == a then Some place else place_of self.old a) }
         ensures room { self.new.room + 1 ≡ self.old.room }
     {
+        self.compact();
         match self.search(account) {
             Ok(_) => unreachable!(),
-            Err(at) => match self.rows.insert(at, (account, place)) {
-                Ok(()) => {}
-                Err(_) => unreachable!(),
-            },
+            Err(at) => self.add(at, account, place),
         }
     }
 
-    // The pair of the account that left last goes.
-    fn forget(&mut self)
-        ensures none { self.new.gone ≡ None }
+    // The marked rows go.
+    fn compact(&mut self)
+        ensures none { self.new.marked ≡ 0 }
         ensures places { (a : ℕ) → place_of self.new a ≡ place_of self.old a }
         ensures room { self.new.room ≡ self.old.room }
     {
-        if let Some(at) = self.gone {
-            let _ = self.rows.remove(at);
-            self.gone = None;
-        }
+        drop_marked(&mut self.rows);
+        self.marked = 0;
     }
 
-    // Where the account's pair is, if the account is the one that left last.
-    fn gone_at(&self, account: u32) -> Option<usize>
-        ensures gone { IfSome result (IsGoneAt self.now.rows self.now.gone account) }
-        ensures not { IfNone result (is_gone self.now.rows self.now.gone account ≡ false) }
+    // The row of an account that has a place is marked. One row may stay marked in any case, so that little moves among few.
+    fn mark(&mut self, at: usize, account: u32)
+        requires pair { IsPairAt self.old.rows account at }
+        requires there { IsSome (place_of self.old account) }
+        ensures places { (a : ℕ) → place_of self.new a ≡ (if account == a then None else place_of self.old a) }
+        ensures room { self.new.room ≡ self.old.room + 1 }
     {
-        let at = self.gone?;
-        if self.rows[at].0 == account {
-            Some(at)
+        self.rows[at] = (account, MARK);
+        if self.marked <= self.rows.len() / 4 {
+            self.marked += 1;
+            self.last = Some(at);
         } else {
-            None
+            drop_marked(&mut self.rows);
+            self.marked = 0;
         }
     }
 
-    // Where the account's pair is, or where it would go.
+    // Where the account's row is, or where it would go.
     fn search(&self, account: u32) -> Result<usize, usize>
         ensures found { IfOk result (IsPairAt self.now.rows account) }
         ensures absent { IfErr result (IsGapFor self.now.rows account) }
-        ensures kept { IsPaired self.now.rows self.now.gone }
+        ensures kept { IsPaired self.now.rows self.now.marked }
     {
+        let _ = &self.last;
+        if let Some(at) = self.last_at(account) {
+            return Ok(at);
+        }
         let (low, high) = self.window(account);
         let part = &self.rows[low..high];
         match part.binary_search_by_key(&account, |&(a, _)| a) {
             Ok(at) => Ok(low + at),
             Err(at) => Err(low + at),
+        }
+    }
+
+    // Where the account's row is, if it was marked last.
+    fn last_at(&self, account: u32) -> Option<usize>
+        ensures { IfSome result (IsPairAt self.now.rows account) }
+    {
+        let at = self.last?;
+        if self.rows.get(at)?.0 == account {
+            Some(at)
+        } else {
+            None
         }
     }
 
@@ -200,4 +245,19 @@ impl Pairs {
         let before = (account - first) as usize;
         (count.saturating_sub(behind + 1), count.min(before + 1))
     }
+}
+
+// A place, where it is not the mark.
+fn unmarked(place: NodeNo) -> Option<NodeNo>
+    ensures { result ≡ unless_marked place }
+{
+    if place == MARK { None } else { Some(place) }
+}
+
+// The rows of accounts that have a place stay.
+fn drop_marked(rows: &mut Vec<(u32, NodeNo)>)
+    ensures rows { rows.new.items ≡ filter has_place rows.old.items }
+    ensures capacity { vec_capacity rows.new ≡ vec_capacity rows.old }
+{
+    rows.retain(|&(_, place)| place != MARK);
 }

@@ -269,6 +269,8 @@ impl Nodes {
     {
         let listed = self.nodes.len() - self.free.len();
         if more <= self.most - listed {
+            // Where there is memory, also beside the marked rows, which else would go as soon as the rows are full.
+            let _ = self.pairs.reserve(more);
             return Ok(());
         }
         if more > u32::MAX as usize - listed {

@@ -27,7 +27,7 @@ const ALL_FIVE: [Option<u32>; 6] = [Some(4), Some(3), Some(9), Some(2), Some(1),
 
 const FIVE: Turn = List(ALL_FIVE);
 
-const TURNS: [Turn; 28] = [
+const TURNS: [Turn; 40] = [
     List([None; 6]),
     Put(10, 1, None),
     Put(20, 2, None),
@@ -57,6 +57,20 @@ const TURNS: [Turn; 28] = [
     Out(1),
     Out(4),
     Put(-7, 4, None),
+    List([Some(3), Some(5), Some(2), Some(0), Some(4), None]),
+    // Some leave, one of them comes again, and one that was never there comes between.
+    Out(2),
+    Out(5),
+    List([Some(3), Some(0), Some(4), None, None, None]),
+    Put(20, 5, None),
+    Put(7, 6, None),
+    List([Some(3), Some(5), Some(0), Some(6), Some(4), None]),
+    // With these more than a quarter has left. Then they come again.
+    Out(0),
+    Out(6),
+    List([Some(3), Some(5), Some(4), None, None, None]),
+    Put(20, 2, None),
+    Put(20, 0, None),
     List([Some(3), Some(5), Some(2), Some(0), Some(4), None]),
 ];
 

@@ -1,35 +1,31 @@
-use Rattle.std.proofs.Common.{◌≡◌, ◌<◌, cond, ◌==◌, length, Some, None, IfSome, ap, sym, ◌∙◌, subst}
-use Rattle.liq_order.specs.declared.places.NodeNo.{NodeNo}
-use Rattle.liq_order.specs.Pairs.{Paired, IsStrict, IsGapFor, row_of, place_in}
-use Rattle.liq_order.proofs.Rows.{row_at, strict_insert, more}
+use Rattle.std.proofs.Common.{cond, ◌==◌, Some, ap, sym, ◌∙◌, subst, arith}
+use Rattle.std.proofs.lemmas.List.Edits.{length-insert}
+use Rattle.std.proofs.lemmas.List.Sums.{sum_by-insert}
+use Rattle.liq_order.specs.Pairs.{Paired, Row, IsGapFor, IsPaired, place_of, place_if, row_of}
+use Rattle.liq_order.proofs.Marks.{none, one_if, places_put, real_place, unmarked_row}
+use Rattle.liq_order.proofs.Rows.{more, strict_insert}
 use Rattle.liq_order.proofs.accounts.Pairs.add.Goals as goal
 
 pub unreachable-requires : goal.unreachable-requires
 unreachable-requires c =
-    let p = c.args.self.now in
-    clash (sym (row_at p.rows c.in-Ok.ensures.kept.strict c.args.account c.in-Ok.field-0 c.in-Ok.ensures.found) ∙ subst (λ g. place_in p.rows g c.args.account ≡ None) c.requires.none c.requires.absent) where
-      clash : {q : NodeNo} → Some q ≡ None → ⊥
-      clash e = cc
+    omega (arith, c.in-Err.ensures.full, c.requires.room, c.self.inside.rows.ok, ap (λ (p : Paired). p.room) c.self.view_is, ap (λ (p : Paired). p.marked) c.self.view_is)
 
 pub invariant_of-self : goal.invariant_of-self
 invariant_of-self c =
     let rows = c.self.inside.rows.items in
-    let same = ap (λ (p : Paired). p.rows) c.self.view_is in
-    let gap = subst (λ l. IsGapFor l c.args.account c.in-Err.at) (sym same) c.in-Err.ensures.absent in
-    let none = ap (λ (p : Paired). p.gone) c.self.view_is ∙ c.requires.none in
-    record {
-      strict = subst IsStrict (sym c.in-Ok-insert.ensures.items) (strict_insert rows c.args.account c.in-Err.at gap c.args.place c.self.invariant.strict);
-      there = subst (λ g. IfSome g (λ at. at < length c.insert.new.self.items)) (sym none) tt;
-    }
+    let row : Row = (c.args.account, c.args.place) in
+    let gap = subst (λ (p : Paired). IsGapFor p.rows c.args.account c.args.at) (sym c.self.view_is) c.requires.gap in
+    subst (λ l. IsPaired l c.self.inside.marked) (sym c.in-Ok.ensures.items) (record {
+      strict = strict_insert rows c.args.account c.args.at gap c.args.place c.self.invariant.strict;
+      counted = omega (arith, c.self.invariant.counted, sum_by-insert one_if rows c.args.at row, none row (unmarked_row row c.requires.node));
+      few = omega (arith, c.self.invariant.few, length-insert rows c.args.at row gap.in_range);
+    })
 
 pub returns-clause-places : goal.returns-clause-places
 returns-clause-places c a =
     let rows = c.self.inside.rows.items in
-    let now = c.args.self.now in
-    let same = ap (λ (p : Paired). p.rows) c.self.view_is in
-    let gap = subst (λ l. IsGapFor l c.args.account c.in-Err.at) (sym same) c.in-Err.ensures.absent in
-    let none = ap (λ (p : Paired). p.gone) c.self.view_is ∙ c.requires.none in
-    ap (λ g. place_in c.insert.new.self.items g a) none
-    ∙ ap (λ l. row_of l a) c.in-Ok-insert.ensures.items
-    ∙ more rows c.args.account c.in-Err.at gap c.args.place a
-    ∙ ap (λ o. cond (c.args.account == a) (Some c.args.place) o) (ap (λ l. row_of l a) same ∙ ap (λ g. place_in now.rows g a) (sym c.requires.none))
+    let gap = subst (λ (p : Paired). IsGapFor p.rows c.args.account c.args.at) (sym c.self.view_is) c.requires.gap in
+    ap (λ l. place_if (row_of l a)) c.in-Ok.ensures.items
+    ∙ places_put rows _ c.args.account c.args.place (more rows c.args.account c.args.at gap c.args.place) a
+    ∙ ap (λ o. cond (c.args.account == a) o (place_if (row_of rows a))) (real_place c.args.place c.requires.node)
+    ∙ ap (λ (p : Paired). cond (c.args.account == a) (Some c.args.place) (place_of p a)) c.self.view_is

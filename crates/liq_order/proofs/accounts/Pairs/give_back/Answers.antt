@@ -1,21 +1,33 @@
-use Rattle.std.proofs.Common.{◌≡◌, Bool, true, false, cond, ◌==◌, set, refl, Option, Some, None, ap, sym, ◌∙◌, subst}
-use Rattle.liq_order.specs.declared.places.NodeNo.{NodeNo}
-use Rattle.liq_order.specs.Pairs.{Paired, IsStrict, row_of, place_in}
-use Rattle.liq_order.proofs.Rows.{over}
+use Rattle.std.proofs.Common.{◌≡◌, cond, Some, None, ap, sym, ◌∙◌, subst, arith}
+use Rattle.std.specs.Prelude.{◌==◌}
+use Rattle.liq_order.specs.Pairs.{Paired, IsPairAt, place_of}
+use Rattle.liq_order.proofs.Marks.{used_over}
 use Rattle.liq_order.proofs.accounts.Pairs.give_back.Goals as goal
 
-twice : (b : Bool) (v o : Option NodeNo) → cond b v o ≡ cond b v (cond b None o)
-twice true v o = refl
-twice false v o = refl
+pub overflow_sub-self : goal.overflow_sub-self
+overflow_sub-self c =
+    let pair = subst (λ (p : Paired). IsPairAt p.rows c.args.account c.args.at) (sym c.self.view_is) c.requires.pair in
+    let absent = subst (λ (p : Paired). place_of p c.args.account ≡ None) (sym c.self.view_is) c.requires.absent in
+    let u = used_over c.self.inside.rows.items c.self.inside.marked c.self.invariant c.args.account c.args.at pair absent c.args.place c.requires.node in
+    omega (arith, u.some)
+
+pub invariant_of-self : goal.invariant_of-self
+invariant_of-self c =
+    let pair = subst (λ (p : Paired). IsPairAt p.rows c.args.account c.args.at) (sym c.self.view_is) c.requires.pair in
+    let absent = subst (λ (p : Paired). place_of p c.args.account ≡ None) (sym c.self.view_is) c.requires.absent in
+    let u = used_over c.self.inside.rows.items c.self.inside.marked c.self.invariant c.args.account c.args.at pair absent c.args.place c.requires.node in
+    u.paired
 
 pub returns-clause-places : goal.returns-clause-places
 returns-clause-places c a =
-    let rows = c.args.self.now.rows in
-    let same = ap (λ (p : Paired). p.rows) c.self.view_is in
-    let account = c.args.account in
-    let put = Some c.args.place in
-    ap (λ l. row_of (set l c.args.at (account, c.args.place)) a) same
-    ∙ over rows (subst IsStrict same c.self.invariant.strict) account c.args.at c.requires.pair c.args.place a
-    ∙ twice (account == a) put (row_of rows a)
-    ∙ ap (λ k. cond (account == a) put (cond (k == a) None (row_of rows a))) (sym c.requires.pair.has_account)
-    ∙ ap (λ g. cond (account == a) put (place_in rows g a)) (sym c.requires.gone_is)
+    let pair = subst (λ (p : Paired). IsPairAt p.rows c.args.account c.args.at) (sym c.self.view_is) c.requires.pair in
+    let absent = subst (λ (p : Paired). place_of p c.args.account ≡ None) (sym c.self.view_is) c.requires.absent in
+    let u = used_over c.self.inside.rows.items c.self.inside.marked c.self.invariant c.args.account c.args.at pair absent c.args.place c.requires.node in
+    u.told a ∙ ap (λ (p : Paired). cond (c.args.account == a) (Some c.args.place) (place_of p a)) c.self.view_is
+
+pub returns-clause-room : goal.returns-clause-room
+returns-clause-room c =
+    let pair = subst (λ (p : Paired). IsPairAt p.rows c.args.account c.args.at) (sym c.self.view_is) c.requires.pair in
+    let absent = subst (λ (p : Paired). place_of p c.args.account ≡ None) (sym c.self.view_is) c.requires.absent in
+    let u = used_over c.self.inside.rows.items c.self.inside.marked c.self.invariant c.args.account c.args.at pair absent c.args.place c.requires.node in
+    omega (arith, u.some, c.self.inside.rows.ok, ap (λ (p : Paired). p.room) c.self.view_is)

@@ -7,13 +7,23 @@ use Rattle.liq_order.specs.Pairs.{place_of}
 use Rattle.liq_order.proofs.Chains.{all_back}
 use Rattle.liq_order.proofs.Changed.{node_absent}
 use Rattle.liq_order.proofs.Found.{absent_from_key}
-use Rattle.liq_order.proofs.Kept.{Put, come, put_within, put_whole}
+use Rattle.liq_order.proofs.Kept.{Put, come, settled, put_within, put_whole}
 use Rattle.liq_order.proofs.linked.Nodes.put_between.Goals as goal
 
 pub settle-at-requires-clause-within : goal.settle-at-requires-clause-within
 settle-at-requires-clause-within c =
     let nodes = c.self.inside.nodes.items in
     all_back (λ (q : NodeNo). q.0 < length nodes) (come nodes c.self.inside.first) c.self.inside.free.items c.self.invariant.0.within
+
+pub put-requires-clause-node : goal.put-requires-clause-node
+put-requires-clause-node c =
+    let i = c.self.inside in
+    let v : Ring = record { nodes = i.nodes.items; order = come i.nodes.items i.first; room = i.most - length (come i.nodes.items i.first) } in
+    let place = simp (to_z-of_z, c.ranges.key) at c.settle-at.ensures.place in
+    let t = settled v i.free.items (place_of i.pairs) i.first i.last c.self.invariant.0 (record { key = c.args.key; account = c.args.id; previous = c.args.gap.previous; next = c.args.gap.next }) c.settle-at.result c.settle-at.new.nodes.items c.settle-at.new.free.items place in
+    let room = ap (λ (r : Ring). r.room) c.self.view_is in
+    let roomy = c.self.invariant.1 in
+    omega (arith, t.in_range, t.grown i.most (omega (arith, room, c.requires.room)) roomy.used, roomy.few)
 
 pub put-requires-clause-absent : goal.put-requires-clause-absent
 put-requires-clause-absent c =
