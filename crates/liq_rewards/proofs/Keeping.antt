@@ -248,7 +248,7 @@ account-event e words (event.Own owner put out gain left) = by (owner == e.accou
   by true = refl
   by false = refl
 
-account-after : (words : PoolWords) (sharing : Option Sharing) (ev : PoolEvent) (e : Earner) → (earner_after words sharing ev e).account ≡ e.account
+pub account-after : (words : PoolWords) (sharing : Option Sharing) (ev : PoolEvent) (e : Earner) → (earner_after words sharing ev e).account ≡ e.account
 account-after words sharing ev e = account-event (dealt_with e words sharing) words ev ∙ account-dealt e words sharing
 
 pub rows-after : (words : PoolWords) (sharing : Option Sharing) (ev : PoolEvent) (es : List Earner) (account : ℕ) → has_row (map (earner_after words sharing ev) es) account ≡ has_row es account

@@ -8,4 +8,5 @@ pub mod Small
 pub mod Dealing
 pub mod Keeping
 pub mod Following
-pub mod Rows
+pub mod Changing
+pub mod Finding

@@ -6,3 +6,4 @@ pub mod Lines
 pub mod Reading
 pub mod Earner
 pub mod Kept
+pub mod Rows

@@ -245,7 +245,7 @@ impl Earner {
     }
 
     /// What an offset or a sharing may cost the account now.
-    fn cost(self, words: PoolWords) -> u64
+    pub(crate) fn cost(self, words: PoolWords) -> u64
         ensures { result ≡ cost_now self words }
     {
         if self.amount == 0 || words.epoch != self.epoch {

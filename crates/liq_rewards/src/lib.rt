@@ -7,6 +7,7 @@ mod issuance;
 pub mod laws;
 mod lines;
 mod rewards;
+mod rows;
 mod sharing;
 
 pub use issuance::{EVENTS_MOST, SHARED_LEAST, UNITS_AT_FIRST, UNITS_MOST, YEAR, YEARS, issued};

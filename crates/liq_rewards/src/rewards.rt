@@ -1,8 +1,7 @@
 //! The account of all reward units.
 
-ghost use Rattle.std.specs.Prelude.{◌≡◌, ℕ, ◌+◌, ◌-◌, ◌<◌, ◌≤◌, ◌==◌, true, [], ◌∷◌, ◌++◌, List, map};
+ghost use Rattle.std.specs.Prelude.{◌≡◌, ℕ, ◌+◌, ◌-◌, ◌<◌, ◌≤◌, true, [], ◌∷◌, List};
 ghost use Rattle.std.specs.Prelude.{IsOk, OnOk, OnErr, IfSome, if◌then◌else◌};
-ghost use Rattle.std.specs.List.{AllByRecursion};
 ghost use Rattle.std.specs.Option.{is_some};
 ghost use Rattle.liq_types.specs.PlainLedger.{AreOwnedBelow, over_accounts};
 ghost use Rattle.liq_types.specs.Product.{after_offset};
@@ -11,12 +10,12 @@ ghost use Rattle.liq_rewards.specs.Issued.{issued};
 ghost use Rattle.liq_rewards.specs.Timed.{Timed, timed, events_of, unshared_at};
 ghost use Rattle.liq_rewards.specs.Earning.{reward_at};
 ghost use Rattle.liq_rewards.specs.Exact.{IsWithinAllowance};
-ghost use Rattle.liq_rewards.specs.Earner.{no_earner, sharing_of, dealt_with, earner_after, CanGoOn, IsSmallDue};
-ghost use Rattle.liq_rewards.specs.Kept.{Kept, earner_in, has_row, HasRoomFor, IsKeptOf, MayHappen, row_of};
+ghost use Rattle.liq_rewards.specs.Earner.{sharing_of, IsSmallDue};
+ghost use Rattle.liq_rewards.specs.Kept.{Kept, has_row, HasRoomFor, IsKeptOf, MayHappen, row_of};
 ghost use Rattle.liq_rewards.specs.Kept.{words_then, CanHappen};
 
-use crate::earner::Earner;
 use crate::issuance::{EVENTS_MOST, UNITS_MOST, issued};
+use crate::rows::Rows;
 use crate::sharing::Sharing;
 use liq_stability::{PoolWords, offset_words};
 use liq_types::amounts::P_OPENING;
@@ -37,7 +36,8 @@ pub struct RewardRow {
 /// Reward units, as all events so far and the minutes between them make them. Contracts say what a value stands for by
 /// `IsKeptOf`: a list of events with their minutes, the latest first. Each value stands for a lawful list. Only
 /// [`Rewards::reserve`] takes memory. An event takes time in all accounts that have room, also where nothing is left of
-/// their deposits.
+/// their deposits, if what is due is shared before it, or it is an offset that raises the scale or ends the epoch. Any
+/// other takes no more time with more accounts.
 #[derive(Drop)]
 pub struct Rewards {
     /// The last minute that was told.
@@ -47,13 +47,14 @@ pub struct Rewards {
     /// Units that were not shared, those that are due not counted.
     unshared: u64,
     words: PoolWords,
-    earners: Vec<Earner>,
+    rows: Rows,
 }
 
 impl Model for Rewards {
     ghost use Rattle.std.specs.Prelude.{List};
     ghost use Rattle.liq_rewards.specs.Timed.{Timed};
     ghost use Rattle.liq_rewards.specs.Kept.{Kept, IsKeptOf};
+    ghost use Rattle.liq_rewards.specs.Rows.{all_now};
 
     ghost Value = { Kept };
 
@@ -62,7 +63,7 @@ impl Model for Rewards {
       due = r.due;
       unshared = r.unshared;
       words = r.words;
-      earners = r.earners.items;
+      earners = all_now r.words r.rows;
     } };
 
     ghost invariant = { λ r. ∥ ((past : List Timed) × IsKeptOf (record {
@@ -70,7 +71,7 @@ impl Model for Rewards {
       due = r.due;
       unshared = r.unshared;
       words = r.words;
-      earners = r.earners.items;
+      earners = all_now r.words r.rows;
     }) past) ∥₁ };
 }
 
@@ -85,12 +86,13 @@ impl Rewards {
             due: 0,
             unshared: 0,
             words: PoolWords::OPENING,
-            earners: Vec::new(alloc),
+            rows: Rows::new(alloc),
         }
     }
 
     /// Makes room for one event, an own operation of the account if one is named. Nothing else changes; without memory
-    /// nothing changes at all, and where there was room none is wanted.
+    /// nothing changes at all, and where there was room none is wanted. It takes memory by the greatest account too, 24
+    /// bytes for each 1,024 below it.
     pub fn reserve(&mut self, account: Option<u32>) -> Result<(), NoMemory>
         ensures kept { (past : List Timed) → IsKeptOf self.old past → IsKeptOf self.new past }
         ensures minute { self.new.minute ≡ self.old.minute }
@@ -102,10 +104,10 @@ impl Rewards {
         let Some(account) = account else {
             return Ok(());
         };
-        if has_row(&self.earners, account) {
+        if self.rows.has(account) {
             return Ok(());
         }
-        add(&mut self.earners, account)
+        self.rows.add(account)
     }
 
     /// It is this minute, which is none before the last one. What is issued until then is due from now on.
@@ -131,7 +133,7 @@ impl Rewards {
         ensures room { (a : ℕ) → has_row self.old.earners a ≡ true → has_row self.new.earners a ≡ true }
     {
         let (sharing, words) = shared_first(&self.words, self.due, event);
-        all_after(&mut self.earners, &self.words, sharing, event);
+        self.rows.event(&self.words, &words, sharing, event);
         self.unshared += unshared_by(sharing, self.due);
         self.words = words;
         self.due = 0;
@@ -145,7 +147,10 @@ impl Rewards {
             IsWithinAllowance account self.now.minute past result.reward result.allow }
     {
         let sharing = Sharing::of(&self.words, self.due);
-        let earner = earner(&self.earners, account).dealt(self.words, sharing);
+        let earner = self
+            .rows
+            .earner(&self.words, account)
+            .dealt(self.words, sharing);
         RewardRow {
             account,
             reward: earner.reward(),
@@ -179,16 +184,6 @@ fn issued_between(from: u64, to: u64) -> u64
     ensures within { result ≤ UNITS_MOST }
 {
     issued(to) - issued(from)
-}
-
-/// Each account once what is due is dealt with, and then after an event; the words are those before it.
-fn all_after(earners: &mut [Earner], words: &PoolWords, sharing: Option<Sharing>, event: &PoolEvent)
-    requires { AllByRecursion (CanGoOn words.now sharing) earners.old }
-    ensures { earners.new ≡ map (earner_after words.now sharing event.now) earners.old }
-{
-    for earner in earners.iter_mut() {
-        *earner = earner.after(*words, sharing, event);
-    }
 }
 
 /// The units that are due and not shared.
@@ -233,39 +228,4 @@ fn words_after(words: &PoolWords, event: &PoolEvent) -> PoolWords
             }
         }
     }
-}
-
-/// An account's row; without one it has done nothing.
-fn earner(earners: &[Earner], account: u32) -> Earner
-    ensures { result ≡ earner_in earners.now account }
-{
-    for earner in earners {
-        if earner.account == account {
-            return *earner;
-        }
-    }
-    Earner::none(account)
-}
-
-/// A row for an account. Without memory nothing changes.
-fn add(earners: &mut Vec<Earner>, account: u32) -> Result<(), NoMemory>
-    ensures rows { OnOk result (earners.new.items ≡ earners.old.items ++ no_earner account ∷ []) }
-    ensures err { OnErr result (earners.new.items ≡ earners.old.items) }
-{
-    match earners.push(Earner::none(account)) {
-        Ok(()) => Ok(()),
-        Err(_) => Err(NoMemory),
-    }
-}
-
-/// Whether an account has a row.
-fn has_row(earners: &[Earner], account: u32) -> bool
-    ensures { result ≡ has_row earners.now account }
-{
-    for earner in earners {
-        if earner.account == account {
-            return true;
-        }
-    }
-    false
 }

@@ -8,3 +8,7 @@ offset-requires-clause-may g c =
     let one : IsKeptOf c.provide.new.rewards shared_1 = c.provide.ensures.kept [] c.new-rewards.ensures.kept shared_may_1 in
     let two : IsKeptOf c.provide-2.new.rewards shared_2 = c.provide-2.ensures.kept shared_1 one shared_may_2 in
     ∣ (shared_2, two, shared_may_3) ∣₁
+
+pub provide-requires-2-clause-may : goal.provide-requires-2-clause-may
+provide-requires-2-clause-may g c =
+    ∣ (shared_1, c.provide.ensures.kept [] c.new-rewards.ensures.kept shared_may_1, shared_may_2) ∣₁
