@@ -1,5 +1,7 @@
--- A value in JSON and its text, which rows of an image stand in a state's tables, and a state's totals by their names.
-use Rattle.std.specs.Prelude.{ℕ, ◌≡◌, ◌<◌, List, Some, false}
+-- A value in JSON and its text, numbers as members of an object, which rows of an image stand in a state's tables, and a
+-- state's totals by their names.
+use Rattle.std.specs.Prelude.{ℕ, ◌≡◌, ◌<◌, List, [], ◌∷◌, Some, false}
+use Rattle.std.specs.Borrow.{Bor}
 use Rattle.liq_types.specs.declared.amounts.TheConstants.{ACCOUNTS}
 use Rattle.liq_types.specs.declared.image.TroveRow.{TroveRow}
 use Rattle.liq_types.specs.ImageRows.{trove_row}
@@ -9,6 +11,7 @@ use Rattle.liq_types.specs.Totals.{stakes_of, total_coll, total_debt, trove_coun
 use Rattle.liq_troves.specs.StakeSums.{trove_rows}
 use Rattle.liq_rules.specs.Queries.{mode}
 use Rattle.liq_report.specs.declared.objects.Totals.{Totals}
+use Rattle.serde_json.specs.Data.{Members, number, put, unsigned}
 use Rattle.serde_json.specs.declared.value.Value.{Value}
 use Rattle.serde_json.specs.View.{view}
 use Rattle.serde_json.specs.Written.{compact_text, has_float}
@@ -16,6 +19,11 @@ use Rattle.serde_json.specs.Written.{compact_text, has_float}
 -- it is written so: it holds no fraction
 abbrev pub HasText : List ℕ → Value → Type 0
 HasText text value = (has_float (view value) ≡ false) × (compact_text (view value) ≡ text)
+
+-- the members with these numbers put among them, each by its name
+abbrev pub with_numbers : List (Bor (List ℕ) × ℕ) → Members → Members
+with_numbers [] ms = ms
+with_numbers (n ∷ ns) ms = with_numbers ns (put n.0.now (number (unsigned n.1)) ms)
 
 -- the account has a deposit
 abbrev pub HasDeposit : State → ℕ → Type 0

@@ -3,8 +3,9 @@
 ghost use Rattle.std.specs.Prelude.{◌≡◌, IfOk, codes};
 ghost use Rattle.serde_json.specs.Data.{member, no_members, number, object, string, unsigned};
 ghost use Rattle.serde_json.specs.View.{view};
+ghost use Rattle.liq_report.specs.Values.{with_numbers};
 
-use serde_json::{Value, json};
+use serde_json::{Map, Value, json};
 use std::alloc::{AllocError, Global};
 
 /// A deposit with its position: what is left of it (micro-LUSD), and what it has gained (gwei).
@@ -18,7 +19,12 @@ pub fn deposit_object(
         (member (codes "balance") (number (unsigned position.0))
         (member (codes "gain") (number (unsigned position.1)) no_members)))) }
 {
-    json!(in alloc; {"account": account, "balance": position.0, "gain": position.1})
+    let numbers = [
+        ("account", u64::from(account)),
+        ("balance", position.0),
+        ("gain", position.1),
+    ];
+    numbers_object(alloc, &numbers)
 }
 
 /// A trove with its entire amounts, collateral (gwei) and debt (micro-LUSD).
@@ -34,7 +40,13 @@ pub fn trove_object(
         (member (codes "debt") (number (unsigned entire.1))
         (member (codes "stake") (number (unsigned stake)) no_members))))) }
 {
-    json!(in alloc; {"account": account, "coll": entire.0, "debt": entire.1, "stake": stake})
+    let numbers = [
+        ("account", u64::from(account)),
+        ("coll", entire.0),
+        ("debt", entire.1),
+        ("stake", stake),
+    ];
+    numbers_object(alloc, &numbers)
 }
 
 /// The Stability Pool, with the digits of its product and its sum.
@@ -89,18 +101,19 @@ pub fn system_object(alloc: Global, totals: Totals) -> Result<Value, AllocError>
         (member (codes "stakes") (number (unsigned totals.stakes))
         (member (codes "troves") (number (unsigned totals.troves)) no_members))))))))))) }
 {
-    json!(in alloc; {
-        "base": totals.base,
-        "coll": totals.coll,
-        "debt": totals.debt,
-        "fee_minute": totals.fee_minute,
-        "minute": totals.minute,
-        "mode": totals.mode,
-        "price": totals.price,
-        "records": totals.records,
-        "stakes": totals.stakes,
-        "troves": totals.troves,
-    })
+    let numbers = [
+        ("base", totals.base),
+        ("coll", totals.coll),
+        ("debt", totals.debt),
+        ("fee_minute", totals.fee_minute),
+        ("minute", totals.minute),
+        ("mode", totals.mode),
+        ("price", totals.price),
+        ("records", totals.records),
+        ("stakes", totals.stakes),
+        ("troves", totals.troves),
+    ];
+    numbers_object(alloc, &numbers)
 }
 
 /// The whole.
@@ -118,4 +131,16 @@ pub fn report_object(
         (member (codes "troves") (view troves) no_members))))) }
 {
     json!(in alloc; {"deposits": deposits, "pool": pool, "system": system, "troves": troves})
+}
+
+/// An object of numbers by their names. Where a name comes twice, the later number stays.
+fn numbers_object(alloc: Global, numbers: &[(&str, u64)]) -> Result<Value, AllocError>
+    ensures { IfOk result (λ value. view value ≡ object (with_numbers numbers.now no_members)) }
+{
+    let mut members = Map::new(alloc);
+    for (name, number) in numbers {
+        let name = String::from_str(alloc, name)?;
+        drop(members.insert(name, Value::from(*number))?);
+    }
+    Ok(Value::Object(members))
 }
