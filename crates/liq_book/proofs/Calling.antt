@@ -5,6 +5,7 @@ use Rattle.std.specs.Prelude.{IsSome, ◌↔◌}
 use Rattle.std.specs.Option.{IsSomeAnd, option_map}
 use Rattle.std.proofs.lemmas.List.{length-map, map-append}
 use Rattle.std.proofs.lemmas.List.Sums.{count_by-le-length, length-filter}
+use Rattle.liq_outside.specs.At.{DiskAt}
 use Rattle.liq_outside.specs.Disk.{GoesOn, LeftNow}
 use Rattle.liq_types.specs.declared.events.ListChange.{ListChange}
 use Rattle.liq_types.specs.declared.replies.Answer.{Answer}
@@ -31,7 +32,7 @@ use Rattle.liq_book.specs.declared.items.TheConstants.{ENTRIES_MOST}
 use Rattle.liq_book.specs.Booked.{IsBook, KeepsDisks}
 use Rattle.liq_book.specs.Entered.{Enters, IsTestedFirst}
 use Rattle.liq_rules.specs.Recorded.{recorded}
-use Rattle.liq_book.specs.Origin.{DiskAt, GoesOnFrom, IsAtOrigin}
+use Rattle.liq_book.specs.Origin.{GoesOnFrom, IsAtOrigin}
 use Rattle.liq_book.specs.Past.{KeepsPast, since_origin}
 use Rattle.liq_book.proofs.Pasts.{begins_past, forgets_past, requests_more}
 use Rattle.liq_types.proofs.Tests.{value_of}
@@ -62,9 +63,10 @@ a_halt : (halt : Option Halt) (stopped : Option ℕ) (sum : ℕ) → stopped ≡
 a_halt None stopped sum is some = absurd (let e : Some sum ≡ None = sym some ∙ is in cc)
 a_halt (Some halt) stopped sum is some = let e : Some halt.faults ≡ Some sum = sym is ∙ some in cc
 
-module _ {D : Type 0} (seen : D → Option (List ℕ)) (faults : D → ℕ) (moment : D → ℕ) (left_at : D → ℕ → List ℕ → Type 0) where
-  pub goes_from : (origin : DiskAt) (old new : D) → GoesOnFrom origin seen moment left_at old → GoesOn moment left_at old new → IsSome (seen new) ↔ IsSome (seen old)
-      → GoesOnFrom origin seen moment left_at new
+module _ {D : Type 0} (at : D → DiskAt) where
+  pub goes_from : (origin : DiskAt) (old new : D)
+      → GoesOnFrom origin (at old) → GoesOn at old new → IsSome (at new).seen ↔ IsSome (at old).seen
+      → GoesOnFrom origin (at new)
   goes_from origin old new from on tells = record {
     telling = (λ now. from.telling.0 (tells.0 now), λ then. tells.1 (from.telling.1 then));
     later = omega (arith, from.later, on.later);
@@ -74,41 +76,50 @@ module _ {D : Type 0} (seen : D → Option (List ℕ)) (faults : D → ℕ) (mom
 
   -- a call at the book's store
   abbrev pub Called : Stored D → Request → Answer → Stored D → Type 0
-  Called old request a new = IsCalled seen faults moment left_at old request a new
+  Called old request a new = IsCalled at old request a new
 
   -- a store that goes on keeps its disks for its state
-  pub going_keeps : (store : Stored D) (s : State) → IsInOrder seen moment left_at store → store.stopped ≡ None → StandsFor store.core s → KeepsDisks seen moment left_at None s store
+  pub going_keeps : (store : Stored D) (s : State)
+      → IsInOrder at store → store.stopped ≡ None → StandsFor store.core s → KeepsDisks at None s store
   going_keeps store s order going stands l r told_left told_right =
-      let P : Option ℕ → Type 0 = λ o. IsInOrderWith seen moment left_at o store in
+      let P : Option ℕ → Type 0 = λ o. IsInOrderWith at o store in
       let keeps = subst P going order in
       settled_kept store.side l r s (keeps.settled l r told_left told_right s stands)
 
-  module _ (may_stay : (disk : D) (held : List ℕ) → seen disk ≡ Some held → LeftNow moment left_at disk held) (base : State) (left_origin right_origin : DiskAt) where
+  module _
+      (may_stay : (disk : D) (held : List ℕ) → (at disk).seen ≡ Some held → LeftNow at disk held)
+      (base : State) (left_origin right_origin : DiskAt) where
     abbrev pub Booking : Stored D → List Entry → Option Halt → Type 0
-    Booking store entries halt = IsBook seen faults moment left_at base left_origin right_origin (record { store = store; entries = entries; halt = halt })
+    Booking store entries halt =
+        IsBook at base left_origin right_origin (record { store = store; entries = entries; halt = halt })
 
     abbrev Keeps : List history.Entry → Option Halt → Stored D → Type 0
-    Keeps entries halt store = KeepsPast seen moment left_at left_origin right_origin base (requests_of entries) halt store
+    Keeps entries halt store = KeepsPast at left_origin right_origin base (requests_of entries) halt store
 
     -- what is kept of the past where there is no halt
-    past_of : (store : Stored D) (entries : List Entry) (halt : Option Halt) → halt ≡ None → Booking store entries halt → Keeps (map recorded entries) None store
+    past_of : (store : Stored D) (entries : List Entry) (halt : Option Halt)
+        → halt ≡ None → Booking store entries halt → Keeps (map recorded entries) None store
     past_of store entries halt none b = subst (λ (h : Option Halt). Keeps (map recorded entries) h store) none b.past
 
-    pub begins : (store : Stored D) → store.stopped ≡ None → IsAtOrigin seen faults moment left_at base left_origin right_origin store → IsInOrder seen moment left_at store → Booking store [] None
-    begins store going at order = record {
+    pub begins : (store : Stored D)
+        → store.stopped ≡ None → IsAtOrigin at base left_origin right_origin store → IsInOrder at store
+        → Booking store [] None
+    begins store going origin order = record {
       few = omega arith;
       legal = legal-empty base;
-      state = at.state;
+      state = origin.state;
       halt = going;
-      keeps = going_keeps store base order going at.state;
-      cause = rw (at.left.faults, at.right.faults) refl;
-      left = at.left.time;
-      right = at.right.time;
-      past = begins_past seen moment left_at left_origin right_origin may_stay faults base store going at order;
+      keeps = going_keeps store base order going origin.state;
+      cause = rw (origin.left.faults, origin.right.faults) refl;
+      left = origin.left.time;
+      right = origin.right.time;
+      past = begins_past at left_origin right_origin may_stay base store going origin order;
     }
 
     -- the same with other changes
-    pub forgets : (old new : Stored D) (entries : List Entry) (halt : Option Halt) (changes : List ListChange) → new ≡ record old { changes = changes } → Booking old entries halt → Booking new entries halt
+    pub forgets :
+        (old new : Stored D) (entries : List Entry) (halt : Option Halt) (changes : List ListChange)
+        → new ≡ record old { changes = changes } → Booking old entries halt → Booking new entries halt
     forgets old new entries halt changes same b = subst (λ (s : Stored D). Booking s entries halt) (sym same) (record {
       few = b.few;
       legal = b.legal;
@@ -118,23 +129,31 @@ module _ {D : Type 0} (seen : D → Option (List ℕ)) (faults : D → ℕ) (mom
       cause = b.cause;
       left = b.left;
       right = b.right;
-      past = forgets_past seen moment left_at left_origin right_origin base (requests_of (map recorded entries)) halt old changes b.past;
+      past = forgets_past at left_origin right_origin base (requests_of (map recorded entries)) halt old changes b.past;
     }) where
-      other : KeepsDisks seen moment left_at halt (state_after base (map recorded entries)) old → KeepsDisks seen moment left_at halt (state_after base (map recorded entries)) (record old { changes = changes })
-      other keeps = at halt keeps where
-        at : (h : Option Halt) → KeepsDisks seen moment left_at h (state_after base (map recorded entries)) old → KeepsDisks seen moment left_at h (state_after base (map recorded entries)) (record old { changes = changes })
-        at None k = k
-        at (Some h) k = k
+      other : KeepsDisks at halt (state_after base (map recorded entries)) old
+          → KeepsDisks at halt (state_after base (map recorded entries)) (record old { changes = changes })
+      other keeps = by halt keeps where
+        by : (h : Option Halt) → KeepsDisks at h (state_after base (map recorded entries)) old
+            → KeepsDisks at h (state_after base (map recorded entries)) (record old { changes = changes })
+        by None k = k
+        by (Some h) k = k
 
     -- the same whether the changes are let go or kept
-    pub forgets_or_keeps : {X Y : Type 0} (r : Result X Y) (old new : Stored D) (entries : List Entry) (halt : Option Halt) → MatchResult r (λ _. new ≡ record old { changes = [] }) (λ _. new ≡ old) → Booking old entries halt → Booking new entries halt
+    pub forgets_or_keeps :
+        {X Y : Type 0} (r : Result X Y) (old new : Stored D) (entries : List Entry) (halt : Option Halt)
+        → MatchResult r (λ _. new ≡ record old { changes = [] }) (λ _. new ≡ old)
+        → Booking old entries halt → Booking new entries halt
     forgets_or_keeps (Ok x) old new entries halt same b = forgets old new entries halt [] same b
     forgets_or_keeps (Err y) old new entries halt same b = subst (λ (s : Stored D). Booking s entries halt) (sym same) b
 
     -- a reply is entered
-    pub enters : (old new : Stored D) (entries : List Entry) (halt : Option Halt) (request : Request) (reply : Reply) (session calls : ℕ)
-        → Booking old entries halt → length entries < ENTRIES_MOST → length (own_entries session (map recorded entries)) ≡ calls
-        → old.stopped ≡ None → IsInOrder seen moment left_at old → Called old request (answer.Reply reply) new
+    pub enters :
+        (old new : Stored D) (entries : List Entry) (halt : Option Halt)
+        (request : Request) (reply : Reply) (session calls : ℕ)
+        → Booking old entries halt → length entries < ENTRIES_MOST
+        → length (own_entries session (map recorded entries)) ≡ calls
+        → old.stopped ≡ None → IsInOrder at old → Called old request (answer.Reply reply) new
         → Booking new (entries ++ record { session = session; index = calls + 1; request = request; reply = reply } ∷ []) halt
     enters old new entries halt request reply session calls b few counted going ordered c =
         let e : Entry = record { session = session; index = calls + 1; request = request; reply = reply } in
@@ -154,15 +173,18 @@ module _ {D : Type 0} (seen : D → Option (List ℕ)) (faults : D → ℕ) (mom
           left = goes_from left_origin old.left new.left b.left c.disks.left_time c.disks.left_telling;
           right = goes_from right_origin old.right new.right b.right c.disks.right_time c.disks.right_telling;
           past =
-              subst (λ requests. KeepsPast seen moment left_at left_origin right_origin base requests None new) (sym (requests_more entries e))
+              subst (λ requests. KeepsPast at left_origin right_origin base requests None new)
+              (sym (requests_more entries e))
               (λ l r told_left told_right.
-              goes_on seen moment left_at may_stay (since_origin left_origin right_origin) l r base (requests_of (map recorded entries)) old new
+              goes_on at may_stay (since_origin left_origin right_origin) l r base
+              (requests_of (map recorded entries)) old new
               (past_of old entries halt none b l r told_left told_right) ordered request reply still (c.step_is going) c.disks);
         })
 
     -- without memory nothing happened
     pub stays : (old new : Stored D) (entries : List Entry) (halt : Option Halt) (request : Request)
-        → Booking old entries halt → old.stopped ≡ None → IsInOrder seen moment left_at old → Called old request answer.NoMemory new → Booking new entries halt
+        → Booking old entries halt → old.stopped ≡ None → IsInOrder at old → Called old request answer.NoMemory new
+        → Booking new entries halt
     stays old new entries halt request b going ordered c =
         let s : State = state_after base (map recorded entries) in
         let none : halt ≡ None = no_halt halt old.stopped b.halt going in
@@ -178,13 +200,15 @@ module _ {D : Type 0} (seen : D → Option (List ℕ)) (faults : D → ℕ) (mom
           left = goes_from left_origin old.left new.left b.left c.disks.left_time c.disks.left_telling;
           right = goes_from right_origin old.right new.right b.right c.disks.right_time c.disks.right_telling;
           past = λ l r told_left told_right.
-              waits seen moment left_at may_stay (since_origin left_origin right_origin) l r base (requests_of (map recorded entries)) old new
+              waits at may_stay (since_origin left_origin right_origin) l r base
+              (requests_of (map recorded entries)) old new
               (past_of old entries halt none b l r told_left told_right) ordered request still (c.step_is going) c.disks;
         })
 
     -- a fault of a disk is the halt
     pub halts : (old new : Stored D) (entries : List Entry) (halt : Option Halt) (request : Request) (session sum : ℕ)
-        → Booking old entries halt → old.stopped ≡ None → IsInOrder seen moment left_at old → Called old request answer.DiskFault new → new.stopped ≡ Some sum
+        → Booking old entries halt → old.stopped ≡ None → IsInOrder at old → Called old request answer.DiskFault new
+        → new.stopped ≡ Some sum
         → Booking new entries (Some (record { session = session; request = request; faults = sum }))
     halts old new entries halt request session sum b going ordered c stopped =
         let s : State = state_after base (map recorded entries) in
@@ -198,12 +222,12 @@ module _ {D : Type 0} (seen : D → Option (List ℕ)) (faults : D → ℕ) (mom
           keeps = (
             (c.step_is going s b.state).1,
             λ l r told_left told_right.
-                let before_left = value_of (seen old.left) (c.disks.left_telling.0 (rw told_left refl)) in
-                let before_right = value_of (seen old.right) (c.disks.right_telling.0 (rw told_right refl)) in
+                let before_left = value_of (at old.left).seen (c.disks.left_telling.0 (rw told_left refl)) in
+                let before_right = value_of (at old.right).seen (c.disks.right_telling.0 (rw told_right refl)) in
                 let around = c.disks.kept going before_left.0 before_right.0 s before_left.1 before_right.1 b.state in
-                let now = λ (a b : List ℕ) (in_left : LeftNow moment left_at new.left a) (in_right : LeftNow moment left_at new.right b).
-                around a b (moment new.left, c.disks.left_time.later, omega arith, in_left)
-                (moment new.right, c.disks.right_time.later, omega arith, in_right) in
+                let now = λ (a b : List ℕ) (in_left : LeftNow at new.left a) (in_right : LeftNow at new.right b).
+                around a b ((at new.left).moment, c.disks.left_time.later, omega arith, in_left)
+                ((at new.right).moment, c.disks.right_time.later, omega arith, in_right) in
                 (now l r (may_stay new.left l told_left) (may_stay new.right r told_right), now),
           );
           cause = rw (rw none at b.cause) at c.cause;
@@ -214,14 +238,18 @@ module _ {D : Type 0} (seen : D → Option (List ℕ)) (faults : D → ℕ) (mom
               let earlier = past_of old entries halt none b l r told_left told_right in (
                 AtCommand failed.0,
                 (failed.0, failed.1, refl),
-                stops seen moment left_at may_stay (since_origin left_origin right_origin) l r base (requests_of (map recorded entries)) old new earlier ordered request failed.0 failed.1 (c.step_is going) c.disks,
-                stops_kept seen moment left_at may_stay (since_origin left_origin right_origin) l r base (requests_of (map recorded entries)) old new earlier ordered request failed.0 failed.1 (c.step_is going) c.disks,
+                stops at may_stay (since_origin left_origin right_origin) l r base
+                    (requests_of (map recorded entries)) old new earlier ordered request failed.0 failed.1
+                    (c.step_is going) c.disks,
+                stops_kept at may_stay (since_origin left_origin right_origin) l r base
+                    (requests_of (map recorded entries)) old new earlier ordered request failed.0 failed.1
+                    (c.step_is going) c.disks,
               );
         }
 
     -- any other answer leaves the book as it was
     pub others : (old new : Stored D) (entries : List Entry) (halt : Option Halt) (request : Request) (a : Answer)
-        → Booking old entries halt → IsInOrder seen moment left_at old → Called old request a new
+        → Booking old entries halt → IsInOrder at old → Called old request a new
         → ((reply : Reply) → a ≡ answer.Reply reply → ⊥) → (a ≡ answer.DiskFault → ⊥)
         → Booking new entries halt
     others old new entries halt request a b ordered c no_reply no_fault = by_stop old.stopped refl where

@@ -17,9 +17,10 @@ use Rattle.liq_book.specs.Items.{IsFull, entries_of, session_of}
 abbrev pub SeesOthers : ℕ → List Item → List Item → Type 0
 SeesOthers session before after = Behind session_of after (session ∷ []) before
 
--- A reply: others' items follow what was seen before, then this call's entry as the last one, and its reply is the one
--- of the rules after all entries before it. A fault of a disk: others' items, and this call's halt as the last one. Any
--- other answer: others' items alone, of which a halt is the last one where the service was stopped by it.
+-- A reply: others' items follow what was seen before, then this call's entry as the last one, and
+-- its reply is the one of the rules after all entries before it. A fault of a disk: others' items,
+-- and this call's halt as the last one. Any other answer: others' items alone, of which a halt is
+-- the last one where the service was stopped by it.
 abbrev pub Answered : State → ℕ → ℕ → Request → Answer → List Item → List Item → Type 0
 Answered base session calls request (answer.Reply reply) before after =
     (between : List Item) × NoneOf session_of (session ∷ []) between

@@ -1,6 +1,7 @@
 -- A book as contracts see it, and what holds of every book.
 use Rattle.std.specs.Prelude.{ℕ, ◌≡◌, ◌≤◌, List, map, length, Option, Some, None}
 use Rattle.std.specs.Option.{option_map}
+use Rattle.liq_outside.specs.At.{DiskAt}
 use Rattle.liq_outside.specs.Disk.{LeftNow}
 use Rattle.liq_types.specs.State.{State}
 use Rattle.liq_core.specs.Core.{StandsFor}
@@ -14,7 +15,7 @@ use Rattle.liq_types.specs.declared.entries.Entry.{Entry}
 use Rattle.liq_book.specs.declared.items.Halt.{Halt}
 use Rattle.liq_book.specs.declared.items.TheConstants.{ENTRIES_MOST}
 use Rattle.liq_rules.specs.Recorded.{recorded}
-use Rattle.liq_book.specs.Origin.{DiskAt, GoesOnFrom, faults_at}
+use Rattle.liq_book.specs.Origin.{GoesOnFrom, faults_at}
 use Rattle.liq_book.specs.Past.{KeepsPast}
 
 -- the store that answers, all entries, and the halt, once there is one
@@ -32,39 +33,38 @@ abbrev pub CausesHalt : Option Halt → Faults → Faults → Type 0
 CausesHalt None before after = after ≡ before
 CausesHalt (Some halt) before after = OneRose before after
 
-module _
-    {D : Type 0} (seen : D → Option (List ℕ)) (moment : D → ℕ)
-    (left_at : D → ℕ → List ℕ → Type 0) where
-  -- What both disks read, where both tell it, is kept for the state. A halt's request is a command that the rules accept
-  -- there; behind it what the disks read, and all that a crash may now leave of the one beside all of the other, is kept
-  -- for the state or for the one after this command.
+module _ {D : Type 0} (at : D → DiskAt) where
+  -- What both disks read, where both tell it, is kept for the state. A halt's request is a command
+  -- that the rules accept there; behind it what the disks read, and all that a crash may now leave
+  -- of the one beside all of the other, is kept for the state or for the one after this command.
   abbrev pub KeepsDisks : Option Halt → State → Stored D → Type 0
   KeepsDisks None s store =
-      (l r : List ℕ) → seen store.left ≡ Some l → seen store.right ≡ Some r → IsKept l r s
+      (l r : List ℕ) → (at store.left).seen ≡ Some l → (at store.right).seen ≡ Some r
+      → IsKept l r s
   KeepsDisks (Some halt) s store =
       IsAccepted s halt.request
-      × ((l r : List ℕ) → seen store.left ≡ Some l → seen store.right ≡ Some r
+      × ((l r : List ℕ) → (at store.left).seen ≡ Some l → (at store.right).seen ≡ Some r
       → IsKeptAround s halt.request l r
-      × ((a b : List ℕ) → LeftNow moment left_at store.left a → LeftNow moment left_at store.right b
+      × ((a b : List ℕ) → LeftNow at store.left a → LeftNow at store.right b
       → IsKeptAround s halt.request a b))
 
--- What holds of every book: the entries are a legal history from its base, and the store's protocol is in the state
--- after them. A halt is there exactly where the store is stopped, with the faults that it then tells. What a crash may
--- have left of its disks since the origin is of a run of the entries' requests.
+-- What holds of every book: the entries are a legal history from its base, and the store's protocol
+-- is in the state after them. A halt is there exactly where the store is stopped, with the faults
+-- that it then tells. What a crash may have left of its disks since the origin is of a run of the
+-- entries' requests.
 pub record IsBook
-    {D : Type 0} (seen : D → Option (List ℕ)) (faults : D → ℕ) (moment : D → ℕ)
-    (left_at : D → ℕ → List ℕ → Type 0)
-    (base : State) (left_origin right_origin : DiskAt) (book : Booked D) : Type 0 where
+    {D : Type 0} (at : D → DiskAt) (base : State) (left_origin right_origin : DiskAt)
+    (book : Booked D) : Type 0 where
   pub few : length book.entries ≤ ENTRIES_MOST
   pub legal : IsLegal base (map recorded book.entries)
   pub state : StandsFor book.store.core (state_of_book base book)
   pub halt : book.store.stopped ≡ option_map (λ h. h.faults) book.halt
-  pub keeps : KeepsDisks seen moment left_at book.halt (state_of_book base book) book.store
+  pub keeps : KeepsDisks at book.halt (state_of_book base book) book.store
   pub cause :
       CausesHalt book.halt (faults_at left_origin right_origin)
-      (record { left = faults book.store.left; right = faults book.store.right })
-  pub left : GoesOnFrom left_origin seen moment left_at book.store.left
-  pub right : GoesOnFrom right_origin seen moment left_at book.store.right
+      (record { left = (at book.store.left).faults; right = (at book.store.right).faults })
+  pub left : GoesOnFrom left_origin (at book.store.left)
+  pub right : GoesOnFrom right_origin (at book.store.right)
   pub past :
-      KeepsPast seen moment left_at left_origin right_origin base (requests_of (map recorded book.entries)) book.halt
-      book.store
+      KeepsPast at left_origin right_origin base (requests_of (map recorded book.entries))
+      book.halt book.store

@@ -30,7 +30,8 @@ entries_of (item.Halt h ∷ items) = entries_of items
 -- a session's requests that were answered, with their replies
 abbrev pub calls_of : ℕ → List Item → List (Request × Reply)
 calls_of session items =
-    map (λ (e : history.Entry). (e.request, e.reply)) (history.own_entries session (entries_of items))
+    map (λ (e : history.Entry). (e.request, e.reply))
+    (history.own_entries session (entries_of items))
 
 abbrev pub or_else : Option Request → Option Request → Option Request
 or_else (Some request) other = Some request

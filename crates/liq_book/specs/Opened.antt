@@ -1,4 +1,5 @@
--- The list as a publisher begins with it, and the versions of a history that are published behind it.
+-- The list as a publisher begins with it, and the versions of a history that are published behind
+-- it.
 use Rattle.std.specs.Prelude.{◌≡◌, ◌≤◌, ℕ, List, [], ◌∷◌, length}
 use mathlib.Core.Option.{some}
 use lib.ListN.{get_elem?}
@@ -17,13 +18,16 @@ use Rattle.liq_views.specs.Shelves.{after_all}
 
 -- it has published these changes, as version 0, and nothing else
 abbrev pub HasOpened : List ListChange → Publisher → Type 0
-HasOpened changes p = (published p ≡ record { changes = changes; number = 0 } ∷ []) × (waiting p ≡ [])
+HasOpened changes p =
+    (published p ≡ record { changes = changes; number = 0 } ∷ []) × (waiting p ≡ [])
 
 -- a version of the history: the view after its first entries, as many as its number says
 abbrev pub IsVersionOf : State → List history.Entry → Numbered → Type 0
-IsVersionOf base entries v = (v.number ≤ length entries) × (v.view ≡ view_after base entries v.number)
+IsVersionOf base entries v =
+    (v.number ≤ length entries) × (v.view ≡ view_after base entries v.number)
 
--- Between any two steps: x is shown, which all that was published makes, and this is what a reader has seen of it.
+-- Between any two steps: x is shown, which all that was published makes, and this is what a reader
+-- has seen of it.
 pub record IsRead (published : List Given) (x : Shelf) (reader : Sight) : Type 0 where
   pub views : List Sight
   pub rule : Keeps x views

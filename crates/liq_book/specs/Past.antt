@@ -4,6 +4,7 @@ use Rattle.liq_types.specs.declared.requests.Command.{Command}
 use Rattle.liq_types.specs.declared.requests.Request.{Request}
 use Rattle.liq_types.specs.declared.requests.Request.TheVariants.{Do}
 use Rattle.liq_types.specs.State.{State}
+use Rattle.liq_outside.specs.At.{DiskAt}
 use Rattle.liq_pairs.specs.declared.side.Side.{Side}
 use Rattle.liq_pairs.specs.Past.{AtCommand, Fault, LeavesPast, NoFault}
 use Rattle.liq_pairs.specs.Sides.{on}
@@ -11,9 +12,9 @@ use Rattle.liq_store.specs.Leaving.{RestAtEnd}
 use Rattle.liq_store.specs.Past.{Past}
 use Rattle.liq_store.specs.Stored.{Stored}
 use Rattle.liq_book.specs.declared.items.Halt.{Halt}
-use Rattle.liq_book.specs.Origin.{DiskAt}
 
--- the fault of a book with this halt: none, or the one at the command that the halt's call was to write
+-- the fault of a book with this halt: none, or the one at the command that the halt's call was to
+-- write
 abbrev pub IsFaultOf : Option Halt → Fault → Type 0
 IsFaultOf None fault = fault ≡ NoFault
 IsFaultOf (Some halt) fault = (c : Command) × (halt.request ≡ Do c) × (fault ≡ AtCommand c)
@@ -22,23 +23,24 @@ IsFaultOf (Some halt) fault = (c : Command) × (halt.request ≡ Do c) × (fault
 abbrev pub since_origin : DiskAt → DiskAt → Side → ℕ
 since_origin left right side = on side left.moment right.moment
 
--- Where both disks told their bytes at the origin, all that a crash since then may have left of either is of a run that
--- began with these, answered these requests from the base on, and ended with the halt's fault; and so they rest now.
+-- Where both disks told their bytes at the origin, all that a crash since then may have left of
+-- either is of a run that began with these, answered these requests from the base on, and ended
+-- with the halt's fault; and so they rest now.
 abbrev pub LeavesFrom : {D : Type 0}
-    → (D → Option (List ℕ)) → (D → ℕ) → (D → ℕ → List ℕ → Type 0) → (left_origin right_origin : DiskAt)
-    → State → List Request → Option Halt → D → D → Type 0
-LeavesFrom seen moment left_at left_origin right_origin base requests halt left right =
+    → (D → DiskAt) → (left_origin right_origin : DiskAt)
+    → State → List Request → Option Halt → (left right : D) → Type 0
+LeavesFrom at left_origin right_origin base requests halt left right =
     (l r : List ℕ) → left_origin.seen ≡ Some l → right_origin.seen ≡ Some r
     → (fault : Fault) × IsFaultOf halt fault
-    × LeavesPast moment left_at (since_origin left_origin right_origin) l r base requests fault left right
-    × RestAtEnd seen moment left_at l r base requests fault left right
+    × LeavesPast at (since_origin left_origin right_origin) l r base requests fault left right
+    × RestAtEnd at l r base requests fault left right
 
 -- so it is behind a halt, and before it so that the run can go on
 abbrev pub KeepsPast : {D : Type 0}
-    → (D → Option (List ℕ)) → (D → ℕ) → (D → ℕ → List ℕ → Type 0) → (left_origin right_origin : DiskAt)
+    → (D → DiskAt) → (left_origin right_origin : DiskAt)
     → State → List Request → Option Halt → Stored D → Type 0
-KeepsPast seen moment left_at left_origin right_origin base requests None store =
+KeepsPast at left_origin right_origin base requests None store =
     (l r : List ℕ) → left_origin.seen ≡ Some l → right_origin.seen ≡ Some r
-    → Past seen moment left_at (since_origin left_origin right_origin) l r base requests store
-KeepsPast seen moment left_at left_origin right_origin base requests (Some halt) store =
-    LeavesFrom seen moment left_at left_origin right_origin base requests (Some halt) store.left store.right
+    → Past at (since_origin left_origin right_origin) l r base requests store
+KeepsPast at left_origin right_origin base requests (Some halt) store =
+    LeavesFrom at left_origin right_origin base requests (Some halt) store.left store.right

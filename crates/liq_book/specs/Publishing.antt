@@ -1,4 +1,5 @@
--- What a book publishes: batches of the list's changes, each under the number of entries that it comes behind.
+-- What a book publishes: batches of the list's changes, each under the number of entries that it
+-- comes behind.
 use Rattle.std.specs.Prelude.{◌≡◌, ◌≤◌, ◌==◌, ◌⊎◌, List, [], ◌∷◌, ◌++◌, map, length, Option, Result}
 use Rattle.std.specs.Prelude.{MatchResult, IsTrue}
 use Rattle.std.specs.List.{list_any}
@@ -24,7 +25,11 @@ pub record OpenBook (D : Type 0) : Type 0 where
 abbrev pub open_book : {D : Type 0}
     → Stored D → List Entry → Option Halt → (published waiting : List Given) → OpenBook D
 open_book store entries halt published waiting =
-    record { book = record { store = store; entries = entries; halt = halt }; published = published; waiting = waiting }
+    record {
+      book = record { store = store; entries = entries; halt = halt };
+      published = published;
+      waiting = waiting;
+    }
 
 abbrev pub all_batches : {D : Type 0} → OpenBook D → List Given
 all_batches b = b.published ++ b.waiting
@@ -36,10 +41,13 @@ AreViews base entries batches =
     → (b.number ≤ length entries)
     × ((version_after (before ++ b ∷ [])).view ≡ view_after base entries b.number)
 
--- What holds of what every book publishes: the first version is that of the opened list, under number 0; each is the
--- view after as many entries as its number says; and the store's changes lead on from the last one to the view of now.
+-- What holds of what every book publishes: the first version is that of the opened list, under
+-- number 0; each is the view after as many entries as its number says; and the store's changes lead
+-- on from the last one to the view of now.
 pub record IsPublishing {D : Type 0} (base : State) (b : OpenBook D) : Type 0 where
-  pub first : (opened : Given) × (more : List Given) × (b.published ≡ opened ∷ more) × (opened.number ≡ 0)
+  pub first :
+      (opened : Given) × (more : List Given) × (b.published ≡ opened ∷ more)
+      × (opened.number ≡ 0)
   pub each : AreViews base (map recorded b.book.entries) (all_batches b)
   pub folds :
       all_followed (version_after (all_batches b)).view b.book.store.changes
@@ -58,12 +66,13 @@ ChangesList _ = ⊥
 abbrev pub PublishesNothing : {D : Type 0} → OpenBook D → OpenBook D → Type 0
 PublishesNothing old new = (new.published ≡ old.published) × (new.waiting ≡ old.waiting)
 
--- What was to be told went out, behind all that had and all that waited, and is told no more. Without memory nothing
--- went out, the book is as it was, and what was to be told may wait.
+-- What was to be told went out, behind all that had and all that waited, and is told no more.
+-- Without memory nothing went out, the book is as it was, and what was to be told may wait.
 abbrev pub Publishes : {D T E : Type 0} → OpenBook D → Result T E → OpenBook D → Type 0
 Publishes old result new =
     MatchResult result
-    (λ _. (new.published ≡ old.published ++ (old.waiting ++ batch_of old.book ∷ [])) × (new.waiting ≡ [])
+    (λ _. (new.published ≡ old.published ++ (old.waiting ++ batch_of old.book ∷ []))
+    × (new.waiting ≡ [])
     × (new.book ≡ record old.book { store = record old.book.store { changes = [] } }))
     (λ _. (new.published ≡ old.published) × (new.book ≡ old.book)
     × ((new.waiting ≡ old.waiting) ⊎ (new.waiting ≡ old.waiting ++ batch_of old.book ∷ [])))

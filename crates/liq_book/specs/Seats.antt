@@ -20,7 +20,8 @@ module _ {O : Type 0} {o : Ghosts O} where
   items_seen seat = seen_of seat.seat
 
   -- a seat as it was made, of this session: it has seen nothing
-  pub record IsNewSeat {T : Type 0} (lock : Lock T Item) (session : ℕ) (seat : BookSeat O o) : Type 0 where
+  pub record IsNewSeat
+      {T : Type 0} (lock : Lock T Item) (session : ℕ) (seat : BookSeat O o) : Type 0 where
     pub own : seat_id seat.seat ≡ lock_id lock
     pub session_is : session_at seat ≡ session
     pub calls : calls_at seat ≡ 0
@@ -29,7 +30,8 @@ module _ {O : Type 0} {o : Ghosts O} where
   -- seats as they were made, for the sessions from 1 on
   abbrev pub AreSeated : {T : Type 0} → Lock T Item → List (BookSeat O o) → Type 0
   AreSeated lock seats =
-      (k : ℕ) (d : BookSeat O o) → k < length seats → IsNewSeat lock (k + 1) (slice_index_or seats k d)
+      (k : ℕ) (d : BookSeat O o) → k < length seats
+      → IsNewSeat lock (k + 1) (slice_index_or seats k d)
 
 module _ {D O : Type 0} where
   -- how many seats the service was made with

@@ -62,8 +62,9 @@ impl History {
     }
 }
 
-/// A store with the history of its calls, and the publisher of its list. Contracts see the store, the entries, the halt, once a call
-/// met a disk's fault, and the batches that were published or wait. It is not `Drop`: end it by `close`.
+/// A store with the history of its calls, and the publisher of its list. Contracts see the store, the
+/// entries, the halt, once a call met a disk's fault, and the batches that were published or wait. It
+/// is not `Drop`: end it by `close`.
 pub struct Book<D: Disk, O: Origin> {
     pub(crate) store: Store<D>,
     pub(crate) publisher: Publisher,
@@ -81,16 +82,19 @@ impl<D: Disk, O: Origin> Model for Book<D, O> {
 
     ghost Value = { OpenBook D };
 
-    ghost view = { λ b. open_book b.store b.entries.items b.halt (published b.publisher) (waiting b.publisher) };
+    ghost view = { λ b. open_book b.store b.entries.items b.halt
+        (published b.publisher) (waiting b.publisher) };
 
-    ghost invariant = { λ b. IsBook D.seen D.faults D.moment D.left_at O.state O.left O.right (record { store = b.store; entries = b.entries.items; halt = b.halt })
-        × IsPublishing O.state (open_book b.store b.entries.items b.halt (published b.publisher) (waiting b.publisher)) };
+    ghost invariant = { λ b. IsBook D.at O.state O.left O.right
+        (record { store = b.store; entries = b.entries.items; halt = b.halt })
+        × IsPublishing O.state (open_book b.store b.entries.items b.halt
+        (published b.publisher) (waiting b.publisher)) };
 }
 
 impl<D: Disk, O: Origin> Book<D, O> {
     ghost use Rattle.liq_book.specs.Booked.{IsBook};
     ghost use Rattle.liq_book.specs.Closing.{booked_by};
-    ghost use Rattle.liq_book.specs.Entered.{Enters, IsAsBefore, IsTestedFirst};
+    ghost use Rattle.liq_book.specs.Entered.{Enters, IsTestedFirst};
     ghost use Rattle.liq_book.specs.Opened.{HasOpened};
     ghost use Rattle.liq_book.specs.Origin.{IsAtOrigin, TellsList};
     ghost use Rattle.liq_book.specs.Publishing.{Publishes, PublishesNothing, open_book};
@@ -103,7 +107,7 @@ impl<D: Disk, O: Origin> Book<D, O> {
         finder: Finder,
     ) -> Book<D, O>
         requires going { store.stopped ≡ None }
-        requires origin { IsAtOrigin D.seen D.faults D.moment D.left_at O.state O.left O.right store }
+        requires origin { IsAtOrigin D.at O.state O.left O.right store }
         requires listed { TellsList store }
         requires opened { HasOpened store.changes publisher }
         ensures { result ≡ open_book store [] None (published publisher) (waiting publisher) }
@@ -149,7 +153,7 @@ impl<D: Disk, O: Origin> Book<D, O> {
     /// What the book has. Its publisher is ended.
     pub(crate) fn close<W: Wait>(self, rt: &W) -> Closed<D, O>
         ensures same { booked_by result ≡ self.book }
-        ensures book { IsBook D.seen D.faults D.moment D.left_at O.state O.left O.right self.book }
+        ensures book { IsBook D.at O.state O.left O.right self.book }
     {
         let Book {
             store,
@@ -168,11 +172,14 @@ impl<D: Disk, O: Origin> Book<D, O> {
         }
     }
 
-    /// Answers a session's request, of which so many calls got a reply before, and enters it with its reply. With any other
-    /// answer the entries stay. At the limit nothing is asked of the store. After a disk's fault there is a halt.
+    /// Answers a session's request, of which so many calls got a reply before, and enters it with its
+    /// reply. With any other answer the entries stay. At the limit nothing is asked of the store. After
+    /// a disk's fault there is a halt. It publishes nothing: what it changed in the list goes out with
+    /// the next publication.
     pub(crate) fn call(&mut self, session: u8, calls: u32, request: &Request, hint: &Hint) -> Answer
         requires calls { length (own_entries session (map recorded self.old.book.entries)) ≡ calls }
-        ensures enters { Enters O.state session calls request.now result self.old.book self.new.book }
+        ensures enters { Enters O.state session calls request.now result self.old.book
+            self.new.book }
         ensures first { IsTestedFirst self.old.book.entries result }
         ensures legal { IsLegal O.state (map recorded self.new.book.entries) }
         ensures few { length self.new.book.entries ≤ ENTRIES_MOST }
@@ -208,10 +215,9 @@ impl<D: Disk, O: Origin> Book<D, O> {
         }
     }
 
-    /// Publishes what the calls since the last publication changed in the list, as the version after all entries. Without memory what
-    /// is told is kept, and goes out with the next publication.
+    /// Publishes what the calls since the last publication changed in the list, as the version after all
+    /// entries. Without memory what is told is kept, and goes out with the next publication.
     pub(crate) fn publish<W: Wait>(&mut self, rt: &W) -> Result<Publication, NoMemory>
-        ensures same { IsAsBefore self.old.book self.new.book }
         ensures number { IfOk result (λ sent. sent.number ≡ length self.old.book.entries) }
         ensures sent { Publishes self.old result self.new }
     {
@@ -223,8 +229,9 @@ impl<D: Disk, O: Origin> Book<D, O> {
 /// Before the first entry there is nothing to tell: the list as it was opened was published when the book was made.
 fn forget_opening<D: Disk>(store: &mut Store<D>, entries: &[Entry])
     ensures store { store.new ≡ record store.old { changes = store.new.changes } }
-    ensures changes { (store.new.changes ≡ store.old.changes) ⊎ ((entries.now ≡ []) × (store.new.changes ≡ [])) }
-    ensures order { IsInOrder D.seen D.moment D.left_at store.new }
+    ensures changes { (store.new.changes ≡ store.old.changes)
+        ⊎ ((entries.now ≡ []) × (store.new.changes ≡ [])) }
+    ensures order { IsInOrder D.at store.new }
 {
     if entries.is_empty() {
         store.clear_changes();
@@ -235,7 +242,8 @@ fn forget_opening<D: Disk>(store: &mut Store<D>, entries: &[Entry])
 
 /// The halt of a request, with the faults that are told from then on.
 fn halt_by(session: u8, request: &Request, faults: Option<u64>) -> Option<Halt>
-    ensures { result ≡ option_map (λ sum. record { session = session; request = request.now; faults = sum }) faults }
+    ensures { result ≡ option_map
+        (λ sum. record { session = session; request = request.now; faults = sum }) faults }
 {
     let faults = faults?;
     Some(Halt {

@@ -5,7 +5,7 @@ ghost use Rattle.liq_rules.specs.History.{IsLegal, own_entries};
 ghost use Rattle.liq_rules.specs.Recorded.{recorded};
 ghost use Rattle.liq_book.specs.Booked.{IsBook};
 ghost use Rattle.liq_book.specs.Closing.{booked_by};
-ghost use Rattle.liq_book.specs.Entered.{Enters, IsAsBefore, IsTestedFirst};
+ghost use Rattle.liq_book.specs.Entered.{Enters, IsTestedFirst};
 ghost use Rattle.liq_book.specs.Items.{chronicle, session_of};
 ghost use Rattle.liq_book.specs.Publishing.{Publishes};
 
@@ -60,15 +60,17 @@ impl<D: Disk, O: Origin> BoxedBook<D, O> {
     /// What the book has. Its publisher is ended.
     pub(crate) fn close<W: Wait>(self, rt: &W) -> Closed<D, O>
         ensures same { booked_by result ≡ self.boxed.value.book }
-        ensures book { IsBook D.seen D.faults D.moment D.left_at O.state O.left O.right self.boxed.value.book }
+        ensures book { IsBook D.at O.state O.left O.right self.boxed.value.book }
     {
         self.into_book().close(rt)
     }
 
     /// As [`Book::call`].
     pub(crate) fn call(&mut self, session: u8, calls: u32, request: &Request, hint: &Hint) -> Answer
-        requires calls { length (own_entries session (map recorded self.old.boxed.value.book.entries)) ≡ calls }
-        ensures enters { Enters O.state session calls request.now result self.old.boxed.value.book self.new.boxed.value.book }
+        requires calls { length (own_entries session
+            (map recorded self.old.boxed.value.book.entries)) ≡ calls }
+        ensures enters { Enters O.state session calls request.now result self.old.boxed.value.book
+            self.new.boxed.value.book }
         ensures first { IsTestedFirst self.old.boxed.value.book.entries result }
         ensures legal { IsLegal O.state (map recorded self.new.boxed.value.book.entries) }
         ensures few { length self.new.boxed.value.book.entries ≤ ENTRIES_MOST }
@@ -78,8 +80,8 @@ impl<D: Disk, O: Origin> BoxedBook<D, O> {
 
     /// As [`Book::publish`].
     pub(crate) fn publish<W: Wait>(&mut self, rt: &W) -> Result<Publication, NoMemory>
-        ensures same { IsAsBefore self.old.boxed.value.book self.new.boxed.value.book }
-        ensures number { IfOk result (λ sent. sent.number ≡ length self.old.boxed.value.book.entries) }
+        ensures number { IfOk result
+            (λ sent. sent.number ≡ length self.old.boxed.value.book.entries) }
         ensures sent { Publishes self.old.boxed.value result self.new.boxed.value }
     {
         self.boxed.publish(rt)

@@ -18,8 +18,9 @@ pub(crate) fn enter<D: Disk, H: HintSource + Drop>(
 ) -> Answer
     requires room { vec_len entries.old < vec_capacity entries.old }
     requires calls { calls + 1 < 2 ^ 32 }
-    ensures entered { IsEntered session calls request.now result entries.old.items entries.new.items }
-    ensures store { IsCalled D.seen D.faults D.moment D.left_at store.old request.now result store.new }
+    ensures entered { IsEntered session calls request.now result entries.old.items
+        entries.new.items }
+    ensures store { IsCalled D.at store.old request.now result store.new }
 {
     match store.call(request, hint) {
         Answer::Reply(reply) => {

@@ -101,12 +101,15 @@ pub(crate) fn publish<D: Disk, W: Wait>(
     requires { last_from 0 (published publisher.old ++ waiting publisher.old) ≤ number }
     ensures number { IfOk result (λ sent. sent.number ≡ number) }
     ensures sent { MatchResult result
-        (λ _. (published publisher.new ≡ published publisher.old ++ (waiting publisher.old ++ record { changes = store.old.changes; number = number } ∷ []))
+        (λ _. (published publisher.new ≡ published publisher.old ++ (waiting publisher.old
+        ++ record { changes = store.old.changes; number = number } ∷ []))
         × (waiting publisher.new ≡ []))
         (λ _. (published publisher.new ≡ published publisher.old)
         × ((waiting publisher.new ≡ waiting publisher.old)
-        ⊎ (waiting publisher.new ≡ waiting publisher.old ++ record { changes = store.old.changes; number = number } ∷ []))) }
-    ensures told { MatchResult result (λ _. store.new ≡ record store.old { changes = [] }) (λ _. store.new ≡ store.old) }
+        ⊎ (waiting publisher.new ≡ waiting publisher.old
+        ++ record { changes = store.old.changes; number = number } ∷ []))) }
+    ensures told { MatchResult result (λ _. store.new ≡ record store.old { changes = [] })
+        (λ _. store.new ≡ store.old) }
 {
     match publisher.publish(rt, store.changes(), number) {
         Ok(sent) => {

@@ -2,6 +2,7 @@
 use Rattle.std.proofs.Common.{◌≡◌, ℕ, List, [], Option, Some, None, Result, Ok, Err, refl, sym, ap, ap₂, subst, ◌∙◌}
 use Rattle.std.specs.Prelude.{IsSome}
 use Rattle.liq_types.specs.State.{State}
+use Rattle.liq_outside.specs.At.{DiskAt}
 use Rattle.liq_core.specs.Core.{Core, StandsFor}
 use Rattle.liq_rules.specs.Image.{IsSameState, image}
 use Rattle.liq_rules.proofs.AlikeReads.{Alike}
@@ -33,38 +34,44 @@ opened_at s start found core one other stands =
     subst (λ (t : State). StandsFor core t) same stands
 
 -- disks that nobody touched
-pub untouched : {D : Type 0} (seen : D → Option (List ℕ)) (left right : D) (l r : List ℕ) (s : State) → seen left ≡ Some l → seen right ≡ Some r → state_on l r ≡ Ok s → DisksStay seen (Err NoMemory) l r s left right
-untouched seen left right l r s told_l told_r is a b told_a told_b =
+pub untouched : {D : Type 0} (at : D → DiskAt) (left right : D) (l r : List ℕ) (s : State) → (at left).seen ≡ Some l
+    → (at right).seen ≡ Some r → state_on l r ≡ Ok s → DisksStay at (Err NoMemory) l r s left right
+untouched at left right l r s told_l told_r is a b told_a told_b =
     let left_is : a ≡ l = cc in
     let right_is : b ≡ r = cc in
     (ap₂ state_on left_is right_is ∙ is, λ kept. subst (λ (x : List ℕ). IsKept x b s) (sym left_is) (subst (λ (x : List ℕ). IsKept l x s) (sym right_is) kept))
 
 -- disks at which a store was not opened, for want of memory
-pub unopened : {D : Type 0} (seen : D → Option (List ℕ)) (faults : D → ℕ) (left right : D) (fault : StoreFault D) → IsNotOpened seen faults left right fault → (fault.why ≡ why.DiskFault → ⊥)
-    → (l r : List ℕ) (s : State) → seen left ≡ Some l → seen right ≡ Some r → state_on l r ≡ Ok s → DisksStay seen (Err NoMemory) l r s fault.left fault.right
-unopened seen faults left right fault h other l r s told_l told_r is a b told_a told_b =
+pub unopened : {D : Type 0} (at : D → DiskAt) (left right : D) (fault : StoreFault D) → IsNotOpened at left right fault
+    → (fault.why ≡ why.DiskFault → ⊥)
+    → (l r : List ℕ) (s : State) → (at left).seen ≡ Some l → (at right).seen ≡ Some r → state_on l r ≡ Ok s
+    → DisksStay at (Err NoMemory) l r s fault.left fault.right
+unopened at left right fault h other l r s told_l told_r is a b told_a told_b =
     let stands : state_on a b ≡ Ok s = h.stays other l r a b told_l told_r told_a told_b ∙ is in
     (stands, λ kept. still_kept l r a b s stands (h.reads l r a b s told_l told_r kept told_a told_b))
 
 -- so they are left by a run that read nothing
-pub standing_still : {D : Type 0} (seen : D → Option (List ℕ)) (left right : D) (bytes l r : List ℕ) (unread : Option (List ℕ)) (s : State) → unread ≡ Some bytes → state_on l r ≡ Ok s → DisksStay seen (Err NoMemory) l r s left right
-    → DisksHold seen (Err NoMemory) bytes unread l r s left right []
-standing_still seen left right bytes l r unread s none is still a b told_a told_b =
+pub standing_still : {D : Type 0} (at : D → DiskAt) (left right : D) (bytes l r : List ℕ) (unread : Option (List ℕ))
+    (s : State) → unread ≡ Some bytes → state_on l r ≡ Ok s → DisksStay at (Err NoMemory) l r s left right
+    → DisksHold at (Err NoMemory) bytes unread l r s left right []
+standing_still at left right bytes l r unread s none is still a b told_a told_b =
     let so = still a b told_a told_b in
     (still_stand l r a b s (so.0 ∙ sym is) is, λ were. so.1 (were (refl, none)))
 
 -- disks of a store that was opened
-pub opened_still : {D : Type 0} (seen : D → Option (List ℕ)) (faults : D → ℕ) (moment : D → ℕ) (left_at : D → ℕ → List ℕ → Type 0) (left right : D) (store : Stored D) (l r : List ℕ) (s : State)
-    → OpensOn seen faults left right store → IsInOrder seen moment left_at store → StandsFor store.core s → seen left ≡ Some l → seen right ≡ Some r → state_on l r ≡ Ok s → DisksStay seen (Ok tt) l r s store.left store.right
-opened_still seen faults moment left_at left right store l r s opened order stands told_l told_r is a b told_a told_b =
-    let now = subst (λ (stopped : Option ℕ). IsInOrderWith seen moment left_at stopped store) opened.going order in
+pub opened_still : {D : Type 0} (at : D → DiskAt) (left right : D) (store : Stored D) (l r : List ℕ) (s : State)
+    → OpensOn at left right store → IsInOrder at store → StandsFor store.core s → (at left).seen ≡ Some l
+    → (at right).seen ≡ Some r → state_on l r ≡ Ok s → DisksStay at (Ok tt) l r s store.left store.right
+opened_still at left right store l r s opened order stands told_l told_r is a b told_a told_b =
+    let now = subst (λ (stopped : Option ℕ). IsInOrderWith at stopped store) opened.going order in
     (opened.stays l r a b told_l told_r told_a told_b ∙ is, settled_kept store.side a b s (now.settled a b told_a told_b s stands))
 
 -- disks of a store that goes on
-pub settled : {D : Type 0} (seen : D → Option (List ℕ)) (moment : D → ℕ) (left_at : D → ℕ → List ℕ → Type 0) (store : Stored D) (s : State)
-    → store.stopped ≡ None → IsInOrder seen moment left_at store → StandsFor store.core s → OfBoth seen store.left store.right (λ a b. IsKept a b s)
-settled seen moment left_at store s going order stands a b told_a told_b =
-    let now = subst (λ (stopped : Option ℕ). IsInOrderWith seen moment left_at stopped store) going order in
+pub settled : {D : Type 0} (at : D → DiskAt) (store : Stored D) (s : State)
+    → store.stopped ≡ None → IsInOrder at store → StandsFor store.core s
+    → OfBoth at store.left store.right (λ a b. IsKept a b s)
+settled at store s going order stands a b told_a told_b =
+    let now = subst (λ (stopped : Option ℕ). IsInOrderWith at stopped store) going order in
     settled_kept store.side a b s (now.settled a b told_a told_b s stands)
 
 -- ---- disks that are kept begin again
@@ -82,9 +89,10 @@ kept_again a b s t kept is =
     (record { image = alike.image; records = alike.records }, kept_alike alike a b kept)
 
 -- a word over damaged disks stops
-pub damaged_halts : {D : Type 0} (seen : D → Option (List ℕ)) (side : Side) (damage : Damage) (end : Result (Unit {0}) Halt) (left right : D) → EndsDamaged seen side damage end left right → (halt : Halt) × (end ≡ Err halt)
-damaged_halts seen side damage (Ok done) left right h = absurd h
-damaged_halts seen side damage (Err halt) left right h = (halt, refl)
+pub damaged_halts : {D : Type 0} (at : D → DiskAt) (side : Side) (damage : Damage) (end : Result (Unit {0}) Halt)
+    (left right : D) → EndsDamaged at side damage end left right → (halt : Halt) × (end ≡ Err halt)
+damaged_halts at side damage (Ok done) left right h = absurd h
+damaged_halts at side damage (Err halt) left right h = (halt, refl)
 
 -- ---- disks that tell their bytes
 

@@ -1,5 +1,6 @@
 -- What a run does to the counts of its streams' and its disks' faults, and to the disks' time and telling.
-use Rattle.std.specs.Prelude.{ℕ, ◌≡◌, ◌≤◌, ◌↔◌, List, Option, IsSome, Result, Ok, Err}
+use Rattle.std.specs.Prelude.{ℕ, ◌≡◌, ◌≤◌, ◌↔◌, IsSome, Result, Ok, Err}
+use Rattle.liq_outside.specs.At.{DiskAt, SinkAt, SourceAt}
 use Rattle.liq_outside.specs.Disk.{GoesOn}
 use Rattle.liq_outside.specs.Faults.{Rose}
 use Rattle.liq_store.specs.Causes.{Faults, OneRose, counts_of}
@@ -32,20 +33,19 @@ LastCause (Err _) before after = Unit {0}
 -- is a disk's fault; for each time goes on, and what a crash may have left at a past moment stays what it was; and each
 -- tells its bytes where it told them before, and there alone.
 pub record DisksGoOn
-    {D : Type 0} (seen : D → Option (List ℕ)) (faults moment : D → ℕ) (left_at : D → ℕ → List ℕ → Type 0)
-    (old_left old_right : D) (end : Result (Unit {0}) Halt) (left right : D) : Type 0 where
-  pub count : DiskCause end (counts_of faults old_left old_right) (counts_of faults left right)
-  pub left_time : GoesOn moment left_at old_left left
-  pub right_time : GoesOn moment left_at old_right right
-  pub left_telling : IsSome (seen left) ↔ IsSome (seen old_left)
-  pub right_telling : IsSome (seen right) ↔ IsSome (seen old_right)
+    {D : Type 0} (at : D → DiskAt) (old_left old_right : D) (end : Result (Unit {0}) Halt)
+    (left right : D) : Type 0 where
+  pub count : DiskCause end (counts_of at old_left old_right) (counts_of at left right)
+  pub left_time : GoesOn at old_left left
+  pub right_time : GoesOn at old_right right
+  pub left_telling : IsSome (at left).seen ↔ IsSome (at old_left).seen
+  pub right_telling : IsSome (at right).seen ↔ IsSome (at old_right).seen
 
 -- A word's end has its cause, whatever came in and stands on the disks: the counts of the source and the disks rose
 -- exactly where it tells their fault, and that of the sink where it tells its one, or maybe at the last line.
 pub record HasCauses
-    {S K D : Type 0} (source_faults : S → ℕ) (sink_faults : K → ℕ) (seen : D → Option (List ℕ))
-    (disk_faults moment : D → ℕ) (left_at : D → ℕ → List ℕ → Type 0) (before after : Outside S K D)
-    (end : Result (Unit {0}) Halt) : Type 0 where
-  pub source : ReadCause end (source_faults before.source) (source_faults after.source)
-  pub sink : LastCause end (sink_faults before.sink) (sink_faults after.sink)
-  pub disks : DisksGoOn seen disk_faults moment left_at before.left before.right end after.left after.right
+    {S K D : Type 0} (source_at : S → SourceAt) (sink_at : K → SinkAt) (disk_at : D → DiskAt)
+    (before after : Outside S K D) (end : Result (Unit {0}) Halt) : Type 0 where
+  pub source : ReadCause end (source_at before.source).faults (source_at after.source).faults
+  pub sink : LastCause end (sink_at before.sink).faults (sink_at after.sink).faults
+  pub disks : DisksGoOn disk_at before.left before.right end after.left after.right

@@ -1,5 +1,6 @@
 -- What a run leaves on the disks.
 use Rattle.std.specs.Prelude.{ℕ, ◌≡◌, ◌≢◌, ◌⊎◌, [], List, Option, Some, Result, Ok, Err, true, false}
+use Rattle.liq_outside.specs.At.{DiskAt}
 use Rattle.liq_outside.specs.Disk.{LeavesOnly, LeftNow, Only}
 use Rattle.liq_types.specs.declared.requests.Command.{Command}
 use Rattle.liq_types.specs.declared.requests.Request.{Request}
@@ -25,32 +26,29 @@ IsUnread bytes unread requests = (requests ≡ []) × (unread ≡ Some bytes)
 
 -- Where a run met a disk's fault: in the opening, before a line was read; or at the next line's command, which is
 -- accepted after these requests.
-abbrev pub IsFaultOfRun :
-    State → Result (Unit {0}) Halt → List ℕ → Option (List ℕ) → List Request → Fault → Type 0
+abbrev pub IsFaultOfRun : State → Result (Unit {0}) Halt → List ℕ → Option (List ℕ) → List Request → Fault → Type 0
 IsFaultOfRun start (Err DiskFault) bytes unread requests fault =
-    ((fault ≡ InOpening) × IsUnread bytes unread requests)
-    ⊎ ((c : Command) × (fault ≡ AtCommand c) × IsNext bytes requests (Do c)
-    × (ruling (run start requests).0 c ≡ Allowed))
+    ((fault ≡ InOpening) × IsUnread bytes unread requests) ⊎ ((c : Command) × (fault ≡ AtCommand c)
+    × IsNext bytes requests (Do c) × (ruling (run start requests).0 c ≡ Allowed))
 IsFaultOfRun start _ bytes unread requests fault = fault ≡ NoFault
 
--- where a word met one that only tells what is on the disks: it leaves what an opening may leave
+-- where a word met one that only tells what is on the disks, or that opened no store: it leaves what an opening may
+-- leave
 abbrev pub IsFaultOfTelling : Result (Unit {0}) Halt → Fault → Type 0
 IsFaultOfTelling (Err DiskFault) fault = fault ≡ InOpening
 IsFaultOfTelling _ fault = fault ≡ NoFault
 
--- Where nothing was pending before a word on either of these two disks, and they were kept for the state for which they
--- stood, it leaves of them what a run of these requests leaves, with a fault where P says.
-abbrev pub LeavesOfRun :
-    {D : Type 0} → (D → Option (List ℕ)) → (D → ℕ) → (D → ℕ → List ℕ → Type 0) → D → D → (Fault → Type 0)
-    → List ℕ → List ℕ → State → List Request → D → D → Type 0
-LeavesOfRun seen moment left_at old_left old_right P l r start requests left right =
-    Only l (LeftNow moment left_at old_left) → Only r (LeftNow moment left_at old_right) → IsKept l r start
-    → LeavesBoth seen moment left_at old_left old_right P l r start requests left right
+module _ {D : Type 0} (at : D → DiskAt) where
+  -- Where nothing was pending before a word on either of these two disks, and they were kept for the state for which
+  -- they stood, it leaves of them what a run of these requests leaves, with a fault where P says.
+  abbrev pub LeavesOfRun : D → D → (Fault → Type 0) → List ℕ → List ℕ → State → List Request → D → D → Type 0
+  LeavesOfRun old_left old_right P l r start requests left right =
+      Only l (LeftNow at old_left) → Only r (LeftNow at old_right) → IsKept l r start
+      → LeavesBoth at old_left old_right P l r start requests left right
 
-module _ {D : Type 0} (seen : D → Option (List ℕ)) where
   -- where both disks tell their bytes, this holds of them
   abbrev pub OfBoth : D → D → (List ℕ → List ℕ → Type 0) → Type 0
-  OfBoth left right P = (a b : List ℕ) → seen left ≡ Some a → seen right ≡ Some b → P a b
+  OfBoth left right P = (a b : List ℕ) → (at left).seen ≡ Some a → (at right).seen ≡ Some b → P a b
 
   -- where these bytes stand for a state, this holds of them and of it
   abbrev pub OfState : D → D → (List ℕ → List ℕ → State → Type 0) → Type 0
@@ -58,25 +56,22 @@ module _ {D : Type 0} (seen : D → Option (List ℕ)) where
 
   -- where one of the disks is damaged, this holds of these bytes, of its side and of the first damage
   abbrev pub OfDamage : D → D → (List ℕ → List ℕ → Side → Damage → Type 0) → Type 0
-  OfDamage left right P =
-      OfBoth left right (λ l r. (side : Side) (damage : Damage) → state_on l r ≡ Err (side, damage)
-      → P l r side damage)
+  OfDamage left right P = OfBoth left right (λ l r.
+      (side : Side) (damage : Damage) → state_on l r ≡ Err (side, damage) → P l r side damage)
 
   -- The disks of a run that began with l and r on them, for which they stood for the state `start`: they are kept for
   -- the state after the requests.
-  abbrev pub DisksHold :
-      Result (Unit {0}) Halt → List ℕ → Option (List ℕ) → List ℕ → List ℕ → State → D → D → List Request → Type 0
+  abbrev pub DisksHold : Result (Unit {0}) Halt → List ℕ → Option (List ℕ) → List ℕ → List ℕ
+      → State → D → D → List Request → Type 0
   -- After a disk's fault they are kept for that state, or for it after the next line's command, if it is accepted
   -- there. Or the opening failed, and left what it may leave of disks that were kept.
-  DisksHold (Err DiskFault) bytes unread l r start left right asked =
-      let s = (run start asked).0 in OfBoth left right (λ a b.
-      (IsUnread bytes unread asked × (IsKept l r start → IsRecovered l r start a b))
+  DisksHold (Err DiskFault) bytes unread l r start left right asked = OfBoth left right (λ a b.
+      let s = (run start asked).0 in (IsUnread bytes unread asked × (IsKept l r start → IsRecovered l r start a b))
       ⊎ (IsKept a b s ⊎ ((c : Command) × IsNext bytes asked (Do c) × (ruling s c ≡ Allowed) × IsKept a b (after s c))))
   -- Where memory may have been wanted for the opening they stand for that state, and stay kept.
-  DisksHold (Err NoMemory) bytes unread l r start left right requests =
-      let s = (run start requests).0 in OfBoth left right (λ a b.
-      StandFor a b s × ((IsUnread bytes unread requests → IsKept l r start) → IsKept a b s))
-  DisksHold _ bytes unread l r start left right requests = OfBoth left right (λ a b. IsKept a b (run start requests).0)
+  DisksHold (Err NoMemory) bytes unread l r start left right asked = OfBoth left right (λ a b.
+      let s = (run start asked).0 in StandFor a b s × ((IsUnread bytes unread asked → IsKept l r start) → IsKept a b s))
+  DisksHold _ bytes unread l r start left right asked = OfBoth left right (λ a b. IsKept a b (run start asked).0)
 
   -- The disks of a word that only tells what is on them: they stand for just the state for which l and r stood, and are
   -- kept for it.
@@ -94,20 +89,16 @@ module _ {D : Type 0} (seen : D → Option (List ℕ)) where
   abbrev pub EndsDamaged : Side → Damage → Result (Unit {0}) Halt → D → D → Type 0
   EndsDamaged side damage (Err DiskFault) left right = Unit {0}
   EndsDamaged side damage (Err NoMemory) left right = OfBoth left right (λ a b. state_on a b ≡ Err (side, damage))
-  EndsDamaged side damage (Err (Damaged which number)) left right =
-      (which ≡ side) × (number ≡ damage.index) × OfBoth left right (λ a b. state_on a b ≡ Err (side, damage))
+  EndsDamaged side damage (Err (Damaged which number)) left right = (which ≡ side)
+      × (number ≡ damage.index) × OfBoth left right (λ a b. state_on a b ≡ Err (side, damage))
   EndsDamaged side damage _ left right = ⊥
 
 -- What a word leaves of disks of which one is damaged, and on which l and r stood. Where nothing was pending on one of
--- them, a stop at any moment leaves it as it was, or with some byte at the one place that an opening shuts; and where no
--- disk met a fault that byte is a 0 at the end.
-pub record LeavesDamaged
-    {D : Type 0} (seen : D → Option (List ℕ)) (moment : D → ℕ) (left_at : D → ℕ → List ℕ → Type 0)
-    (old_left old_right : D) (l r : List ℕ) (side : Side) (damage : Damage) (end : Result (Unit {0}) Halt)
-    (left right : D) : Type 0 where
-  pub ends : EndsDamaged seen side damage end left right
-  pub left_leaves :
-      Only l (LeftNow moment left_at old_left) → LeavesOnly moment left_at old_left left (OpenLeaves true l)
-  pub right_leaves :
-      Only r (LeftNow moment left_at old_right) → LeavesOnly moment left_at old_right right (OpenLeaves false r)
-  pub shut : end ≢ Err DiskFault → OfBoth seen left right (λ a b. OnlyShuts true l a × OnlyShuts false r b)
+-- them, a stop at any moment leaves it as it was, or with some byte at the one place that an opening shuts; and where
+-- no disk met a fault that byte is a 0 at the end.
+pub record LeavesDamaged {D : Type 0} (at : D → DiskAt) (old_left old_right : D) (l r : List ℕ) (side : Side)
+    (damage : Damage) (end : Result (Unit {0}) Halt) (left right : D) : Type 0 where
+  pub ends : EndsDamaged at side damage end left right
+  pub left_leaves : Only l (LeftNow at old_left) → LeavesOnly at old_left left (OpenLeaves true l)
+  pub right_leaves : Only r (LeftNow at old_right) → LeavesOnly at old_right right (OpenLeaves false r)
+  pub shut : end ≢ Err DiskFault → OfBoth at left right (λ a b. OnlyShuts true l a × OnlyShuts false r b)

@@ -1,5 +1,6 @@
 -- Where a word ends, and what it has written by then.
 use Rattle.std.specs.Prelude.{ℕ, ◌≡◌, ◌≢◌, ◌≤◌, ◌∷◌, [], ◌++◌, ◌⊎◌, List, length, Option, Result, Ok, Err}
+use Rattle.liq_outside.specs.At.{DiskAt}
 use Rattle.liq_outside.specs.declared.showing.Showing.{Showing}
 use Rattle.liq_types.specs.declared.amounts.TheConstants.{LINES_MOST}
 use Rattle.liq_types.specs.declared.requests.Request.{Request}
@@ -27,8 +28,8 @@ use Rattle.liq_rules.specs.Memory.{TakesMemory}
 -- at most its exact share of what all accepted commands did to the Stability Pool, and short of it by at most the
 -- allowance. None lead to a later generation under the lesser limit, which only an earlier program's rotation left.
 abbrev pub HaveTheirShares : State → List Request → Type 0
-HaveTheirShares start requests =
-    (limit : ℕ) → IsLimit limit → (earlier : List Request) → IsSameState (run (opening_with limit) earlier).0 start
+HaveTheirShares start requests = (limit : ℕ) → IsLimit limit → (earlier : List Request)
+    → IsSameState (run (opening_with limit) earlier).0 start
     → (account : ℕ) → IsWithinAllowance (run start requests).0 account
     (events (opening_with limit) (accepted (opening_with limit) (earlier ++ requests)))
 
@@ -47,13 +48,10 @@ TellsBehind said text (Err halt) fault before now = Adds said (last halt) fault 
 -- ---- for the contracts below the top call's
 
 -- A word over damaged disks stops, and writes its last line alone.
-abbrev pub StopsDamaged :
-    {D : Type 0} → (D → Option (List ℕ)) → (D → ℕ) → (D → ℕ → List ℕ → Type 0) → D → D → List ℕ → List ℕ → Side
-    → Damage → Result (Unit {0}) Halt → Type 0 → Option (List ℕ) → Option (List ℕ) → D → D → Type 0
-StopsDamaged seen moment left_at old_left old_right l r side damage end fault before now left right =
-    (halt : Halt) × (end ≡ Err halt)
-    × LeavesDamaged seen moment left_at old_left old_right l r side damage (Err halt) left right
-    × Adds [] (last halt) fault before now
+abbrev pub StopsDamaged : {D : Type 0} → (D → DiskAt) → D → D → List ℕ → List ℕ → Side → Damage → Result (Unit {0}) Halt
+    → Type 0 → Option (List ℕ) → Option (List ℕ) → D → D → Type 0
+StopsDamaged at old_left old_right l r side damage end fault before now left right = (halt : Halt) × (end ≡ Err halt)
+    × LeavesDamaged at old_left old_right l r side damage (Err halt) left right × Adds [] (last halt) fault before now
 
 -- Why a run from a state ended after these requests of the bytes. `left` is what the source still tells.
 abbrev pub EndsAfter : State → Result (Unit {0}) Halt → List ℕ → Option (List ℕ) → List Request → Type 0
@@ -64,18 +62,16 @@ EndsAfter start (Err (DamagedInput number)) bytes left requests = ⊥
 -- and it goes on in whatever generation
 EndsAfter start (Err (Rotated generation)) bytes left requests = ⊥
 -- memory is asked for before a line is read, and then only for a command that is allowed or plans a list
-EndsAfter start (Err NoMemory) bytes left requests =
-    ReadsTo IsRequest bytes left requests (Err NoMemory)
-    × (IsUnread bytes left requests
-    ⊎ ((request : Request) × IsNext bytes requests request × TakesMemory (run start requests).0 request))
+EndsAfter start (Err NoMemory) bytes left requests = ReadsTo IsRequest bytes left requests (Err NoMemory)
+    × (IsUnread bytes left requests ⊎ ((request : Request) × IsNext bytes requests request
+    × TakesMemory (run start requests).0 request))
 EndsAfter start end bytes left requests = ReadsTo IsRequest bytes left requests end
 
 -- What a run has written by its end: all replies, and the last line where it stopped. Where the sink met a fault at a
 -- reply, it is a front of the requests' lines that ends within the last of them.
-abbrev pub WritesUpTo :
-    State → Result (Unit {0}) Halt → Type 0 → List Request → Option (List ℕ) → Option (List ℕ) → Type 0
-WritesUpTo start (Err WriteFault) fault requests before now =
-    (part : List ℕ) × Writes before part now
+abbrev pub WritesUpTo : State → Result (Unit {0}) Halt → Type 0 → List Request
+    → Option (List ℕ) → Option (List ℕ) → Type 0
+WritesUpTo start (Err WriteFault) fault requests before now = (part : List ℕ) × Writes before part now
     × ((earlier : List Request) × (request : Request) × (requests ≡ earlier ++ request ∷ [])
     × ((rest : List ℕ) × (part ≡ lines start earlier ++ rest))
     × ((missing : List ℕ) × (missing ≢ []) × (lines start requests ≡ part ++ missing)))
@@ -85,24 +81,22 @@ WritesUpTo start end fault requests before now =
 -- How a run ends that began with these bytes in its source and with l and r on its disks, for which they stood for this
 -- state. `unread` is what the source still tells; `before` and `now` are what the sink held and holds, and `shown` and
 -- `shown_now` what it was shown by then.
-pub record EndsIn
-    {D : Type 0} (seen : D → Option (List ℕ)) (moment : D → ℕ) (left_at : D → ℕ → List ℕ → Type 0)
-    (old_left old_right : D) (start : State) (end : Result (Unit {0}) Halt) (bytes l r : List ℕ)
-    (unread : Option (List ℕ)) (sink_fails : Type 0) (before now : Option (List ℕ))
+pub record EndsIn {D : Type 0} (at : D → DiskAt) (old_left old_right : D) (start : State)
+    (end : Result (Unit {0}) Halt) (bytes l r : List ℕ) (unread : Option (List ℕ))
+    (sink_fails : Type 0) (before now : Option (List ℕ))
     (shown shown_now : Option (List Showing)) (left right : D) : Type 0 where
   pub requests : List Request
   -- they are no more than one run answers
   pub few : length requests ≤ LINES_MOST
   pub read : EndsAfter start end bytes unread requests
   pub written : WritesUpTo start end sink_fails requests before now
-  pub disks : DisksHold seen end bytes unread l r start left right requests
+  pub disks : DisksHold at end bytes unread l r start left right requests
   -- where a disk met a fault
   pub fault : Fault
   pub fault_is : IsFaultOfRun start end bytes unread requests fault
-  pub past :
-      LeavesOfRun seen moment left_at old_left old_right (λ met. met ≡ fault) l r start requests left right
+  pub past : LeavesOfRun at old_left old_right (λ met. met ≡ fault) l r start requests left right
   -- and wherever a stop was, all that was answered by then is on the disks
   pub answered : Told before shown now shown_now (λ was earlier is all.
-      KeepsAnswered moment left_at l r start requests fault old_left old_right was earlier left right is all)
+      KeepsAnswered at l r start requests fault old_left old_right was earlier left right is all)
   -- and after them no depositor has more than its share, or less by more than is allowed
   pub shares : HaveTheirShares start requests

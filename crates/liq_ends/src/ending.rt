@@ -32,7 +32,8 @@ pub struct Ending<D> {
 
 /// How a word ends whose store was not opened: with the disks as they are then.
 pub fn unopened<D>(fault: StoreFault<D>) -> Ending<D>
-    ensures { result ≡ record { end = Err (halt_of fault.why); left = fault.left; right = fault.right } }
+    ensures { result
+        ≡ record { end = Err (halt_of fault.why); left = fault.left; right = fault.right } }
 {
     let StoreFault { left, right, why } = fault;
     let end = Err(Halt::from(why));
@@ -42,7 +43,7 @@ pub fn unopened<D>(fault: StoreFault<D>) -> Ending<D>
 /// How a word ends over a store, which is closed: with the disks as the store leaves them.
 pub fn closed<D: Disk>(store: Store<D>, end: Result<(), Halt>) -> Ending<D>
     ensures is { result ≡ record { end = end; left = store.left; right = store.right } }
-    ensures order { IsInOrder D.seen D.moment D.left_at store }
+    ensures order { IsInOrder D.at store }
 {
     let (left, right) = store.close();
     Ending { end, left, right }
@@ -68,9 +69,10 @@ pub fn status(end: &Result<(), Halt>) -> u8
 
 /// Writes the last line of a run that stopped. Where it cannot be written whole, the run has stopped all the same.
 pub fn write_last<K: Sink>(out: &mut K, halt: Halt)
-    ensures written { Adds [] (last halt) (Rose (K.faults out.old) (K.faults out.new)) (K.held out.old) (K.held out.new) }
-    ensures count { K.faults out.old ≤ K.faults out.new }
-    ensures unshown { K.shown out.new ≡ K.shown out.old }
+    ensures written { Adds [] (last halt) (Rose (K.at out.old).faults (K.at out.new).faults)
+        (K.at out.old).held (K.at out.new).held }
+    ensures count { (K.at out.old).faults ≤ (K.at out.new).faults }
+    ensures unshown { (K.at out.new).shown ≡ (K.at out.old).shown }
 {
     let _ = match halt {
         Halt::BadLine(number) => write_numbered(out, b"bad line ", u128::from(number)),
@@ -87,13 +89,17 @@ pub fn write_last<K: Sink>(out: &mut K, halt: Halt)
 
 /// Writes the last line of a word where it stopped.
 pub fn tell_last<K: Sink>(out: &mut K, end: Result<(), Halt>)
-    ensures told { (text : List ℕ) (before : Option (List ℕ)) (count : ℕ) → count ≤ K.faults out.old → WritesAll text end before (K.held out.old)
-        → TellsAll text end (Rose count (K.faults out.new)) before (K.held out.new) }
-    ensures last { IfErr end (λ halt. Adds [] (last halt) (Rose (K.faults out.old) (K.faults out.new)) (K.held out.old) (K.held out.new)) }
+    ensures told { (text : List ℕ) (before : Option (List ℕ)) (count : ℕ)
+        → count ≤ (K.at out.old).faults → WritesAll text end before (K.at out.old).held
+        → TellsAll text end (Rose count (K.at out.new).faults) before (K.at out.new).held }
+    ensures last { IfErr end
+        (λ halt. Adds [] (last halt) (Rose (K.at out.old).faults (K.at out.new).faults)
+        (K.at out.old).held (K.at out.new).held) }
     ensures same { OnOk end (out.new ≡ out.old) }
-    ensures count { K.faults out.old ≤ K.faults out.new }
-    ensures sink { (count : ℕ) → WriteCause end count (K.faults out.old) → LastCause end count (K.faults out.new) }
-    ensures unshown { K.shown out.new ≡ K.shown out.old }
+    ensures count { (K.at out.old).faults ≤ (K.at out.new).faults }
+    ensures sink { (count : ℕ) → WriteCause end count (K.at out.old).faults
+        → LastCause end count (K.at out.new).faults }
+    ensures unshown { (K.at out.new).shown ≡ (K.at out.old).shown }
 {
     if let Err(halt) = end {
         write_last(out, halt);
@@ -102,10 +108,12 @@ pub fn tell_last<K: Sink>(out: &mut K, end: Result<(), Halt>)
 
 /// Writes which disk is damaged, and at which record.
 fn write_damaged<K: Sink>(out: &mut K, side: Side, number: u128) -> Result<(), Failed>
-    ensures ok { OnOk result (Writes (K.held out.old) (last (Halt.Damaged side number)) (K.held out.new)) }
-    ensures err { OnErr result (WritesPart (K.held out.old) (last (Halt.Damaged side number)) (K.held out.new)) }
-    ensures cause { HasCause (K.faults out.old) (K.faults out.new) result }
-    ensures unshown { K.shown out.new ≡ K.shown out.old }
+    ensures ok { OnOk result
+        (Writes (K.at out.old).held (last (Halt.Damaged side number)) (K.at out.new).held) }
+    ensures err { OnErr result
+        (WritesPart (K.at out.old).held (last (Halt.Damaged side number)) (K.at out.new).held) }
+    ensures cause { HasCause (K.at out.old).faults (K.at out.new).faults result }
+    ensures unshown { (K.at out.new).shown ≡ (K.at out.old).shown }
 {
     match side {
         Side::Left => write_numbered(out, b"damaged left ", number),
@@ -115,10 +123,13 @@ fn write_damaged<K: Sink>(out: &mut K, side: Side, number: u128) -> Result<(), F
 
 /// Writes a line of a text and a number.
 fn write_numbered<K: Sink>(out: &mut K, text: &[u8], number: u128) -> Result<(), Failed>
-    ensures ok { OnOk result (Writes (K.held out.old) (text.now ++ (decimal number ++ 10 ∷ [])) (K.held out.new)) }
-    ensures err { OnErr result (WritesPart (K.held out.old) (text.now ++ (decimal number ++ 10 ∷ [])) (K.held out.new)) }
-    ensures cause { HasCause (K.faults out.old) (K.faults out.new) result }
-    ensures unshown { K.shown out.new ≡ K.shown out.old }
+    ensures ok { OnOk result
+        (Writes (K.at out.old).held (text.now ++ (decimal number ++ 10 ∷ [])) (K.at out.new).held) }
+    ensures err { OnErr result
+        (WritesPart (K.at out.old).held (text.now ++ (decimal number ++ 10 ∷ []))
+        (K.at out.new).held) }
+    ensures cause { HasCause (K.at out.old).faults (K.at out.new).faults result }
+    ensures unshown { (K.at out.new).shown ≡ (K.at out.old).shown }
 {
     let mut digits = Buffer::new();
     write_all(out, text)?;
@@ -128,8 +139,9 @@ fn write_numbered<K: Sink>(out: &mut K, text: &[u8], number: u128) -> Result<(),
 
 /// Writes how the program is used.
 pub fn write_usage<K: Sink>(out: &mut K)
-    ensures written { Adds [] usage (Rose (K.faults out.old) (K.faults out.new)) (K.held out.old) (K.held out.new) }
-    ensures count { K.faults out.old ≤ K.faults out.new }
+    ensures written { Adds [] usage (Rose (K.at out.old).faults (K.at out.new).faults)
+        (K.at out.old).held (K.at out.new).held }
+    ensures count { (K.at out.old).faults ≤ (K.at out.new).faults }
 {
     let _ = write_all(out, USAGE);
 }

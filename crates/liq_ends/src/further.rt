@@ -10,9 +10,9 @@ use liq_outside::{Failed, Source};
 
 /// Looks whether a source has a byte more behind so many, which is too much.
 pub fn look_further<S: Source>(input: &mut S, most: u128) -> Result<(), Halt>
-    ensures further { (read : List ℕ) × Reads (S.left input.old) read (S.left input.new)
-        × IsFurther most result read (S.left input.new) }
-    ensures source { ReadCause result (S.faults input.old) (S.faults input.new) }
+    ensures further { (read : List ℕ) × Reads (S.at input.old).left read (S.at input.new).left
+        × IsFurther most result read (S.at input.new).left }
+    ensures source { ReadCause result (S.at input.old).faults (S.at input.new).faults }
 {
     let mut byte = [0];
     match input.read(&mut byte) {

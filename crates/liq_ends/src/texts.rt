@@ -11,9 +11,11 @@ use liq_outside::{Failed, Sink};
 
 /// Writes a text.
 pub fn write_text<K: Sink>(out: &mut K, text: &[u8]) -> Result<(), Halt>
-    ensures ok { OnOk result (Writes (K.held out.old) text.now (K.held out.new)) }
-    ensures err { IfErr result (λ halt. (halt ≡ Halt.WriteFault) × WritesPart (K.held out.old) text.now (K.held out.new)) }
-    ensures sink { WriteCause result (K.faults out.old) (K.faults out.new) }
+    ensures ok { OnOk result (Writes (K.at out.old).held text.now (K.at out.new).held) }
+    ensures err { IfErr result
+        (λ halt. (halt ≡ Halt.WriteFault)
+        × WritesPart (K.at out.old).held text.now (K.at out.new).held) }
+    ensures sink { WriteCause result (K.at out.old).faults (K.at out.new).faults }
 {
     match write_all(out, text) {
         Ok(()) => Ok(()),
@@ -23,10 +25,12 @@ pub fn write_text<K: Sink>(out: &mut K, text: &[u8]) -> Result<(), Halt>
 
 /// Writes what waits where a word ends, and says how it ends then. Behind a fault of the sink nothing is written.
 pub fn write_rest<K: Sink>(out: &mut K, rest: &[u8], end: Result<(), Halt>) -> Result<(), Halt>
-    ensures written { end ≢ Err Halt.WriteFault → WritesRest end rest.now (K.held out.old) (K.held out.new) result }
+    ensures written { end ≢ Err Halt.WriteFault
+        → WritesRest end rest.now (K.at out.old).held (K.at out.new).held result }
     ensures shut { end ≡ Err Halt.WriteFault → (result ≡ end) × (out.new ≡ out.old) }
-    ensures unshown { K.shown out.new ≡ K.shown out.old }
-    ensures sink { (count : ℕ) → WriteCause end count (K.faults out.old) → WriteCause result count (K.faults out.new) }
+    ensures unshown { (K.at out.new).shown ≡ (K.at out.old).shown }
+    ensures sink { (count : ℕ) → WriteCause end count (K.at out.old).faults
+        → WriteCause result count (K.at out.new).faults }
 {
     match end {
         Err(Halt::WriteFault) => Err(Halt::WriteFault),

@@ -9,7 +9,7 @@ use Rattle.liq_ends.specs.declared.halts.Halt.{Halt}
 use Rattle.liq_ends.specs.declared.halts.Halt.TheVariants.{BadLine, ReadFault, WriteFault, DiskFault, Damaged, DamagedInput, NoMemory, Limit, Rotated}
 use Rattle.liq_ends.specs.Statuses.{status_of}
 use Rattle.liq_follow.specs.declared.feeding.TheConstants.{FED_MOST}
-use Rattle.liq_follow.specs.Followed.{FaultIn, FollowsTo, HasFront, IsFirstFault, IsWhole}
+use Rattle.liq_follow.specs.Followed.{FaultIn, FollowsTo, IsFirstFault, IsWhole}
 
 -- ---- faults do not go on
 
@@ -93,7 +93,7 @@ module _ (bytes read : List ℕ) (left : Option (List ℕ)) (reads : Reads (Some
       told.2 ∙ ap (λ (t : List ℕ). read ++ t) none ∙ append-nil read
 
   -- what stands in front of what was read stands in front of what is followed
-  front_followed : (P : List ℕ → Type 0) → length read ≤ FED_MOST → HasFront read P → HasFront (take FED_MOST bytes) P
+  front_followed : (P : List ℕ → Type 0) → length read ≤ FED_MOST → FaultIn read P → FaultIn (take FED_MOST bytes) P
   front_followed P few h =
       let more = take (FED_MOST - length read) told.0 in
       let size : FED_MOST ≡ length read + (FED_MOST - length read) = omega (arith, few) in
@@ -128,8 +128,8 @@ module _ (bytes read : List ℕ) (left : Option (List ℕ)) (reads : Reads (Some
   shows (Ok done) text h = whole_shows text h
   shows (Err WriteFault) text h = whole_shows text h
   shows (Err (Limit number)) text h = let so = long_shows h.1 h.2 in (h.0, so.0, so.1)
-  shows (Err (DamagedInput index)) text h = front_followed (λ (front : List ℕ). IsFirstFault front × AreDamagedAt index front) h.0 h.1
-  shows (Err (Rotated generation)) text h = front_followed (λ (front : List ℕ). IsFirstFault front × AreTurnedTo generation front) h.0 h.1
+  shows (Err (DamagedInput index)) text h = front_followed (AreDamagedAt index) h.0 h.1
+  shows (Err (Rotated generation)) text h = front_followed (AreTurnedTo generation) h.0 h.1
   shows (Err ReadFault) text h = tt
   shows (Err NoMemory) text h = tt
   shows (Err (BadLine n)) text h = absurd h.1

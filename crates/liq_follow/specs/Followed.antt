@@ -17,22 +17,19 @@ pub record IsWhole (read : List ℕ) (left : Option (List ℕ)) (text : List ℕ
   pub leads : LeadTo read state
   pub told : text ≡ standing state
 
--- some first bytes of what was read are so
-abbrev pub HasFront : List ℕ → (List ℕ → Type 0) → Type 0
-HasFront read P = (front rest : List ℕ) × (read ≡ front ++ rest) × P front
-
 -- they show no fault before the last one
 abbrev pub IsFirstFault : List ℕ → Type 0
 IsFirstFault bytes = (before : List ℕ) × (byte : ℕ) × (bytes ≡ before ++ byte ∷ []) × GoOn before
 
 -- with the first fault that some bytes show, what stands up to there is so
 abbrev pub FaultIn : List ℕ → (List ℕ → Type 0) → Type 0
-FaultIn bytes P = HasFront bytes (λ front. IsFirstFault front × P front)
+FaultIn bytes P = (front rest : List ℕ) × (bytes ≡ front ++ rest) × (IsFirstFault front × P front)
 
 -- a byte completes a record of right digest and form, and no fault stands before it
 abbrev pub FindsNoMemory : List ℕ → Type 0
 FindsNoMemory bytes =
-    (front rest : List ℕ) × (byte : ℕ) × (bytes ≡ front ++ byte ∷ rest) × GoOn front × Completes byte front
+    (front rest : List ℕ) × (byte : ℕ) × (bytes ≡ front ++ byte ∷ rest)
+    × GoOn front × Completes byte front
 
 -- why feeding stopped within the bytes that were read
 abbrev pub StopsWithin : Halt → List ℕ → Type 0

@@ -27,9 +27,9 @@ pub fn feed_input<S: Source>(
     follower: &mut Follower,
 ) -> Result<(), Halt>
     requires new { IsFed [] follower.old }
-    ensures fed { (read : List ℕ) × Reads (S.left input.old) read (S.left input.new)
-        × FedAll result read (S.left input.new) follower.new }
-    ensures source { ReadCause result (S.faults input.old) (S.faults input.new) }
+    ensures fed { (read : List ℕ) × Reads (S.at input.old).left read (S.at input.new).left
+        × FedAll result read (S.at input.new).left follower.new }
+    ensures source { ReadCause result (S.at input.old).faults (S.at input.new).faults }
     ensures no_sink { result ≢ Err Halt.WriteFault }
 {
     let mut piece = new_piece(alloc)?;
@@ -63,9 +63,10 @@ fn feed_next<S: Source>(
 ) -> Result<usize, Halt>
     requires { 1 ≤ length piece.old }
     ensures fed { (fed : List ℕ) → IsFed fed follower.old → GoOn fed
-        → (read : List ℕ) × Reads (S.left input.old) read (S.left input.new) × (length read ≤ length piece.old)
-        × FedNext result fed read (S.left input.new) follower.new }
-    ensures source { ReadCause result (S.faults input.old) (S.faults input.new) }
+        → (read : List ℕ) × Reads (S.at input.old).left read (S.at input.new).left
+        × (length read ≤ length piece.old)
+        × FedNext result fed read (S.at input.new).left follower.new }
+    ensures source { ReadCause result (S.at input.old).faults (S.at input.new).faults }
     ensures no_sink { result ≢ Err Halt.WriteFault }
 {
     let count = match input.read(piece) {
@@ -78,7 +79,8 @@ fn feed_next<S: Source>(
 
 /// Feeds the bytes of a piece.
 fn feed_piece(follower: &mut Follower, piece: &[u8]) -> Result<(), Halt>
-    ensures fed { (fed : List ℕ) → IsFed fed follower.old → FedPiece result (fed ++ piece.now) follower.new }
+    ensures fed { (fed : List ℕ) → IsFed fed follower.old
+        → FedPiece result (fed ++ piece.now) follower.new }
     ensures no_source { result ≢ Err Halt.ReadFault }
     ensures no_sink { result ≢ Err Halt.WriteFault }
 {

@@ -19,11 +19,12 @@ use std::alloc::Global;
 /// Follows the journal that the input is, at most its first 2^28 bytes, and tells what stands at its end. It writes the last
 /// line where that stops. It holds no more of the input than one piece and one record.
 pub fn follow_on<S: Source, K: Sink>(alloc: Global, input: &mut S, out: &mut K) -> Result<(), Halt>
-    ensures followed { (read : List ℕ) × Reads (S.left input.old) read (S.left input.new)
-        × ((text : List ℕ) × FollowsTo result read (S.left input.new) text
-        × TellsAll text result (Rose (K.faults out.old) (K.faults out.new)) (K.held out.old) (K.held out.new)) }
-    ensures source { ReadCause result (S.faults input.old) (S.faults input.new) }
-    ensures sink { LastCause result (K.faults out.old) (K.faults out.new) }
+    ensures followed { (read : List ℕ) × Reads (S.at input.old).left read (S.at input.new).left
+        × ((text : List ℕ) × FollowsTo result read (S.at input.new).left text
+        × TellsAll text result (Rose (K.at out.old).faults (K.at out.new).faults)
+        (K.at out.old).held (K.at out.new).held) }
+    ensures source { ReadCause result (S.at input.old).faults (S.at input.new).faults }
+    ensures sink { LastCause result (K.at out.old).faults (K.at out.new).faults }
 {
     let end = follow(alloc, input, out);
     tell_last(out, end);
@@ -32,11 +33,11 @@ pub fn follow_on<S: Source, K: Sink>(alloc: Global, input: &mut S, out: &mut K) 
 
 /// The same without the last line.
 fn follow<S: Source, K: Sink>(alloc: Global, input: &mut S, out: &mut K) -> Result<(), Halt>
-    ensures followed { (read : List ℕ) × Reads (S.left input.old) read (S.left input.new)
-        × ((text : List ℕ) × FollowsTo result read (S.left input.new) text
-        × WritesAll text result (K.held out.old) (K.held out.new)) }
-    ensures source { ReadCause result (S.faults input.old) (S.faults input.new) }
-    ensures sink { WriteCause result (K.faults out.old) (K.faults out.new) }
+    ensures followed { (read : List ℕ) × Reads (S.at input.old).left read (S.at input.new).left
+        × ((text : List ℕ) × FollowsTo result read (S.at input.new).left text
+        × WritesAll text result (K.at out.old).held (K.at out.new).held) }
+    ensures source { ReadCause result (S.at input.old).faults (S.at input.new).faults }
+    ensures sink { WriteCause result (K.at out.old).faults (K.at out.new).faults }
 {
     let mut follower = Follower::new(alloc);
     feed_input(alloc, input, &mut follower)?;

@@ -41,14 +41,18 @@ pub trait Form {
 pub fn gather<F: Form, S: Source>(alloc: Global, input: &mut S) -> Result<Vec<F::Item>, Stop>
 where
     F::Item: Drop,
-    ensures read { Gathers F.says (λ items said. items.items ≡ said) result (S.left input.old) (S.left input.new) }
+    ensures read { Gathers F.says (λ items said. items.items ≡ said) result (S.at input.old).left
+        (S.at input.new).left }
     // At most as many lines are taken from the source as are read, and what one read asks for.
-    ensures takes { ReadsAtMost (taken_most LINES_MOST) (S.left input.old) (S.left input.new) }
-    ensures source { ReadCause result (S.faults input.old) (S.faults input.new) }
+    ensures takes { ReadsAtMost (taken_most LINES_MOST) (S.at input.old).left
+        (S.at input.new).left }
+    ensures source { ReadCause result (S.at input.old).faults (S.at input.new).faults }
 
     // Where each line says something, none is too many and the source meets no fault, memory alone can be missing.
-    ensures complete { (bytes : List ℕ) → S.left input.old ≡ Some bytes → (said : List F.Item) → AllZip F.says (lines_in bytes) said
-        → length said ≤ LINES_MOST → (Rose (S.faults input.old) (S.faults input.new) → ⊥) → IsOkUnless result Stop.NoMemory }
+    ensures complete { (bytes : List ℕ) → (S.at input.old).left ≡ Some bytes → (said : List F.Item)
+        → AllZip F.says (lines_in bytes) said → length said ≤ LINES_MOST
+        → (Rose (S.at input.old).faults (S.at input.new).faults → ⊥)
+        → IsOkUnless result Stop.NoMemory }
 {
     let mut list = Listed::<F> {
         items: Vec::new(alloc),

@@ -27,14 +27,18 @@ pub fn gather_into<G: Gatherer, S: Source>(
     input: &mut S,
 ) -> Result<(), Stop>
     requires { G.holds gatherer.old [] }
-    ensures read { Gathers G.says (λ done. G.holds gatherer.new) result (S.left input.old) (S.left input.new) }
+    ensures read { Gathers G.says (λ done. G.holds gatherer.new) result (S.at input.old).left
+        (S.at input.new).left }
     // At most as many lines are taken from the source as are read, and what one read asks for.
-    ensures takes { ReadsAtMost (taken_most LINES_MOST) (S.left input.old) (S.left input.new) }
-    ensures source { ReadCause result (S.faults input.old) (S.faults input.new) }
+    ensures takes { ReadsAtMost (taken_most LINES_MOST) (S.at input.old).left
+        (S.at input.new).left }
+    ensures source { ReadCause result (S.at input.old).faults (S.at input.new).faults }
 
     // Where each line says something, none is too many and the source meets no fault, memory alone can be missing.
-    ensures complete { (bytes : List ℕ) → S.left input.old ≡ Some bytes → (said : List G.Item) → AllZip G.says (lines_in bytes) said
-        → length said ≤ LINES_MOST → (Rose (S.faults input.old) (S.faults input.new) → ⊥) → IsOkUnless result Stop.NoMemory }
+    ensures complete { (bytes : List ℕ) → (S.at input.old).left ≡ Some bytes → (said : List G.Item)
+        → AllZip G.says (lines_in bytes) said → length said ≤ LINES_MOST
+        → (Rose (S.at input.old).faults (S.at input.new).faults → ⊥)
+        → IsOkUnless result Stop.NoMemory }
 {
     let (mut reader, mut line) = buffers(alloc)?;
     read_lines(&mut reader, &mut line, input, gatherer)
@@ -59,9 +63,11 @@ fn read_lines<G: Gatherer, S: Source>(
     requires unread { reader.old ≡ [] }
     requires room { LINE_BYTES ≤ vec_capacity line.old }
     requires blank { G.holds gatherer.old [] }
-    ensures read { Gathers G.says (λ done. G.holds gatherer.new) result (S.left input.old) (S.left input.new) }
-    ensures takes { ReadsAtMost (taken_most LINES_MOST) (S.left input.old) (S.left input.new) }
-    ensures source { ReadCause result (S.faults input.old) (S.faults input.new) }
+    ensures read { Gathers G.says (λ done. G.holds gatherer.new) result (S.at input.old).left
+        (S.at input.new).left }
+    ensures takes { ReadsAtMost (taken_most LINES_MOST) (S.at input.old).left
+        (S.at input.new).left }
+    ensures source { ReadCause result (S.at input.old).faults (S.at input.new).faults }
 {
     for read in 0..LINES_MOST {
         if !read_next(reader, line, input, gatherer, read)? {
@@ -86,12 +92,16 @@ fn read_next<G: Gatherer, S: Source>(
 ) -> Result<bool, Stop>
     requires few { read < LINES_MOST }
     requires room { LINE_BYTES ≤ vec_capacity line.old }
-    ensures goes { (start : Option (List ℕ)) → HasGathered G.says G.holds start read gatherer.old (unread reader.old (S.left input.old))
-        → Goes G.says G.holds start read gatherer.new (unread reader.new (S.left input.new)) (S.left input.new) result }
-    ensures takes { (before : Option (List ℕ)) → ReadsFew before read reader.old (S.left input.old)
-        → ReadsFew before (read + 1) reader.new (S.left input.new) }
+    ensures goes { (start : Option (List ℕ))
+        → HasGathered G.says G.holds start read gatherer.old
+        (unread reader.old (S.at input.old).left)
+        → Goes G.says G.holds start read gatherer.new (unread reader.new (S.at input.new).left)
+        (S.at input.new).left result }
+    ensures takes { (before : Option (List ℕ))
+        → ReadsFew before read reader.old (S.at input.old).left
+        → ReadsFew before (read + 1) reader.new (S.at input.new).left }
     ensures room { vec_capacity line.new ≡ vec_capacity line.old }
-    ensures source { ReadCause result (S.faults input.old) (S.faults input.new) }
+    ensures source { ReadCause result (S.at input.old).faults (S.at input.new).faults }
 {
     match reader.next_line(input, line) {
         Err(Failed) => Err(Stop::ReadFault),

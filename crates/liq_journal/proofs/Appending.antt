@@ -5,10 +5,11 @@ use Rattle.std.proofs.lemmas.Slice.Eq.{bytes_eq-Decides}
 use Rattle.std.proofs.lemmas.List.{take-take, take_at, drop_at, get_or-drop, drop-drop, append-nil, get_or-append_right}
 use Rattle.liq_types.specs.declared.requests.Command.{Command}
 use Rattle.liq_wire.specs.Fields.{command_of}
+use Rattle.liq_outside.specs.At.{DiskAt}
 use Rattle.liq_outside.specs.Disk.{Torn, overwritten, Only, LeftNow, LeavesOnly}
 use Rattle.liq_outside.proofs.Moments.{weaker, at_last}
-use Rattle.liq_journal.specs.Settled.{JournalOn, IsSettled}
 use Rattle.liq_outside.proofs.Steps.{torn_whole}
+use Rattle.liq_journal.specs.Settled.{JournalOn, IsSettled}
 use Rattle.liq_journal.specs.declared.damage.What.TheVariants.{Digest, Form}
 use Rattle.liq_journal.specs.Records.{records}
 use Rattle.liq_header.specs.Layout.{piece}
@@ -239,29 +240,29 @@ agrees generation start count held w settled stands =
     let same : settled.written ≡ w = cc (both) in
     subst (λ (v : Written). Agrees generation start count v) same (record { generation_is = settled.generation_is; start_is = settled.start_is; count_is = settled.count_is })
 
-module _ {D : Type 0} (seen : D → Option (List ℕ)) (moment : D → ℕ) (left_at : D → ℕ → List ℕ → Type 0) (j : JournalOn D) (body record_of : List ℕ) where
+module _ {D : Type 0} (at : D → DiskAt) (j : JournalOn D) (body record_of : List ℕ) where
   abbrev gate : ℕ
   gate = j.start + 129 * j.count
 
   -- the clauses of an append
   abbrev pub Crashes : D → Type 0
-  Crashes new = (held : List ℕ) (w : Written) (command : Command) → seen j.disk ≡ Some held → Only held (LeftNow moment left_at j.disk) → Stands (is_odd j.generation) held w → IsBodyOf body command → LeavesOnly moment left_at j.disk new (BeforeOrAfter (is_odd j.generation) w command)
+  Crashes new = (held : List ℕ) (w : Written) (command : Command) → (at j.disk).seen ≡ Some held → Only held (LeftNow at j.disk) → Stands (is_odd j.generation) held w → IsBodyOf body command → LeavesOnly at j.disk new (BeforeOrAfter (is_odd j.generation) w command)
 
   abbrev pub Appends : D → Type 0
-  Appends new = (held : List ℕ) (w : Written) (command : Command) → seen j.disk ≡ Some held → Stands (is_odd j.generation) held w → IsBodyOf body command → (after : List ℕ) × (seen new ≡ Some after) × Stands (is_odd j.generation) after (and_then w command)
+  Appends new = (held : List ℕ) (w : Written) (command : Command) → (at j.disk).seen ≡ Some held → Stands (is_odd j.generation) held w → IsBodyOf body command → (after : List ℕ) × ((at new).seen ≡ Some after) × Stands (is_odd j.generation) after (and_then w command)
 
   -- the writes as they are told
   abbrev pub Gated : D → Type 0
-  Gated new = (held : List ℕ) → seen j.disk ≡ Some held → Only held (LeftNow moment left_at j.disk) → LeavesOnly moment left_at j.disk new (GatedLeaves gate held record_of)
+  Gated new = (held : List ℕ) → (at j.disk).seen ≡ Some held → Only held (LeftNow at j.disk) → LeavesOnly at j.disk new (GatedLeaves gate held record_of)
 
   abbrev pub Reads : D → Type 0
-  Reads new = (held after : List ℕ) (w : Written) (command : Command) → seen j.disk ≡ Some held → Only held (LeftNow moment left_at j.disk) → Stands (is_odd j.generation) held w → IsBodyOf body command → seen new ≡ Some after → BeforeOrAfter (is_odd j.generation) w command after
+  Reads new = (held after : List ℕ) (w : Written) (command : Command) → (at j.disk).seen ≡ Some held → Only held (LeftNow at j.disk) → Stands (is_odd j.generation) held w → IsBodyOf body command → (at new).seen ≡ Some after → BeforeOrAfter (is_odd j.generation) w command after
 
-  pub reads : (new : D) → ((held : List ℕ) → seen new ≡ Some held → LeftNow moment left_at new held) → Crashes new → Reads new
-  reads new stays crashes held after w command told only stands of told_after = at_last moment left_at j.disk new (BeforeOrAfter (is_odd j.generation) w command) (crashes held w command told only stands of) after (stays after told_after)
+  pub reads : (new : D) → ((held : List ℕ) → (at new).seen ≡ Some held → LeftNow at new held) → Crashes new → Reads new
+  reads new stays crashes held after w command told only stands of told_after = at_last at j.disk new (BeforeOrAfter (is_odd j.generation) w command) (crashes held w command told only stands of) after (stays after told_after)
 
-  module _ (settled : IfSome (seen j.disk) (IsSettled j.generation j.start j.count)) (few : j.count < 1000000) where
-    known : (held : List ℕ) (w : Written) → seen j.disk ≡ Some held → Stands (is_odd j.generation) held w → Agrees j.generation j.start j.count w
+  module _ (settled : IfSome (at j.disk).seen (IsSettled j.generation j.start j.count)) (few : j.count < 1000000) where
+    known : (held : List ℕ) (w : Written) → (at j.disk).seen ≡ Some held → Stands (is_odd j.generation) held w → Agrees j.generation j.start j.count w
     known held w told stands = agrees j.generation j.start j.count held w (subst (λ (o : Option (List ℕ)). IfSome o (IsSettled j.generation j.start j.count)) told settled) stands
 
     gate_is : (w : Written) → Agrees j.generation j.start j.count w → end_of w ≡ gate
@@ -283,14 +284,14 @@ module _ {D : Type 0} (seen : D → Option (List ℕ)) (moment : D → ℕ) (lef
       crashes leaves held w command told only stands of =
           let a = known held w told stands in
           let few_2 : length w.commands < 1000000 = let c = a.count_is in omega arith in
-          weaker moment left_at j.disk new (GatedLeaves gate held record_of) (BeforeOrAfter (is_odd j.generation) w command) (leaves held told only)
+          weaker at j.disk new (GatedLeaves gate held record_of) (BeforeOrAfter (is_odd j.generation) w command) (leaves held told only)
           (λ image either. ⊎_elim
           (λ torn. inl (stage_left (is_odd j.generation) held w stands few_2 (length record_of) image (subst (λ (n : ℕ). Torn (n + 1) (length record_of) held image) (sym (gate_is w a)) torn)))
           (λ torn. gate_left (is_odd j.generation) held w stands few_2 body (record_digest j.generation (j.count + 1) body) command size (length-record_digest j.generation (j.count + 1) body) (stored w a) of image
           (subst (λ (l : List ℕ). Torn (end_of w) 1 l image) (staged_is held w a) (subst (λ (n : ℕ). Torn n 1 (overwritten held (gate + 1) record_of) image) (sym (gate_is w a)) torn)))
           either)
 
-      pub appends : seen new ≡ option_map (gated gate record_of) (seen j.disk) → Appends new
+      pub appends : (at new).seen ≡ option_map (gated gate record_of) (at j.disk).seen → Appends new
       appends written held w command told stands of =
           let a = known held w told stands in
           let few_2 : length w.commands < 1000000 = let c = a.count_is in omega arith in (
@@ -300,10 +301,10 @@ module _ {D : Type 0} (seen : D → Option (List ℕ)) (moment : D → ℕ) (lef
           )
 
       -- what is told then is settled again
-      pub settles : seen new ≡ option_map (gated gate record_of) (seen j.disk) → (command : Command) → IsBodyOf body command → IfSome (seen new) (IsSettled j.generation j.start (j.count + 1))
-      settles written command of = elim (some_or_none (seen j.disk)) [
+      pub settles : (at new).seen ≡ option_map (gated gate record_of) (at j.disk).seen → (command : Command) → IsBodyOf body command → IfSome (at new).seen (IsSettled j.generation j.start (j.count + 1))
+      settles written command of = elim (some_or_none (at j.disk).seen) [
         | inl none ↦
-            let e : seen new ≡ None = written ∙ ap (option_map (gated gate record_of)) none in
+            let e : (at new).seen ≡ None = written ∙ ap (option_map (gated gate record_of)) none in
             subst (λ (o : Option (List ℕ)). IfSome o (IsSettled j.generation j.start (j.count + 1))) (sym e) tt
         | inr some ↦
             let s = subst (λ (o : Option (List ℕ)). IfSome o (IsSettled j.generation j.start j.count)) some.1 settled in

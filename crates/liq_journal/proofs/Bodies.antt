@@ -25,6 +25,7 @@ use Rattle.liq_journal.proofs.Reading.{records_whole, records_none, records_zero
 use Rattle.liq_journal.proofs.Heading.{is_open, of_records, record_open}
 use Rattle.liq_journal.proofs.Told.{if_some}
 use Rattle.std.proofs.lemmas.Bool.{cases_Bool}
+use Rattle.liq_outside.specs.At.{DiskAt}
 
 -- a record that is read as a command holds its body
 from_command : (place : ℕ) (read : Result Command ℕ) (command : Command) → command_from place read ≡ Ok command → (read ≡ Ok command) × (is_rotate command.call ≡ false)
@@ -200,17 +201,17 @@ module _ (generation start index : ℕ) (held : List ℕ) (w : Written) (is : Is
       at_index.recorded ∙ ap Some same
 
 -- the clause of a journal
-abbrev pub Accepts : {D : Type 0} → (D → Option (List ℕ)) → JournalOn D → ℕ → Result (List ℕ) LookFault → Type 0
-Accepts seen j index result = (held : List ℕ) (w : Written) → seen j.disk ≡ Some held → IsJournalOf j.generation j.start held w → index ≤ length w.commands → MatchResult result (IsAccepted j.start held w index) (λ why. why ≡ fault.DiskFault)
+abbrev pub Accepts : {D : Type 0} → (D → DiskAt) → JournalOn D → ℕ → Result (List ℕ) LookFault → Type 0
+Accepts at j index result = (held : List ℕ) (w : Written) → (at j.disk).seen ≡ Some held → IsJournalOf j.generation j.start held w → index ≤ length w.commands → MatchResult result (IsAccepted j.start held w index) (λ why. why ≡ fault.DiskFault)
 
-pub accepts : {D : Type 0} (seen : D → Option (List ℕ)) (j : JournalOn D) (index : ℕ) (result : Result (List ℕ) LookFault) → 1 ≤ index → IfSome (seen j.disk) (λ held. j.start + 129 * (index - 1) + 129 ≤ length held → MatchResult result (IsBodyRead j.generation index (body_at j.start index) held) (IsFaultRead j.generation index (body_at j.start index) held)) → Accepts seen j index result
-accepts seen j index result first told held w is_told is there =
+pub accepts : {D : Type 0} (at : D → DiskAt) (j : JournalOn D) (index : ℕ) (result : Result (List ℕ) LookFault) → 1 ≤ index → IfSome (at j.disk).seen (λ held. j.start + 129 * (index - 1) + 129 ≤ length held → MatchResult result (IsBodyRead j.generation index (body_at j.start index) held) (IsFaultRead j.generation index (body_at j.start index) held)) → Accepts at j index result
+accepts at j index result first told held w is_told is there =
     accepted j.generation j.start index held w is first there result (subst (λ (o : Option (List ℕ)). IfSome o (λ l. j.start + 129 * (index - 1) + 129 ≤ length l → MatchResult result (IsBodyRead j.generation index (body_at j.start index) l) (IsFaultRead j.generation index (body_at j.start index) l))) is_told told)
 
 -- the same of a command
-abbrev pub Records : {D : Type 0} → (D → Option (List ℕ)) → JournalOn D → ℕ → Result Command LookFault → Type 0
-Records seen j index result = (held : List ℕ) (w : Written) → seen j.disk ≡ Some held → IsJournalOf j.generation j.start held w → index ≤ length w.commands → MatchResult result (IsRecorded w index) (λ why. why ≡ fault.DiskFault)
+abbrev pub Records : {D : Type 0} → (D → DiskAt) → JournalOn D → ℕ → Result Command LookFault → Type 0
+Records at j index result = (held : List ℕ) (w : Written) → (at j.disk).seen ≡ Some held → IsJournalOf j.generation j.start held w → index ≤ length w.commands → MatchResult result (IsRecorded w index) (λ why. why ≡ fault.DiskFault)
 
-pub records_so : {D : Type 0} (seen : D → Option (List ℕ)) (j : JournalOn D) (index : ℕ) (result : Result Command LookFault) → 1 ≤ index → IfSome (seen j.disk) (λ held. j.start + 129 * (index - 1) + 129 ≤ length held → MatchResult result (IsBodyOf (piece (body_at j.start index) 96 held)) (IsFaultRead j.generation index (body_at j.start index) held)) → Records seen j index result
-records_so seen j index result first told held w is_told is there =
+pub records_so : {D : Type 0} (at : D → DiskAt) (j : JournalOn D) (index : ℕ) (result : Result Command LookFault) → 1 ≤ index → IfSome (at j.disk).seen (λ held. j.start + 129 * (index - 1) + 129 ≤ length held → MatchResult result (IsBodyOf (piece (body_at j.start index) 96 held)) (IsFaultRead j.generation index (body_at j.start index) held)) → Records at j index result
+records_so at j index result first told held w is_told is there =
     recorded j.generation j.start index held w is first there result (subst (λ (o : Option (List ℕ)). IfSome o (λ l. j.start + 129 * (index - 1) + 129 ≤ length l → MatchResult result (IsBodyOf (piece (body_at j.start index) 96 l)) (IsFaultRead j.generation index (body_at j.start index) l))) is_told told)

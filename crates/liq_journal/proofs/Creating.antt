@@ -8,6 +8,7 @@ use Rattle.byteorder.specs.Endian.{big_bytes, big_number}
 use Rattle.byteorder.specs.Numbers.{big_number-reads_back}
 use Rattle.liq_types.specs.declared.amounts.TheConstants.{LIM}
 use Rattle.liq_wire.specs.Fields.{number_at}
+use Rattle.liq_outside.specs.At.{DiskAt}
 use Rattle.liq_outside.specs.Disk.{Torn, overwritten, Only, LeftNow, LeavesOnly, Elapses, Follows}
 use Rattle.liq_outside.proofs.Moments.{chained, weaker, at_last, call}
 use Rattle.liq_journal.specs.Records.{records}
@@ -25,9 +26,11 @@ pub shut_stays : (at n : ℕ) (held image : List ℕ) → 1 ≤ at → IsShut he
 shut_stays at n held image behind shut torn =
     sym (take-take 1 at image behind) ∙ ap (take 1) torn.before ∙ take-take 1 at held behind ∙ shut
 
-pub write_leaves_shut : {D : Type 0} (moment : D → ℕ) (left_at : D → ℕ → List ℕ → Type 0) (old new : D) (at n : ℕ) → 1 ≤ at → Elapses moment left_at old new → Follows (Torn at n) (LeftNow moment left_at old) (LeftNow moment left_at new) → ((image : List ℕ) → LeftNow moment left_at old image → IsShut image) → LeavesOnly moment left_at old new IsShut
-write_leaves_shut moment left_at old new at n behind time follows shut =
-    call moment left_at old new IsShut time shut (λ image left. let from = follows image left in shut_stays at n from.0 image behind (shut from.0 from.1) from.2)
+pub write_leaves_shut : {D : Type 0} (at : D → DiskAt) (old new : D) (place n : ℕ)
+    → 1 ≤ place → Elapses at old new → Follows (Torn place n) (LeftNow at old) (LeftNow at new)
+    → ((image : List ℕ) → LeftNow at old image → IsShut image) → LeavesOnly at old new IsShut
+write_leaves_shut at old new place n behind time follows shut =
+    call at old new IsShut time shut (λ image left. let from = follows image left in shut_stays place n from.0 image behind (shut from.0 from.1) from.2)
 
 -- a write behind a front
 over_front : (front back bytes : List ℕ) (at : ℕ) → length front ≡ at → overwritten (front ++ back) at bytes ≡ front ++ bytes ++ drop (length bytes) back
@@ -259,45 +262,45 @@ module _ (layout : Layout) (generation : ℕ) (checkpoint : List ℕ) where
   pub filled_told : (header_2 : List ℕ) (o a b d : Option (List ℕ)) → header_2 ≡ header_of layout generation checkpoint → a ≡ option_map (λ held. overwritten held 1 header_2) o → b ≡ option_map checkpoint_put a → d ≡ option_map gate_put b → d ≡ option_map (filled layout generation checkpoint) o
   filled_told header_2 o a b d is ia ib id = id ∙ ap (option_map gate_put) (ib ∙ ap (option_map checkpoint_put) ia) ∙ put_all header_2 o is
 
-module _ {D : Type 0} (moment : D → ℕ) (left_at : D → ℕ → List ℕ → Type 0) where
-  pub shut_on : (old mid new : D) → LeavesOnly moment left_at old mid IsShut → (((image : List ℕ) → LeftNow moment left_at mid image → IsShut image) → LeavesOnly moment left_at mid new IsShut) → LeavesOnly moment left_at old new IsShut
-  shut_on old mid new first second = chained moment left_at old mid new IsShut first (second (at_last moment left_at old mid IsShut first))
+module _ {D : Type 0} (at : D → DiskAt) where
+  pub shut_on : (old mid new : D) → LeavesOnly at old mid IsShut → (((image : List ℕ) → LeftNow at mid image → IsShut image) → LeavesOnly at mid new IsShut) → LeavesOnly at old new IsShut
+  shut_on old mid new first second = chained at old mid new IsShut first (second (at_last at old mid IsShut first))
 
-  pub only_shut : (disk : D) (told : Option (List ℕ)) → IfSome told IsShut → IfSome told (λ after. Only after (LeftNow moment left_at disk)) → IsSome told → (image : List ℕ) → LeftNow moment left_at disk image → IsShut image
+  pub only_shut : (disk : D) (told : Option (List ℕ)) → IfSome told IsShut → IfSome told (λ after. Only after (LeftNow at disk)) → IsSome told → (image : List ℕ) → LeftNow at disk image → IsShut image
   only_shut disk None shut only is image left = absurd (search rules)
   only_shut disk (Some held) shut only is image left = subst IsShut (sym (only image left)) shut
 
   -- the whole of a creation
-  module _ (seen : D → Option (List ℕ)) (old mid full new : D) (held : List ℕ) (generation : ℕ) (checkpoint : List ℕ) where
+  module _ (old mid full new : D) (held : List ℕ) (generation : ℕ) (checkpoint : List ℕ) where
     abbrev Leaves : List ℕ → Type 0
     Leaves = CreateLeaves (is_odd generation) held (beginning generation checkpoint)
 
-    pub after_shut : LeavesOnly moment left_at old mid (SettleLeaves 0 held) → LeavesOnly moment left_at old mid Leaves
-    after_shut first = weaker moment left_at old mid (SettleLeaves 0 held) Leaves first (of_shutting (is_odd generation) held (beginning generation checkpoint))
+    pub after_shut : LeavesOnly at old mid (SettleLeaves 0 held) → LeavesOnly at old mid Leaves
+    after_shut first = weaker at old mid (SettleLeaves 0 held) Leaves first (of_shutting (is_odd generation) held (beginning generation checkpoint))
 
-    pub after_fill : LeavesOnly moment left_at old mid (SettleLeaves 0 held) → LeavesOnly moment left_at mid full IsShut → LeavesOnly moment left_at old full Leaves
-    after_fill first second = chained moment left_at old mid full Leaves (after_shut first) (weaker moment left_at mid full IsShut Leaves second (of_filling (is_odd generation) held (beginning generation checkpoint)))
+    pub after_fill : LeavesOnly at old mid (SettleLeaves 0 held) → LeavesOnly at mid full IsShut → LeavesOnly at old full Leaves
+    after_fill first second = chained at old mid full Leaves (after_shut first) (weaker at mid full IsShut Leaves second (of_filling (is_odd generation) held (beginning generation checkpoint)))
 
-    module _ (small : generation < 2 ^ 64) (small_size : length checkpoint < 2 ^ 64) (fits : is_generation (is_odd generation) generation ≡ true) (fits_size : is_size generation (length checkpoint) ≡ true) (shut : IfSome (seen mid) IsShut) (is : IsSome (seen mid)) (written : seen full ≡ option_map (filled version_2 generation checkpoint) (seen mid)) where
-      pub full_is : (s : List ℕ) × (IsShut s × (seen full ≡ Some (filled version_2 generation checkpoint s)))
+    module _ (small : generation < 2 ^ 64) (small_size : length checkpoint < 2 ^ 64) (fits : is_generation (is_odd generation) generation ≡ true) (fits_size : is_size generation (length checkpoint) ≡ true) (shut : IfSome (at mid).seen IsShut) (is : IsSome (at mid).seen) (written : (at full).seen ≡ option_map (filled version_2 generation checkpoint) (at mid).seen) where
+      pub full_is : (s : List ℕ) × (IsShut s × ((at full).seen ≡ Some (filled version_2 generation checkpoint s)))
       full_is =
-          let s = some_of (seen mid) is in
+          let s = some_of (at mid).seen is in
           (s.0, (subst (λ (o : Option (List ℕ)). IfSome o IsShut) s.1 shut, written ∙ ap (option_map (filled version_2 generation checkpoint)) s.1))
 
       pub stands_then : (s : List ℕ) → IsShut s → Stands (is_odd generation) (opened 0 (filled version_2 generation checkpoint s)) (beginning generation checkpoint)
       stands_then s shut_s = filled_stands generation checkpoint small small_size (is_odd generation) fits fits_size s shut_s
 
-      pub after_open : LeavesOnly moment left_at old full Leaves → IfSome (seen full) (λ after. Only after (LeftNow moment left_at full)) → ((f : List ℕ) → seen full ≡ Some f → Only f (LeftNow moment left_at full) → LeavesOnly moment left_at full new (Torn 0 1 f)) → LeavesOnly moment left_at old new Leaves
+      pub after_open : LeavesOnly at old full Leaves → IfSome (at full).seen (λ after. Only after (LeftNow at full)) → ((f : List ℕ) → (at full).seen ≡ Some f → Only f (LeftNow at full) → LeavesOnly at full new (Torn 0 1 f)) → LeavesOnly at old new Leaves
       after_open first durable third =
           let f = full_is in
           let told = f.1.1 in
-          let only = subst (λ (o : Option (List ℕ)). IfSome o (λ after. Only after (LeftNow moment left_at full))) told durable in
-          chained moment left_at old full new Leaves first (weaker moment left_at full new (Torn 0 1 (filled version_2 generation checkpoint f.0)) Leaves (third (filled version_2 generation checkpoint f.0) told only)
+          let only = subst (λ (o : Option (List ℕ)). IfSome o (λ after. Only after (LeftNow at full))) told durable in
+          chained at old full new Leaves first (weaker at full new (Torn 0 1 (filled version_2 generation checkpoint f.0)) Leaves (third (filled version_2 generation checkpoint f.0) told only)
           (λ image torn. of_opening (is_odd generation) held (beginning generation checkpoint) (filled version_2 generation checkpoint f.0) image (stands_then f.0 f.1.0) torn))
 
-      pub made : seen new ≡ option_map (λ l. overwritten l 0 (1 ∷ [])) (seen full) → (after : List ℕ) × (seen new ≡ Some after) × Stands (is_odd generation) after (beginning generation checkpoint)
+      pub made : (at new).seen ≡ option_map (λ l. overwritten l 0 (1 ∷ [])) (at full).seen → (after : List ℕ) × ((at new).seen ≡ Some after) × Stands (is_odd generation) after (beginning generation checkpoint)
       made gate = let f = full_is in (opened 0 (filled version_2 generation checkpoint f.0), gate ∙ ap (option_map (λ (l : List ℕ). overwritten l 0 (1 ∷ []))) f.1.1, stands_then f.0 f.1.0)
 
   -- what is read at the end is what a crash may leave then
-  pub reads_then : (seen : D → Option (List ℕ)) (old new : D) (generation : ℕ) (checkpoint : List ℕ) → ((held : List ℕ) → seen new ≡ Some held → LeftNow moment left_at new held) → CrashOfCreate seen moment left_at old new generation checkpoint → ReadsOfCreate seen moment left_at old new generation checkpoint
-  reads_then seen old new generation checkpoint stays crash held after told only told_after = at_last moment left_at old new (CreateLeaves (is_odd generation) held (beginning generation checkpoint)) (crash held told only) after (stays after told_after)
+  pub reads_then : (old new : D) (generation : ℕ) (checkpoint : List ℕ) → ((held : List ℕ) → (at new).seen ≡ Some held → LeftNow at new held) → CrashOfCreate at old new generation checkpoint → ReadsOfCreate at old new generation checkpoint
+  reads_then old new generation checkpoint stays crash held after told only told_after = at_last at old new (CreateLeaves (is_odd generation) held (beginning generation checkpoint)) (crash held told only) after (stays after told_after)

@@ -1,7 +1,11 @@
 -- How several calls on a disk go on, one behind the other.
 use Rattle.std.proofs.Common.{◌≡◌, ℕ, List, Option, IsSome, Result, Ok, Err, IfOk, OnOk, subst, sym}
 use Rattle.std.specs.Prelude.{◌↔◌}
+use Rattle.liq_outside.specs.At.{DiskAt}
+use Rattle.liq_outside.specs.Disk.{Looked}
 use Rattle.liq_outside.specs.Faults.{HasCause}
+use Rattle.liq_outside.proofs.Moments.{joined}
+use Rattle.liq_journal.specs.Called.{Called}
 
 -- what it tells is there as before
 pub telling_on : (first mid last : Option (List ℕ)) → (IsSome mid ↔ IsSome first) → (IsSome last ↔ IsSome mid) → (IsSome last ↔ IsSome first)
@@ -13,6 +17,24 @@ telling_same first last same = subst (λ (o : Option (List ℕ)). IsSome o ↔ I
 -- the count before the calls that met no fault is that before the last
 pub cause_on : {T E : Type 0} (first mid last : ℕ) (result : Result T E) → mid ≡ first → HasCause mid last result → HasCause first last result
 cause_on first mid last result same cause = subst (λ (n : ℕ). HasCause n last result) same cause
+
+-- calls behind some that met no fault
+pub called_on : {D S T E F : Type 0} (at : D → DiskAt) (first mid last : D) (before : Result S F) (result : Result T E)
+    → Called at first mid before → (at mid).faults ≡ (at first).faults → Called at mid last result → Called at first last result
+called_on at first mid last before result one same two = record {
+  telling = telling_on (at first).seen (at mid).seen (at last).seen one.telling two.telling;
+  time = joined at first mid last one.time two.time;
+  cause = cause_on (at first).faults (at mid).faults (at last).faults result same two.cause;
+}
+
+-- calls behind some that only looked
+pub called_behind : {D T E : Type 0} (at : D → DiskAt) (first mid last : D) (result : Result T E)
+    → Looked at first mid → (at mid).faults ≡ (at first).faults → Called at mid last result → Called at first last result
+called_behind at first mid last result looked same calls = record {
+  telling = telling_on (at first).seen (at mid).seen (at last).seen (telling_same (at first).seen (at mid).seen looked.same) calls.telling;
+  time = joined at first mid last looked.leaves.goes_on calls.time;
+  cause = cause_on (at first).faults (at mid).faults (at last).faults result same calls.cause;
+}
 
 -- what is known where a call succeeded
 pub on_ok : {T E : Type 0} (r : Result T E) (P : Type 0) → P → OnOk r P

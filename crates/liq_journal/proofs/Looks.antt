@@ -4,29 +4,27 @@ use Rattle.std.proofs.lemmas.List.{take-take, drop-take, drop-drop}
 use Rattle.sha2.specs.Sha256.{sha256}
 use Rattle.liq_header.specs.Layout.{header_digest, piece}
 use Rattle.liq_header.proofs.Hashed.{header_digest_is}
-use Rattle.liq_outside.specs.Disk.{LeftNow, Within, Elapses}
-use Rattle.liq_outside.proofs.Moments.{chained, weaker, call, started}
-use Rattle.liq_journal.specs.Looked.{IsRead, Looked}
+use Rattle.liq_outside.specs.At.{DiskAt}
+use Rattle.liq_outside.specs.Disk.{LeftNow, Looked}
+use Rattle.liq_outside.proofs.Moments.{chained, weaker, started}
+use Rattle.liq_journal.specs.Looked.{IsRead}
 
-module _ {D : Type 0} (seen : D → Option (List ℕ)) (moment : D → ℕ) (left_at : D → ℕ → List ℕ → Type 0) where
+module _ {D : Type 0} (at : D → DiskAt) where
   -- before the first call
-  pub looked_none : (old : D) → Looked seen moment left_at old old
+  pub looked_none : (old : D) → Looked at old old
   looked_none old = record {
     same = refl;
     within = λ image left. left;
     keeps = λ image left. left;
-    leaves = started moment left_at old (LeftNow moment left_at old) (λ image left. left);
+    leaves = started at old (LeftNow at old) (λ image left. left);
   }
 
-  pub looked_once : (old new : D) → seen new ≡ seen old → Within (LeftNow moment left_at new) (LeftNow moment left_at old) → Within (LeftNow moment left_at old) (LeftNow moment left_at new) → Elapses moment left_at old new → Looked seen moment left_at old new
-  looked_once old new same within keeps time = record { same = same; within = within; keeps = keeps; leaves = call moment left_at old new (LeftNow moment left_at old) time (λ image left. left) within }
-
-  pub looked_on : (old mid new : D) → Looked seen moment left_at old mid → Looked seen moment left_at mid new → Looked seen moment left_at old new
+  pub looked_on : (old mid new : D) → Looked at old mid → Looked at mid new → Looked at old new
   looked_on old mid new first second = record {
     same = second.same ∙ first.same;
     within = λ image left. first.within image (second.within image left);
     keeps = λ image left. second.keeps image (first.keeps image left);
-    leaves = chained moment left_at old mid new (LeftNow moment left_at old) first.leaves (weaker moment left_at mid new (LeftNow moment left_at mid) (LeftNow moment left_at old) second.leaves first.within);
+    leaves = chained at old mid new (LeftNow at old) first.leaves (weaker at mid new (LeftNow at mid) (LeftNow at old) second.leaves first.within);
   }
 
 -- one piece behind another

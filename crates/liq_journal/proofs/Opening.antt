@@ -1,5 +1,6 @@
 -- What an opening leaves and finds afterwards.
 use Rattle.std.proofs.Common.{◌≡◌, inl, inr, ⊎_elim, ℕ, ◌+◌, ◌*◌, ◌-◌, ◌≤◌, List, length, take, drop, Option, Some, None, IfSome, IsSome, ◌↔◌, rules, Bool, refl, sym, ◌∙◌, ap, subst, arith, length-drop}
+use Rattle.liq_outside.specs.At.{DiskAt}
 use Rattle.liq_outside.specs.Disk.{LeavesOnly}
 use Rattle.liq_outside.proofs.Moments.{weaker}
 use Rattle.liq_journal.specs.Records.{records}
@@ -56,15 +57,15 @@ told_stands told (Some after) odd s held w is scan found front gate =
     let e : s.start + 129 * s.count ≡ end_of w = scan_end odd held s sc ∙ ap end_of (same_written odd held sc.written w sc.found found) in
     stands_settled odd held w found after (subst (λ (n : ℕ). take n after ≡ take n held) e front) (subst (λ (n : ℕ). HasGate n after) e gate)
 
-module _ {D : Type 0} (moment : D → ℕ) (left_at : D → ℕ → List ℕ → Type 0) (old new : D) (odd : Bool) (held : List ℕ) where
-  pub leaves_behind : (told : Option (List ℕ)) (s : Scanned) → told ≡ Some held → IfSome told (λ l. IsScanOf odd l s) → LeavesOnly moment left_at old new (SettleLeaves (s.start + 129 * s.count) held) → LeavesOnly moment left_at old new (OpenLeaves odd held)
+module _ {D : Type 0} (at : D → DiskAt) (old new : D) (odd : Bool) (held : List ℕ) where
+  pub leaves_behind : (told : Option (List ℕ)) (s : Scanned) → told ≡ Some held → IfSome told (λ l. IsScanOf odd l s) → LeavesOnly at old new (SettleLeaves (s.start + 129 * s.count) held) → LeavesOnly at old new (OpenLeaves odd held)
   leaves_behind told s is scan leaves =
       let sc = subst (λ (o : Option (List ℕ)). IfSome o (λ l. IsScanOf odd l s)) is scan in
-      weaker moment left_at old new (SettleLeaves (s.start + 129 * s.count) held) (OpenLeaves odd held) leaves
+      weaker at old new (SettleLeaves (s.start + 129 * s.count) held) (OpenLeaves odd held) leaves
       (λ image l. ⊎_elim (λ same. inl same) (λ byte. inr (s.start + 129 * s.count, inl (sc.written, sc.found, scan_end odd held s sc, byte.0), byte.1)) l)
 
-  pub leaves_absent : found_on odd held ≡ Absent → LeavesOnly moment left_at old new (AbsentLeaves held) → LeavesOnly moment left_at old new (OpenLeaves odd held)
-  leaves_absent found leaves = weaker moment left_at old new (AbsentLeaves held) (OpenLeaves odd held) leaves
+  pub leaves_absent : found_on odd held ≡ Absent → LeavesOnly at old new (AbsentLeaves held) → LeavesOnly at old new (OpenLeaves odd held)
+  leaves_absent found leaves = weaker at old new (AbsentLeaves held) (OpenLeaves odd held) leaves
       (λ image l. ⊎_elim (λ same. inl same) (λ byte. inr (0, inr (found, refl, byte.0), byte.1)) l)
 
 parity : (odd : Bool) (held : List ℕ) (w : Written) → found_on odd held ≡ Open w → is_odd w.generation ≡ odd

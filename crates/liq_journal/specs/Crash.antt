@@ -1,6 +1,7 @@
 -- What a crash may leave of a journal.
 use Rattle.std.specs.Prelude.{◌≡◌, ◌⊎◌, ℕ, ◌+◌, ◌<◌, Bool, false}
-use Rattle.std.specs.Prelude.{List, [], ◌∷◌, length, take, get_or, Option, Some, Ok}
+use Rattle.std.specs.Prelude.{List, [], ◌∷◌, length, take, get_or, Some, Ok}
+use Rattle.liq_outside.specs.At.{DiskAt}
 use Rattle.liq_outside.specs.Disk.{LeavesOnly, LeftNow, Only, Torn, overwritten}
 use Rattle.liq_types.specs.declared.amounts.TheConstants.{LIM}
 use Rattle.liq_types.specs.declared.requests.Command.{Command}
@@ -45,7 +46,8 @@ pub record HasGate (place : ℕ) (bytes : List ℕ) : Type 0 where
 
 -- as they were, or with some byte at this place, where no shut gate is
 abbrev pub SettleLeaves : ℕ → List ℕ → List ℕ → Type 0
-SettleLeaves place held bytes = (bytes ≡ held) ⊎ ((HasGate place held → ⊥) × HasByteAt place held bytes)
+SettleLeaves place held bytes = (bytes ≡ held)
+    ⊎ ((HasGate place held → ⊥) × HasByteAt place held bytes)
 
 -- what is written by a creation
 abbrev pub beginning : ℕ → List ℕ → Written
@@ -55,7 +57,8 @@ beginning generation checkpoint =
 -- A stop within a creation leaves nothing that is open, or what was there, with some byte at place 0 where no 0 is, or
 -- what is made, with any byte there.
 abbrev pub CreateLeaves : Bool → List ℕ → Written → List ℕ → Type 0
-CreateLeaves odd held w bytes = IsClosed bytes ⊎ (SettleLeaves 0 held bytes ⊎ Stands odd (opened 0 bytes) w)
+CreateLeaves odd held w bytes = IsClosed bytes
+    ⊎ (SettleLeaves 0 held bytes ⊎ Stands odd (opened 0 bytes) w)
 
 -- a closed gate stands at place 0
 abbrev pub IsShut : List ℕ → Type 0
@@ -69,20 +72,17 @@ filled layout generation checkpoint held =
     overwritten with_checkpoint (header_size layout + length checkpoint) (0 ∷ [])
 
 -- what a crash may leave of a disk on which a journal is created, whose content is told and on the disk
-abbrev pub CrashOfCreate : {D : Type 0}
-    → (D → Option (List ℕ)) → (D → ℕ) → (D → ℕ → List ℕ → Type 0)
-    → D → D → ℕ → List ℕ → Type 0
-CrashOfCreate seen moment left_at old new generation checkpoint =
-    (held : List ℕ) → seen old ≡ Some held → Only held (LeftNow moment left_at old)
-    → LeavesOnly moment left_at old new (CreateLeaves (is_odd generation) held (beginning generation checkpoint))
+abbrev pub CrashOfCreate : {D : Type 0} → (D → DiskAt) → D → D → ℕ → List ℕ → Type 0
+CrashOfCreate at old new generation checkpoint =
+    (held : List ℕ) → (at old).seen ≡ Some held → Only held (LeftNow at old)
+    → LeavesOnly at old new
+    (CreateLeaves (is_odd generation) held (beginning generation checkpoint))
 
 -- what it reads afterwards, if nothing was pending
-abbrev pub ReadsOfCreate : {D : Type 0}
-    → (D → Option (List ℕ)) → (D → ℕ) → (D → ℕ → List ℕ → Type 0)
-    → D → D → ℕ → List ℕ → Type 0
-ReadsOfCreate seen moment left_at old new generation checkpoint =
-    (held after : List ℕ) → seen old ≡ Some held → Only held (LeftNow moment left_at old)
-    → seen new ≡ Some after
+abbrev pub ReadsOfCreate : {D : Type 0} → (D → DiskAt) → D → D → ℕ → List ℕ → Type 0
+ReadsOfCreate at old new generation checkpoint =
+    (held after : List ℕ) → (at old).seen ≡ Some held → Only held (LeftNow at old)
+    → (at new).seen ≡ Some after
     → CreateLeaves (is_odd generation) held (beginning generation checkpoint) after
 
 -- these bytes behind a gate, which is opened
@@ -92,4 +92,5 @@ gated gate bytes held = overwritten (overwritten held (gate + 1) bytes) gate (1 
 -- any part of the bytes behind the gate, or all of them and any gate
 abbrev pub GatedLeaves : ℕ → List ℕ → List ℕ → List ℕ → Type 0
 GatedLeaves gate held bytes image =
-    Torn (gate + 1) (length bytes) held image ⊎ Torn gate 1 (overwritten held (gate + 1) bytes) image
+    Torn (gate + 1) (length bytes) held image
+    ⊎ Torn gate 1 (overwritten held (gate + 1) bytes) image

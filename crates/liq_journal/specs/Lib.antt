@@ -1,4 +1,5 @@
 pub mod Bodies
+pub mod Called
 pub mod Causes
 pub mod Counted
 pub mod Crash

@@ -1,5 +1,6 @@
 -- What an opening finds, and what it leaves.
-use Rattle.std.specs.Prelude.{◌≡◌, ◌⊎◌, ◌<◌, ℕ, List, length, get_or, Bool, Option, Some, Ok}
+use Rattle.std.specs.Prelude.{◌≡◌, ◌⊎◌, ◌<◌, ℕ, List, length, get_or, Bool, Some, Ok}
+use Rattle.liq_outside.specs.At.{DiskAt}
 use Rattle.liq_outside.specs.Disk.{LeavesOnly, LeftNow, Only}
 use Rattle.liq_journal.specs.Look.{look_on}
 use Rattle.liq_journal.specs.declared.answers.Look.TheVariants as told
@@ -68,7 +69,8 @@ IsAtRest why.NoMemory = Unit {0}
 IsAtRest (why.Damaged damage) = Unit {0}
 
 -- what was found is what the journal and the bytes of the checkpoint are
-pub record IsOpened (odd : Bool) (held : List ℕ) (generation limit start count : ℕ) (checkpoint : List ℕ) : Type 0 where
+pub record IsOpened (odd : Bool) (held : List ℕ) (generation limit start count : ℕ)
+    (checkpoint : List ℕ) : Type 0 where
   pub written : Written
   pub found : found_on odd held ≡ Open written
   pub generation_is : written.generation ≡ generation
@@ -78,14 +80,13 @@ pub record IsOpened (odd : Bool) (held : List ℕ) (generation limit start count
   pub checkpoint_is : written.checkpoint ≡ checkpoint
 
 -- what a crash may leave of a disk that is opened, whose content is told and on the disk
-abbrev pub CrashOfOpen : {D : Type 0}
-    → (D → Option (List ℕ)) → (D → ℕ) → (D → ℕ → List ℕ → Type 0)
-    → D → D → Bool → Type 0
-CrashOfOpen seen moment left_at old new odd =
-    (held : List ℕ) → seen old ≡ Some held → Only held (LeftNow moment left_at old)
-    → LeavesOnly moment left_at old new (OpenLeaves odd held)
+abbrev pub CrashOfOpen : {D : Type 0} → (D → DiskAt) → D → D → Bool → Type 0
+CrashOfOpen at old new odd =
+    (held : List ℕ) → (at old).seen ≡ Some held → Only held (LeftNow at old)
+    → LeavesOnly at old new (OpenLeaves odd held)
 
 -- what it reads afterwards, whatever was pending
-abbrev pub ReadsOfOpen : {D : Type 0} → (D → Option (List ℕ)) → D → D → Bool → Type 0
-ReadsOfOpen seen old new odd =
-    (held after : List ℕ) → seen old ≡ Some held → seen new ≡ Some after → OpenLeaves odd held after
+abbrev pub ReadsOfOpen : {D : Type 0} → (D → DiskAt) → D → D → Bool → Type 0
+ReadsOfOpen at old new odd =
+    (held after : List ℕ) → (at old).seen ≡ Some held → (at new).seen ≡ Some after
+    → OpenLeaves odd held after

@@ -1,7 +1,8 @@
 // A part of a disk that was read at once.
 ghost use Rattle.std.specs.Prelude.{◌≡◌, ◌≤◌, [], length, take, IfOk, IfSome, OnOk};
+ghost use Rattle.liq_outside.specs.Disk.{Looked};
 ghost use Rattle.liq_outside.specs.Faults.{HasCause};
-ghost use Rattle.liq_journal.specs.Looked.{IsRead, Looked};
+ghost use Rattle.liq_journal.specs.Looked.{IsRead};
 ghost use Rattle.liq_journal.specs.Parts.{IsPartOf, bytes_from};
 ghost use Rattle.liq_header.specs.Layout.{piece};
 
@@ -59,10 +60,11 @@ impl Block {
     // Reads the disk from this place on.
     fn fill<D: Disk>(&mut self, disk: &mut D, at: u64) -> Result<(), Failed>
         ensures at { self.new.at ≡ at }
-        ensures filled { OnOk result (IfSome (D.seen disk.old) (λ held. self.new.bytes ≡ piece at BLOCK_BYTES held)) }
-        ensures part { IfSome (D.seen disk.old) (IsPartOf self.new) }
-        ensures looked { Looked D.seen D.moment D.left_at disk.old disk.new }
-        ensures cause { HasCause (D.faults disk.old) (D.faults disk.new) result }
+        ensures filled { OnOk result (IfSome (D.at disk.old).seen
+            (λ held. self.new.bytes ≡ piece at BLOCK_BYTES held)) }
+        ensures part { IfSome (D.at disk.old).seen (IsPartOf self.new) }
+        ensures looked { Looked D.at disk.old disk.new }
+        ensures cause { HasCause (D.at disk.old).faults (D.at disk.new).faults result }
     {
         self.at = at;
         self.count = 0;
@@ -73,11 +75,12 @@ impl Block {
     // Sees to it that so many bytes from this place on are in the block, or all that the disk has there.
     fn reach<D: Disk>(&mut self, disk: &mut D, at: u64, count: usize) -> Result<(), Failed>
         requires few { count ≤ BLOCK_BYTES }
-        requires part { IfSome (D.seen disk.old) (IsPartOf self.old) }
-        ensures reached { OnOk result (IfSome (D.seen disk.old) (λ held. take count (bytes_from at self.new) ≡ piece at count held)) }
-        ensures part { IfSome (D.seen disk.old) (IsPartOf self.new) }
-        ensures looked { Looked D.seen D.moment D.left_at disk.old disk.new }
-        ensures cause { HasCause (D.faults disk.old) (D.faults disk.new) result }
+        requires part { IfSome (D.at disk.old).seen (IsPartOf self.old) }
+        ensures reached { OnOk result (IfSome (D.at disk.old).seen
+            (λ held. take count (bytes_from at self.new) ≡ piece at count held)) }
+        ensures part { IfSome (D.at disk.old).seen (IsPartOf self.new) }
+        ensures looked { Looked D.at disk.old disk.new }
+        ensures cause { HasCause (D.at disk.old).faults (D.at disk.new).faults result }
     {
         if count <= self.from(at).len() {
             return Ok(());
@@ -93,12 +96,13 @@ impl Block {
         buf: &mut [u8],
     ) -> Result<usize, Failed>
         requires few { length buf.old ≤ BLOCK_BYTES }
-        requires part { IfSome (D.seen disk.old) (IsPartOf self.old) }
+        requires part { IfSome (D.at disk.old).seen (IsPartOf self.old) }
         ensures fits { IfOk result (λ n. n ≤ length buf.old) }
-        ensures told { IfOk result (λ n. IfSome (D.seen disk.old) (IsRead at (length buf.old) n buf.new)) }
-        ensures part { IfSome (D.seen disk.old) (IsPartOf self.new) }
-        ensures looked { Looked D.seen D.moment D.left_at disk.old disk.new }
-        ensures cause { HasCause (D.faults disk.old) (D.faults disk.new) result }
+        ensures told { IfOk result (λ n. IfSome (D.at disk.old).seen
+            (IsRead at (length buf.old) n buf.new)) }
+        ensures part { IfSome (D.at disk.old).seen (IsPartOf self.new) }
+        ensures looked { Looked D.at disk.old disk.new }
+        ensures cause { HasCause (D.at disk.old).faults (D.at disk.new).faults result }
     {
         self.reach(disk, at, buf.len())?;
         let bytes = self.from(at);

@@ -1,21 +1,23 @@
 // Writes that are on the disk when they return.
-ghost use Rattle.std.specs.Prelude.{◌≡◌, ◌≤◌, ◌+◌, ◌^◌, ◌↔◌, Some, List, ℕ, length, option_map, OnOk, IfSome, IsSome};
-ghost use Rattle.liq_outside.specs.Disk.{GoesOn, LeavesOnly, LeftNow, Only, Torn, overwritten};
-ghost use Rattle.liq_outside.specs.Faults.{HasCause};
+ghost use Rattle.std.specs.Prelude.{◌≡◌, ◌≤◌, ◌+◌, ◌^◌, Some, List, ℕ, length, option_map, OnOk, IfSome};
+ghost use Rattle.liq_outside.specs.Disk.{LeavesOnly, LeftNow, Only, Torn, overwritten};
+ghost use Rattle.liq_journal.specs.Called.{Called};
 ghost use Rattle.liq_journal.specs.Crash.{GatedLeaves, gated};
 
 use liq_outside::{Disk, Failed};
 
 // Writes bytes at a place and syncs. A crash in it leaves any part of the write.
 pub fn write_synced<D: Disk>(disk: &mut D, at: u64, bytes: &[u8]) -> Result<(), Failed>
-    requires inside { IfSome (D.seen disk.old) (λ held. at ≤ length held) }
+    requires inside { IfSome (D.at disk.old).seen (λ held. at ≤ length held) }
     requires limit { at + length bytes.now ≤ 2 ^ 40 }
-    ensures written { OnOk result (D.seen disk.new ≡ option_map (λ held. overwritten held at bytes.now) (D.seen disk.old)) }
-    ensures durable { OnOk result (IfSome (D.seen disk.new) (λ held. Only held (LeftNow D.moment D.left_at disk.new))) }
-    ensures telling { IsSome (D.seen disk.new) ↔ IsSome (D.seen disk.old) }
-    ensures crash { (held : List ℕ) → D.seen disk.old ≡ Some held → Only held (LeftNow D.moment D.left_at disk.old) → LeavesOnly D.moment D.left_at disk.old disk.new (Torn at (length bytes.now) held) }
-    ensures time { GoesOn D.moment D.left_at disk.old disk.new }
-    ensures cause { HasCause (D.faults disk.old) (D.faults disk.new) result }
+    ensures written { OnOk result ((D.at disk.new).seen ≡ option_map
+        (λ held. overwritten held at bytes.now) (D.at disk.old).seen) }
+    ensures durable { OnOk result (IfSome (D.at disk.new).seen
+        (λ held. Only held (LeftNow D.at disk.new))) }
+    ensures crash { (held : List ℕ) → (D.at disk.old).seen ≡ Some held
+        → Only held (LeftNow D.at disk.old)
+        → LeavesOnly D.at disk.old disk.new (Torn at (length bytes.now) held) }
+    ensures called { Called D.at disk.old disk.new result }
 {
     disk.write_at(at, bytes)?;
     disk.sync()
@@ -24,14 +26,16 @@ pub fn write_synced<D: Disk>(disk: &mut D, at: u64, bytes: &[u8]) -> Result<(), 
 // Writes bytes behind a shut gate, and opens it once they are on the disk. A crash in it leaves any part
 // of the bytes behind the gate, or all of them and some gate.
 pub fn write_gated<D: Disk>(disk: &mut D, gate: u64, bytes: &[u8]) -> Result<(), Failed>
-    requires inside { IfSome (D.seen disk.old) (λ held. gate + 1 ≤ length held) }
+    requires inside { IfSome (D.at disk.old).seen (λ held. gate + 1 ≤ length held) }
     requires limit { gate + 1 + length bytes.now ≤ 2 ^ 40 }
-    ensures written { OnOk result (D.seen disk.new ≡ option_map (gated gate bytes.now) (D.seen disk.old)) }
-    ensures durable { OnOk result (IfSome (D.seen disk.new) (λ held. Only held (LeftNow D.moment D.left_at disk.new))) }
-    ensures telling { IsSome (D.seen disk.new) ↔ IsSome (D.seen disk.old) }
-    ensures crash { (held : List ℕ) → D.seen disk.old ≡ Some held → Only held (LeftNow D.moment D.left_at disk.old) → LeavesOnly D.moment D.left_at disk.old disk.new (GatedLeaves gate held bytes.now) }
-    ensures time { GoesOn D.moment D.left_at disk.old disk.new }
-    ensures cause { HasCause (D.faults disk.old) (D.faults disk.new) result }
+    ensures written { OnOk result ((D.at disk.new).seen ≡ option_map (gated gate bytes.now)
+        (D.at disk.old).seen) }
+    ensures durable { OnOk result (IfSome (D.at disk.new).seen
+        (λ held. Only held (LeftNow D.at disk.new))) }
+    ensures crash { (held : List ℕ) → (D.at disk.old).seen ≡ Some held
+        → Only held (LeftNow D.at disk.old)
+        → LeavesOnly D.at disk.old disk.new (GatedLeaves gate held bytes.now) }
+    ensures called { Called D.at disk.old disk.new result }
 {
     write_synced(disk, gate + 1, bytes)?;
     write_synced(disk, gate, &[1])

@@ -1,7 +1,7 @@
 // A new journal on a disk: the gate at place 0 is shut, all behind it is written, and then it is opened.
-ghost use Rattle.std.specs.Prelude.{◌≡◌, ◌≤◌, ◌+◌, ◌^◌, ◌↔◌, Some, true, List, ℕ, length, option_map, OnOk, IfSome, IsSome};
-ghost use Rattle.liq_outside.specs.Disk.{GoesOn, LeavesOnly, LeftNow, Only, overwritten};
-ghost use Rattle.liq_outside.specs.Faults.{HasCause};
+ghost use Rattle.std.specs.Prelude.{◌≡◌, ◌≤◌, ◌+◌, ◌^◌, Some, true, List, ℕ, length, option_map, OnOk, IfSome};
+ghost use Rattle.liq_outside.specs.Disk.{LeavesOnly, LeftNow, Only, overwritten};
+ghost use Rattle.liq_journal.specs.Called.{Called};
 ghost use Rattle.liq_journal.specs.Crash.{CrashOfCreate, ReadsOfCreate, IsShut, Stands, beginning, filled};
 ghost use Rattle.liq_header.specs.Header.{is_odd, is_size};
 ghost use Rattle.liq_header.specs.Layout.{version_2};
@@ -14,13 +14,13 @@ use liq_outside::{Disk, Failed};
 // Writes bytes behind the shut gate, unless there are none. No device call is made for none.
 pub fn write_behind<D: Disk>(disk: &mut D, at: u64, bytes: &[u8]) -> Result<(), Failed>
     requires behind { 1 ≤ at }
-    requires inside { IfSome (D.seen disk.old) (λ held. at ≤ length held) }
+    requires inside { IfSome (D.at disk.old).seen (λ held. at ≤ length held) }
     requires limit { at + length bytes.now ≤ 2 ^ 40 }
-    ensures written { OnOk result (D.seen disk.new ≡ option_map (λ held. overwritten held at bytes.now) (D.seen disk.old)) }
-    ensures telling { IsSome (D.seen disk.new) ↔ IsSome (D.seen disk.old) }
-    ensures crash { ((image : List ℕ) → LeftNow D.moment D.left_at disk.old image → IsShut image) → LeavesOnly D.moment D.left_at disk.old disk.new IsShut }
-    ensures time { GoesOn D.moment D.left_at disk.old disk.new }
-    ensures cause { HasCause (D.faults disk.old) (D.faults disk.new) result }
+    ensures written { OnOk result ((D.at disk.new).seen ≡ option_map
+        (λ held. overwritten held at bytes.now) (D.at disk.old).seen) }
+    ensures crash { ((image : List ℕ) → LeftNow D.at disk.old image → IsShut image)
+        → LeavesOnly D.at disk.old disk.new IsShut }
+    ensures called { Called D.at disk.old disk.new result }
 {
     if bytes.is_empty() {
         return Ok(());
@@ -30,14 +30,15 @@ pub fn write_behind<D: Disk>(disk: &mut D, at: u64, bytes: &[u8]) -> Result<(), 
 
 // Writes the header of version 2, the checkpoint and the first record's shut gate behind the shut gate, and syncs.
 pub fn fill<D: Disk>(disk: &mut D, generation: u64, checkpoint: &[u8]) -> Result<(), Failed>
-    requires there { IfSome (D.seen disk.old) (λ held. 1 ≤ length held) }
+    requires there { IfSome (D.at disk.old).seen (λ held. 1 ≤ length held) }
     requires limit { length checkpoint.now ≤ 2 ^ 36 }
-    ensures filled { OnOk result (D.seen disk.new ≡ option_map (filled version_2 generation checkpoint.now) (D.seen disk.old)) }
-    ensures durable { OnOk result (IfSome (D.seen disk.new) (λ after. Only after (LeftNow D.moment D.left_at disk.new))) }
-    ensures telling { IsSome (D.seen disk.new) ↔ IsSome (D.seen disk.old) }
-    ensures crash { ((image : List ℕ) → LeftNow D.moment D.left_at disk.old image → IsShut image) → LeavesOnly D.moment D.left_at disk.old disk.new IsShut }
-    ensures time { GoesOn D.moment D.left_at disk.old disk.new }
-    ensures cause { HasCause (D.faults disk.old) (D.faults disk.new) result }
+    ensures filled { OnOk result ((D.at disk.new).seen ≡ option_map
+        (filled version_2 generation checkpoint.now) (D.at disk.old).seen) }
+    ensures durable { OnOk result (IfSome (D.at disk.new).seen
+        (λ after. Only after (LeftNow D.at disk.new))) }
+    ensures crash { ((image : List ℕ) → LeftNow D.at disk.old image → IsShut image)
+        → LeavesOnly D.at disk.old disk.new IsShut }
+    ensures called { Called D.at disk.old disk.new result }
 {
     write_behind(disk, 1, &header_bytes(generation, checkpoint))?;
     write_behind(disk, HEADER, checkpoint)?;
@@ -50,14 +51,14 @@ pub fn make<D: Disk>(disk: &mut D, generation: u64, checkpoint: &[u8]) -> Result
     requires from_one { 1 ≤ generation }
     requires limit { length checkpoint.now ≤ 2 ^ 36 }
     requires size { is_size generation (length checkpoint.now) ≡ true }
-    ensures created { OnOk result ((held : List ℕ) → D.seen disk.old ≡ Some held
-        → (after : List ℕ) × (D.seen disk.new ≡ Some after) × Stands (is_odd generation) after (beginning generation checkpoint.now)) }
-    ensures durable { OnOk result (IfSome (D.seen disk.new) (λ after. Only after (LeftNow D.moment D.left_at disk.new))) }
-    ensures telling { IsSome (D.seen disk.new) ↔ IsSome (D.seen disk.old) }
-    ensures crash { CrashOfCreate D.seen D.moment D.left_at disk.old disk.new generation checkpoint.now }
-    ensures reads { ReadsOfCreate D.seen D.moment D.left_at disk.old disk.new generation checkpoint.now }
-    ensures time { GoesOn D.moment D.left_at disk.old disk.new }
-    ensures cause { HasCause (D.faults disk.old) (D.faults disk.new) result }
+    ensures created { OnOk result ((held : List ℕ) → (D.at disk.old).seen ≡ Some held
+        → (after : List ℕ) × ((D.at disk.new).seen ≡ Some after) × Stands (is_odd generation) after
+        (beginning generation checkpoint.now)) }
+    ensures durable { OnOk result (IfSome (D.at disk.new).seen
+        (λ after. Only after (LeftNow D.at disk.new))) }
+    ensures crash { CrashOfCreate D.at disk.old disk.new generation checkpoint.now }
+    ensures reads { ReadsOfCreate D.at disk.old disk.new generation checkpoint.now }
+    ensures called { Called D.at disk.old disk.new result }
 {
     settle(disk, 0)?;
     fill(disk, generation, checkpoint)?;

@@ -6,7 +6,7 @@ ghost use Rattle.liq_journal.specs.Causes.{CountsLook};
 ghost use Rattle.liq_journal.specs.Header.{IsDamageOf, MaybeHeadOf};
 ghost use Rattle.liq_journal.specs.declared.damage.What.TheVariants.{Form};
 ghost use Rattle.liq_journal.specs.declared.answers.LookFault.TheVariants.{Damaged};
-ghost use Rattle.liq_journal.specs.Looked.{Looked};
+ghost use Rattle.liq_outside.specs.Disk.{Looked};
 
 use crate::answers::LookFault;
 use crate::damage::{Damage, What};
@@ -16,13 +16,16 @@ use liq_outside::Disk;
 
 // The header of the disk, if it is open: its fields, which are right, and whose checkpoint is there.
 pub fn read_header<D: Disk>(disk: &mut D, odd: bool) -> Result<Option<Head>, LookFault>
-    ensures looked { Looked D.seen D.moment D.left_at disk.old disk.new }
-    ensures read { IfOk result (λ head. IfSome (D.seen disk.old) (λ held. MaybeHeadOf odd held head)) }
+    ensures looked { Looked D.at disk.old disk.new }
+    ensures read { IfOk result (λ head. IfSome (D.at disk.old).seen
+        (λ held. MaybeHeadOf odd held head)) }
     ensures size { IfOk result (λ head. IfSome head (λ h. h.size ≤ 68719476736)) }
-    ensures generation { IfOk result (λ head. IfSome head (λ h. is_generation odd h.generation ≡ true)) }
+    ensures generation { IfOk result (λ head. IfSome head
+        (λ h. is_generation odd h.generation ≡ true)) }
     ensures limit { IfOk result (λ head. IfSome head (λ h. IsLimit h.limit)) }
-    ensures fault { IfErr result (λ why. IfSome (D.seen disk.old) (λ held. IsDamageOf odd held why)) }
-    ensures cause { CountsLook result (D.faults disk.old) (D.faults disk.new) }
+    ensures fault { IfErr result (λ why. IfSome (D.at disk.old).seen
+        (λ held. IsDamageOf odd held why)) }
+    ensures cause { CountsLook result (D.at disk.old).faults (D.at disk.new).faults }
 {
     let mut bytes = [0; 65];
     let count = match read_at(disk, 0, &mut bytes) {

@@ -4,13 +4,12 @@ ghost use Rattle.std.specs.Result.{MatchResult};
 ghost use Rattle.liq_types.specs.declared.amounts.TheConstants.{LIM};
 ghost use Rattle.liq_types.specs.declared.requests.Command.{Command};
 ghost use Rattle.liq_types.specs.Image.{IsLimit};
-ghost use Rattle.liq_outside.specs.Disk.{GoesOn, LeavesOnly, LeftNow, Only};
-ghost use Rattle.liq_outside.specs.Faults.{HasCause};
+ghost use Rattle.liq_outside.specs.Disk.{GoesOn, LeavesOnly, LeftNow, Looked, Only};
 ghost use Rattle.liq_journal.specs.Bodies.{IsAccepted, IsBodyFault, IsJournalOf, IsRecorded, body_at};
+ghost use Rattle.liq_journal.specs.Called.{Called};
 ghost use Rattle.liq_journal.specs.Causes.{CauseOfOpen, Counted, CountsLook};
 ghost use Rattle.liq_journal.specs.Crash.{BeforeOrAfter, CrashOfCreate, IsBodyOf, ReadsOfCreate, Stands, beginning};
 ghost use Rattle.liq_header.specs.Header.{is_odd, is_generation, is_size};
-ghost use Rattle.liq_journal.specs.Looked.{Looked};
 ghost use Rattle.liq_journal.specs.Opened.{CrashOfOpen, IsAtRest, IsKept, IsOpened, IsUnshut, IsWhyOf, ReadsOfOpen};
 ghost use Rattle.liq_journal.specs.Parts.{IsPartOf};
 ghost use Rattle.liq_journal.specs.Settled.{IsSettled};
@@ -71,19 +70,33 @@ impl<D: Disk> Journal<D> {
         requires limit { length checkpoint.now ≤ 2 ^ 36 }
         requires size { is_size generation (length checkpoint.now) ≡ true }
 
-        ensures known { IfOk result (λ j. (j.generation ≡ generation) × (j.limit ≡ LIM) × (j.start ≡ start_of (beginning generation checkpoint.now)) × (j.count ≡ 0)) }
-        ensures created { IfOk result (λ j. (held : List ℕ) → D.seen disk ≡ Some held
-            → (after : List ℕ) × (D.seen j.disk ≡ Some after) × Stands (is_odd generation) after (beginning generation checkpoint.now)) }
-        ensures settled { IfOk result (λ j. IfSome (D.seen j.disk) (IsSettled j.generation j.start j.count)) }
-        ensures durable { IfOk result (λ j. IfSome (D.seen j.disk) (λ after. Only after (LeftNow D.moment D.left_at j.disk))) }
-        ensures telling { MatchResult result (λ j. IsSome (D.seen j.disk) ↔ IsSome (D.seen disk)) (λ e. IsSome (D.seen e.disk) ↔ IsSome (D.seen disk)) }
-        ensures crash { MatchResult result (λ j. CrashOfCreate D.seen D.moment D.left_at disk j.disk generation checkpoint.now) (λ e. CrashOfCreate D.seen D.moment D.left_at disk e.disk generation checkpoint.now) }
+        ensures known { IfOk result (λ j. (j.generation ≡ generation) × (j.limit ≡ LIM)
+            × (j.start ≡ start_of (beginning generation checkpoint.now)) × (j.count ≡ 0)) }
+        ensures created { IfOk result (λ j. (held : List ℕ) → (D.at disk).seen ≡ Some held
+            → (after : List ℕ) × ((D.at j.disk).seen ≡ Some after)
+            × Stands (is_odd generation) after (beginning generation checkpoint.now)) }
+        ensures settled { IfOk result (λ j. IfSome (D.at j.disk).seen
+            (IsSettled j.generation j.start j.count)) }
+        ensures durable { IfOk result (λ j. IfSome (D.at j.disk).seen
+            (λ after. Only after (LeftNow D.at j.disk))) }
+        ensures telling { MatchResult result
+            (λ j. IsSome (D.at j.disk).seen ↔ IsSome (D.at disk).seen)
+            (λ e. IsSome (D.at e.disk).seen ↔ IsSome (D.at disk).seen) }
+        ensures crash { MatchResult result
+            (λ j. CrashOfCreate D.at disk j.disk generation checkpoint.now)
+            (λ e. CrashOfCreate D.at disk e.disk generation checkpoint.now) }
 
         // What is read afterwards, after a fault too.
-        ensures reads { MatchResult result (λ j. ReadsOfCreate D.seen D.moment D.left_at disk j.disk generation checkpoint.now) (λ e. ReadsOfCreate D.seen D.moment D.left_at disk e.disk generation checkpoint.now) }
+        ensures reads { MatchResult result
+            (λ j. ReadsOfCreate D.at disk j.disk generation checkpoint.now)
+            (λ e. ReadsOfCreate D.at disk e.disk generation checkpoint.now) }
 
-        ensures time { MatchResult result (λ j. GoesOn D.moment D.left_at disk j.disk) (λ e. GoesOn D.moment D.left_at disk e.disk) }
-        ensures cause { MatchResult result (λ j. D.faults j.disk ≡ D.faults disk) (λ e. Counted (D.faults disk) (D.faults e.disk)) }
+        ensures time { MatchResult result
+            (λ j. GoesOn D.at disk j.disk)
+            (λ e. GoesOn D.at disk e.disk) }
+        ensures cause { MatchResult result
+            (λ j. (D.at j.disk).faults ≡ (D.at disk).faults)
+            (λ e. Counted (D.at disk).faults (D.at e.disk).faults) }
     {
         let mut disk = disk;
         match make(&mut disk, generation, checkpoint) {
@@ -110,39 +123,42 @@ impl<D: Disk> Journal<D> {
 
         ensures exchanged { OnOk result (beside.new ≡ self.old.disk) }
         ensures kept { OnErr result (self.new ≡ self.old) }
-        ensures known { OnOk result ((self.new.generation ≡ self.old.generation + 1) × (self.new.limit ≡ LIM)
-            × (self.new.start ≡ start_of (beginning (self.old.generation + 1) checkpoint.now)) × (self.new.count ≡ 0)) }
+        ensures known { OnOk result ((self.new.generation ≡ self.old.generation + 1)
+            × (self.new.limit ≡ LIM)
+            × (self.new.start ≡ start_of (beginning (self.old.generation + 1) checkpoint.now))
+            × (self.new.count ≡ 0)) }
 
         // The disk that was beside is the journal's at `Ok`, and still beside after a fault.
-        ensures created { OnOk result ((held : List ℕ) → D.seen beside.old ≡ Some held
-            → (after : List ℕ) × (D.seen self.new.disk ≡ Some after)
-            × Stands (is_odd (self.old.generation + 1)) after (beginning (self.old.generation + 1) checkpoint.now)) }
-        ensures settled { OnOk result (IfSome (D.seen self.new.disk)
+        ensures created { OnOk result ((held : List ℕ) → (D.at beside.old).seen ≡ Some held
+            → (after : List ℕ) × ((D.at self.new.disk).seen ≡ Some after)
+            × Stands (is_odd (self.old.generation + 1)) after
+            (beginning (self.old.generation + 1) checkpoint.now)) }
+        ensures settled { OnOk result (IfSome (D.at self.new.disk).seen
             (IsSettled self.new.generation self.new.start self.new.count)) }
-        ensures durable { OnOk result (IfSome (D.seen self.new.disk)
-            (λ after. Only after (LeftNow D.moment D.left_at self.new.disk))) }
+        ensures durable { OnOk result (IfSome (D.at self.new.disk).seen
+            (λ after. Only after (LeftNow D.at self.new.disk))) }
         ensures telling { MatchResult result
-            (λ _. IsSome (D.seen self.new.disk) ↔ IsSome (D.seen beside.old))
-            (λ _. IsSome (D.seen beside.new) ↔ IsSome (D.seen beside.old)) }
+            (λ _. IsSome (D.at self.new.disk).seen ↔ IsSome (D.at beside.old).seen)
+            (λ _. IsSome (D.at beside.new).seen ↔ IsSome (D.at beside.old).seen) }
         ensures crash { MatchResult result
-            (λ _. CrashOfCreate D.seen D.moment D.left_at beside.old self.new.disk
+            (λ _. CrashOfCreate D.at beside.old self.new.disk
             (self.old.generation + 1) checkpoint.now)
-            (λ _. CrashOfCreate D.seen D.moment D.left_at beside.old beside.new
+            (λ _. CrashOfCreate D.at beside.old beside.new
             (self.old.generation + 1) checkpoint.now) }
 
         // What is read afterwards, after a fault too.
         ensures reads { MatchResult result
-            (λ _. ReadsOfCreate D.seen D.moment D.left_at beside.old self.new.disk
+            (λ _. ReadsOfCreate D.at beside.old self.new.disk
             (self.old.generation + 1) checkpoint.now)
-            (λ _. ReadsOfCreate D.seen D.moment D.left_at beside.old beside.new
+            (λ _. ReadsOfCreate D.at beside.old beside.new
             (self.old.generation + 1) checkpoint.now) }
 
         ensures time { MatchResult result
-            (λ _. GoesOn D.moment D.left_at beside.old self.new.disk)
-            (λ _. GoesOn D.moment D.left_at beside.old beside.new) }
+            (λ _. GoesOn D.at beside.old self.new.disk)
+            (λ _. GoesOn D.at beside.old beside.new) }
         ensures cause { MatchResult result
-            (λ _. D.faults self.new.disk ≡ D.faults beside.old)
-            (λ _. Counted (D.faults beside.old) (D.faults beside.new)) }
+            (λ _. (D.at self.new.disk).faults ≡ (D.at beside.old).faults)
+            (λ _. Counted (D.at beside.old).faults (D.at beside.new).faults) }
     {
         let generation = self.generation + 1;
         make(beside, generation, checkpoint)?;
@@ -161,21 +177,38 @@ impl<D: Disk> Journal<D> {
     /// `Absent` comes where none is open, `Damaged` with the disk's first fault, `NoMemory` for want of it. Memory is asked for only
     /// behind a sound header and the right digest over its checkpoint, so want of it never stands for damage of these.
     pub fn open(alloc: Global, disk: D, odd: bool) -> Result<(Journal<D>, Vec<u8>), OpenFault<D>>
-        ensures found { IfOk result (λ r. IfSome (D.seen disk) (λ held. IsOpened odd held r.0.generation r.0.limit r.0.start r.0.count r.1.items)) }
+        ensures found { IfOk result (λ r. IfSome (D.at disk).seen
+            (λ held. IsOpened odd held r.0.generation r.0.limit r.0.start r.0.count r.1.items)) }
         // It is one that this disk may have, also where the disk tells nothing.
         ensures generation { IfOk result (λ r. is_generation odd r.0.generation ≡ true) }
-        ensures stands { IfOk result (λ r. (held : List ℕ) (w : Written) → D.seen disk ≡ Some held → found_on odd held ≡ Open w → IfSome (D.seen r.0.disk) (λ after. Stands odd after w)) }
-        ensures settled { IfOk result (λ r. IfSome (D.seen r.0.disk) (IsSettled r.0.generation r.0.start r.0.count)) }
-        ensures durable { IfOk result (λ r. IfSome (D.seen r.0.disk) (λ after. Only after (LeftNow D.moment D.left_at r.0.disk))) }
-        ensures why { IfErr result (λ e. IfSome (D.seen disk) (λ held. IsWhyOf odd held e.why)) }
-        ensures kept { IfErr result (λ e. IsKept e.why → D.seen e.disk ≡ D.seen disk) }
-        ensures absent { IfErr result (λ e. e.why ≡ OpenWhy.Absent → IfSome (D.seen e.disk) (λ after. IsUnshut after → ⊥)) }
-        ensures at_rest { IfErr result (λ e. IsAtRest e.why → IfSome (D.seen e.disk) (λ after. Only after (LeftNow D.moment D.left_at e.disk))) }
-        ensures telling { MatchResult result (λ r. IsSome (D.seen r.0.disk) ↔ IsSome (D.seen disk)) (λ e. IsSome (D.seen e.disk) ↔ IsSome (D.seen disk)) }
-        ensures crash { MatchResult result (λ r. CrashOfOpen D.seen D.moment D.left_at disk r.0.disk odd) (λ e. CrashOfOpen D.seen D.moment D.left_at disk e.disk odd) }
-        ensures reads { MatchResult result (λ r. ReadsOfOpen D.seen disk r.0.disk odd) (λ e. ReadsOfOpen D.seen disk e.disk odd) }
-        ensures time { MatchResult result (λ r. GoesOn D.moment D.left_at disk r.0.disk) (λ e. GoesOn D.moment D.left_at disk e.disk) }
-        ensures cause { MatchResult result (λ r. D.faults r.0.disk ≡ D.faults disk) (λ e. CauseOfOpen e.why (D.faults disk) (D.faults e.disk)) }
+        ensures stands { IfOk result (λ r. (held : List ℕ) (w : Written)
+            → (D.at disk).seen ≡ Some held → found_on odd held ≡ Open w
+            → IfSome (D.at r.0.disk).seen (λ after. Stands odd after w)) }
+        ensures settled { IfOk result (λ r. IfSome (D.at r.0.disk).seen
+            (IsSettled r.0.generation r.0.start r.0.count)) }
+        ensures durable { IfOk result (λ r. IfSome (D.at r.0.disk).seen
+            (λ after. Only after (LeftNow D.at r.0.disk))) }
+        ensures why { IfErr result (λ e. IfSome (D.at disk).seen (λ held. IsWhyOf odd held e.why)) }
+        ensures kept { IfErr result (λ e. IsKept e.why → (D.at e.disk).seen ≡ (D.at disk).seen) }
+        ensures absent { IfErr result (λ e. e.why ≡ OpenWhy.Absent
+            → IfSome (D.at e.disk).seen (λ after. IsUnshut after → ⊥)) }
+        ensures at_rest { IfErr result (λ e. IsAtRest e.why
+            → IfSome (D.at e.disk).seen (λ after. Only after (LeftNow D.at e.disk))) }
+        ensures telling { MatchResult result
+            (λ r. IsSome (D.at r.0.disk).seen ↔ IsSome (D.at disk).seen)
+            (λ e. IsSome (D.at e.disk).seen ↔ IsSome (D.at disk).seen) }
+        ensures crash { MatchResult result
+            (λ r. CrashOfOpen D.at disk r.0.disk odd)
+            (λ e. CrashOfOpen D.at disk e.disk odd) }
+        ensures reads { MatchResult result
+            (λ r. ReadsOfOpen D.at disk r.0.disk odd)
+            (λ e. ReadsOfOpen D.at disk e.disk odd) }
+        ensures time { MatchResult result
+            (λ r. GoesOn D.at disk r.0.disk)
+            (λ e. GoesOn D.at disk e.disk) }
+        ensures cause { MatchResult result
+            (λ r. (D.at r.0.disk).faults ≡ (D.at disk).faults)
+            (λ e. CauseOfOpen e.why (D.at disk).faults (D.at e.disk).faults) }
     {
         let mut disk = disk;
         match open_on(alloc, &mut disk, odd) {
@@ -206,7 +239,8 @@ impl<D: Disk> Journal<D> {
     /// A crash at any moment leaves the records before the call or with the new one.
     pub fn append(&mut self, body: &[u8; 96]) -> Result<(), DiskFault>
         requires few { self.old.count < 1000000 }
-        requires settled { IfSome (D.seen self.old.disk) (IsSettled self.old.generation self.old.start self.old.count) }
+        requires settled { IfSome (D.at self.old.disk).seen
+            (IsSettled self.old.generation self.old.start self.old.count) }
 
         ensures generation { self.new.generation ≡ self.old.generation }
         ensures limit { self.new.limit ≡ self.old.limit }
@@ -215,20 +249,30 @@ impl<D: Disk> Journal<D> {
         ensures no_more { OnErr result (self.new.count ≡ self.old.count) }
 
         // Where the disk tells its content.
-        ensures telling { IsSome (D.seen self.new.disk) ↔ IsSome (D.seen self.old.disk) }
-        ensures appended { OnOk result ((held : List ℕ) (w : Written) (command : Command) → D.seen self.old.disk ≡ Some held → Stands (is_odd self.old.generation) held w → IsBodyOf body.now command
-            → (after : List ℕ) × (D.seen self.new.disk ≡ Some after) × Stands (is_odd self.old.generation) after (and_then w command)) }
-        ensures settled { OnOk result ((command : Command) → IsBodyOf body.now command → IfSome (D.seen self.new.disk) (IsSettled self.new.generation self.new.start self.new.count)) }
-        ensures durable { OnOk result (IfSome (D.seen self.new.disk) (λ held. Only held (LeftNow D.moment D.left_at self.new.disk))) }
-        ensures crash { (held : List ℕ) (w : Written) (command : Command) → D.seen self.old.disk ≡ Some held → Only held (LeftNow D.moment D.left_at self.old.disk) → Stands (is_odd self.old.generation) held w → IsBodyOf body.now command
-            → LeavesOnly D.moment D.left_at self.old.disk self.new.disk (BeforeOrAfter (is_odd self.old.generation) w command) }
+        ensures appended { OnOk result ((held : List ℕ) (w : Written) (command : Command)
+            → (D.at self.old.disk).seen ≡ Some held → Stands (is_odd self.old.generation) held w
+            → IsBodyOf body.now command
+            → (after : List ℕ) × ((D.at self.new.disk).seen ≡ Some after)
+            × Stands (is_odd self.old.generation) after (and_then w command)) }
+        ensures settled { OnOk result ((command : Command) → IsBodyOf body.now command
+            → IfSome (D.at self.new.disk).seen
+            (IsSettled self.new.generation self.new.start self.new.count)) }
+        ensures durable { OnOk result (IfSome (D.at self.new.disk).seen
+            (λ held. Only held (LeftNow D.at self.new.disk))) }
+        ensures crash { (held : List ℕ) (w : Written) (command : Command)
+            → (D.at self.old.disk).seen ≡ Some held → Only held (LeftNow D.at self.old.disk)
+            → Stands (is_odd self.old.generation) held w → IsBodyOf body.now command
+            → LeavesOnly D.at self.old.disk self.new.disk
+            (BeforeOrAfter (is_odd self.old.generation) w command) }
 
         // What is read afterwards, after a fault too.
-        ensures reads { (held after : List ℕ) (w : Written) (command : Command) → D.seen self.old.disk ≡ Some held → Only held (LeftNow D.moment D.left_at self.old.disk) → Stands (is_odd self.old.generation) held w → IsBodyOf body.now command
-            → D.seen self.new.disk ≡ Some after → BeforeOrAfter (is_odd self.old.generation) w command after }
+        ensures reads { (held after : List ℕ) (w : Written) (command : Command)
+            → (D.at self.old.disk).seen ≡ Some held → Only held (LeftNow D.at self.old.disk)
+            → Stands (is_odd self.old.generation) held w → IsBodyOf body.now command
+            → (D.at self.new.disk).seen ≡ Some after
+            → BeforeOrAfter (is_odd self.old.generation) w command after }
 
-        ensures time { GoesOn D.moment D.left_at self.old.disk self.new.disk }
-        ensures cause { HasCause (D.faults self.old.disk) (D.faults self.new.disk) result }
+        ensures called { Called D.at self.old.disk self.new.disk result }
     {
         let gate = self.start + RECORD * self.count;
         let record = record_bytes(self.generation, self.count + 1, body);
@@ -250,14 +294,17 @@ impl<D: Disk> Journal<D> {
         ensures start { self.new.start ≡ self.old.start }
         ensures records { self.new.count ≡ self.old.count }
         ensures command { IfOk result (λ body. (command : Command) × IsBodyOf body command) }
-        ensures damaged { IfErr result (IsBodyFault self.old.generation index (body_at self.old.start index)) }
+        ensures damaged { IfErr result (IsBodyFault self.old.generation index
+            (body_at self.old.start index)) }
 
         // Where the disk tells its content.
-        ensures accepted { (held : List ℕ) (w : Written) → D.seen self.old.disk ≡ Some held → IsJournalOf self.old.generation self.old.start held w → index ≤ length w.commands
-            → MatchResult result (IsAccepted self.old.start held w index) (λ why. why ≡ LookFault.DiskFault) }
+        ensures accepted { (held : List ℕ) (w : Written) → (D.at self.old.disk).seen ≡ Some held
+            → IsJournalOf self.old.generation self.old.start held w → index ≤ length w.commands
+            → MatchResult result (IsAccepted self.old.start held w index)
+            (λ why. why ≡ LookFault.DiskFault) }
 
-        ensures looked { Looked D.seen D.moment D.left_at self.old.disk self.new.disk }
-        ensures cause { CountsLook result (D.faults self.old.disk) (D.faults self.new.disk) }
+        ensures looked { Looked D.at self.old.disk self.new.disk }
+        ensures cause { CountsLook result (D.at self.old.disk).faults (D.at self.new.disk).faults }
     {
         let place = self.start + RECORD * (index - 1);
         read_body(&mut self.disk, self.generation, index, place)
@@ -273,24 +320,26 @@ impl<D: Disk> Journal<D> {
     pub fn command(&mut self, block: &mut Block, index: u64) -> Result<Command, LookFault>
         requires from_one { 1 ≤ index }
         requires there { index ≤ self.old.count }
-        requires part { IfSome (D.seen self.old.disk) (IsPartOf block.old) }
+        requires part { IfSome (D.at self.old.disk).seen (IsPartOf block.old) }
 
         // The block is one of the disk's also afterwards.
-        ensures part { IfSome (D.seen self.new.disk) (IsPartOf block.new) }
+        ensures part { IfSome (D.at self.new.disk).seen (IsPartOf block.new) }
 
         ensures generation { self.new.generation ≡ self.old.generation }
         ensures limit { self.new.limit ≡ self.old.limit }
         ensures start { self.new.start ≡ self.old.start }
         ensures records { self.new.count ≡ self.old.count }
         ensures command { IfOk result (λ command. (body : List ℕ) × IsBodyOf body command) }
-        ensures damaged { IfErr result (IsBodyFault self.old.generation index (body_at self.old.start index)) }
+        ensures damaged { IfErr result (IsBodyFault self.old.generation index
+            (body_at self.old.start index)) }
 
         // Where the disk tells its content.
-        ensures accepted { (held : List ℕ) (w : Written) → D.seen self.old.disk ≡ Some held → IsJournalOf self.old.generation self.old.start held w → index ≤ length w.commands
+        ensures accepted { (held : List ℕ) (w : Written) → (D.at self.old.disk).seen ≡ Some held
+            → IsJournalOf self.old.generation self.old.start held w → index ≤ length w.commands
             → MatchResult result (IsRecorded w index) (λ why. why ≡ LookFault.DiskFault) }
 
-        ensures looked { Looked D.seen D.moment D.left_at self.old.disk self.new.disk }
-        ensures cause { CountsLook result (D.faults self.old.disk) (D.faults self.new.disk) }
+        ensures looked { Looked D.at self.old.disk self.new.disk }
+        ensures cause { CountsLook result (D.at self.old.disk).faults (D.at self.new.disk).faults }
     {
         let gate = self.start + RECORD * (index - 1);
         read_command(&mut self.disk, block, self.generation, index, gate)
@@ -327,7 +376,7 @@ impl<D: Disk> Journal<D> {
 
     /// How many faults its disk has met. It is no device call.
     pub fn faults(&self) -> u64
-        ensures { result ≡ D.faults self.now.disk }
+        ensures { result ≡ (D.at self.now.disk).faults }
     {
         self.disk.faults()
     }

@@ -1,11 +1,11 @@
 // A disk looked at: its header, and the digest over the checkpoint, without memory.
 ghost use Rattle.std.specs.Prelude.{◌≡◌, ◌≤◌, ◌+◌, ◌^◌, ◌⊎◌, Err, true, length, IfErr, IfOk, IfSome};
 ghost use Rattle.liq_types.specs.Image.{IsLimit};
+ghost use Rattle.liq_outside.specs.Disk.{Looked};
 ghost use Rattle.liq_outside.specs.Faults.{HasCause};
 ghost use Rattle.liq_journal.specs.Causes.{CountsLook};
 ghost use Rattle.liq_journal.specs.Header.{IsDamageOf, MaybeSoundHeadOf};
 ghost use Rattle.liq_journal.specs.Look.{look_on};
-ghost use Rattle.liq_journal.specs.Looked.{Looked};
 ghost use Rattle.liq_header.specs.Header.{is_generation};
 ghost use Rattle.liq_header.specs.Layout.{header_digest, piece};
 
@@ -23,9 +23,10 @@ use sha2::{Digest, Sha256};
 ///
 /// `Damaged` comes with the header's first fault, and `DiskFault` where a device call failed.
 pub fn look<D: Disk>(disk: &mut D, odd: bool) -> Result<Look, LookFault>
-    ensures told { IfSome (D.seen disk.old) (λ held. (result ≡ look_on odd held) ⊎ (result ≡ Err LookFault.DiskFault)) }
-    ensures looked { Looked D.seen D.moment D.left_at disk.old disk.new }
-    ensures cause { CountsLook result (D.faults disk.old) (D.faults disk.new) }
+    ensures told { IfSome (D.at disk.old).seen (λ held. (result ≡ look_on odd held)
+        ⊎ (result ≡ Err LookFault.DiskFault)) }
+    ensures looked { Looked D.at disk.old disk.new }
+    ensures cause { CountsLook result (D.at disk.old).faults (D.at disk.new).faults }
 {
     match sound_header(disk, odd) {
         Ok(Some(head)) => Ok(Look::Open {
@@ -39,13 +40,16 @@ pub fn look<D: Disk>(disk: &mut D, odd: bool) -> Result<Look, LookFault>
 // The header of the disk, if it is open: sound, with the right digest over its checkpoint, which was read piece by piece. So
 // no memory is taken for a checkpoint before its digest is tested, however long the header says that it is.
 pub fn sound_header<D: Disk>(disk: &mut D, odd: bool) -> Result<Option<Head>, LookFault>
-    ensures looked { Looked D.seen D.moment D.left_at disk.old disk.new }
-    ensures sound { IfOk result (λ head. IfSome (D.seen disk.old) (λ held. MaybeSoundHeadOf odd held head)) }
+    ensures looked { Looked D.at disk.old disk.new }
+    ensures sound { IfOk result (λ head. IfSome (D.at disk.old).seen
+        (λ held. MaybeSoundHeadOf odd held head)) }
     ensures size { IfOk result (λ head. IfSome head (λ h. h.size ≤ 68719476736)) }
-    ensures generation { IfOk result (λ head. IfSome head (λ h. is_generation odd h.generation ≡ true)) }
+    ensures generation { IfOk result (λ head. IfSome head
+        (λ h. is_generation odd h.generation ≡ true)) }
     ensures limit { IfOk result (λ head. IfSome head (λ h. IsLimit h.limit)) }
-    ensures fault { IfErr result (λ why. IfSome (D.seen disk.old) (λ held. IsDamageOf odd held why)) }
-    ensures cause { CountsLook result (D.faults disk.old) (D.faults disk.new) }
+    ensures fault { IfErr result (λ why. IfSome (D.at disk.old).seen
+        (λ held. IsDamageOf odd held why)) }
+    ensures cause { CountsLook result (D.at disk.old).faults (D.at disk.new).faults }
 {
     let head = match read_header(disk, odd) {
         Ok(Some(head)) => head,
@@ -77,9 +81,11 @@ fn digest_behind<D: Disk>(
     size: u64,
 ) -> Result<[u8; 32], Failed>
     requires { place + size ≤ 2 ^ 40 }
-    ensures looked { Looked D.seen D.moment D.left_at disk.old disk.new }
-    ensures told { IfOk result (λ digest. IfSome (D.seen disk.old) (λ held. place + size ≤ length held → digest ≡ header_digest fields.now (piece place size held))) }
-    ensures cause { HasCause (D.faults disk.old) (D.faults disk.new) result }
+    ensures looked { Looked D.at disk.old disk.new }
+    ensures told { IfOk result (λ digest. IfSome (D.at disk.old).seen
+        (λ held. place + size ≤ length held
+        → digest ≡ header_digest fields.now (piece place size held))) }
+    ensures cause { HasCause (D.at disk.old).faults (D.at disk.new).faults result }
 {
     let mut hasher = Sha256::new();
     hasher.update(fields);

@@ -2,11 +2,11 @@
 ghost use Rattle.std.specs.Prelude.{◌≡◌, ◌≤◌, ◌+◌, ◌^◌, ◌⊎◌, ◌↔◌, Some, IsTrue, true, Ok, Err, List, ℕ, length, OnOk, IfOk, IfErr, IfSome, IsSome};
 ghost use Rattle.std.specs.Result.{MatchResult};
 ghost use Rattle.liq_journal.specs.Crash.{Stands};
-ghost use Rattle.liq_outside.specs.Disk.{GoesOn, LeavesOnly, LeftNow, Only};
+ghost use Rattle.liq_outside.specs.Disk.{GoesOn, LeavesOnly, LeftNow, Looked, Only};
 ghost use Rattle.liq_outside.specs.Faults.{HasCause};
+ghost use Rattle.liq_journal.specs.Called.{Called};
 ghost use Rattle.liq_journal.specs.Causes.{CountsOpen};
 ghost use Rattle.liq_journal.specs.declared.damage.Damage.{Damage};
-ghost use Rattle.liq_journal.specs.Looked.{Looked};
 ghost use Rattle.liq_journal.specs.Opened.{AbsentLeaves, IsAtRest, IsKept, IsScanOf, IsUnshut, IsWhyOf, OpenLeaves, why_of};
 ghost use Rattle.liq_header.specs.Layout.{StartsWithin, piece};
 ghost use Rattle.liq_journal.specs.Written.{Open, Written, found_on};
@@ -33,9 +33,10 @@ fn read_checkpoint<D: Disk>(
     size: u64,
 ) -> Result<Vec<u8>, OpenWhy>
     requires { place + size ≤ 2 ^ 40 }
-    ensures looked { Looked D.seen D.moment D.left_at disk.old disk.new }
-    ensures read { IfOk result (λ bytes. IfSome (D.seen disk.old) (λ held. place + size ≤ length held → bytes.items ≡ piece place size held)) }
-    ensures cause { CountsOpen result (D.faults disk.old) (D.faults disk.new) }
+    ensures looked { Looked D.at disk.old disk.new }
+    ensures read { IfOk result (λ bytes. IfSome (D.at disk.old).seen
+        (λ held. place + size ≤ length held → bytes.items ≡ piece place size held)) }
+    ensures cause { CountsOpen result (D.at disk.old).faults (D.at disk.new).faults }
     ensures absent { result ≡ Err OpenWhy.Absent → ⊥ }
     ensures damaged { (damage : Damage) → result ≡ Err (OpenWhy.Damaged damage) → ⊥ }
 {
@@ -73,12 +74,12 @@ fn why_of(why: LookFault) -> OpenWhy
 
 // Reads and tests all of a disk, in the order of its faults. Memory is taken behind a sound header alone.
 fn scan<D: Disk>(alloc: Global, disk: &mut D, odd: bool) -> Result<Scanned, OpenWhy>
-    ensures looked { Looked D.seen D.moment D.left_at disk.old disk.new }
+    ensures looked { Looked D.at disk.old disk.new }
     ensures bounds { IfOk result (λ s. StartsWithin s.limit s.start × (s.count ≤ 1000001)) }
     ensures generation { IfOk result (λ s. is_generation odd s.generation ≡ true) }
-    ensures found { IfOk result (λ s. IfSome (D.seen disk.old) (λ held. IsScanOf odd held s)) }
-    ensures why { IfErr result (λ why. IfSome (D.seen disk.old) (λ held. IsWhyOf odd held why)) }
-    ensures cause { CountsOpen result (D.faults disk.old) (D.faults disk.new) }
+    ensures found { IfOk result (λ s. IfSome (D.at disk.old).seen (λ held. IsScanOf odd held s)) }
+    ensures why { IfErr result (λ why. IfSome (D.at disk.old).seen (λ held. IsWhyOf odd held why)) }
+    ensures cause { CountsOpen result (D.at disk.old).faults (D.at disk.new).faults }
 {
     let head = match sound_header(disk, odd) {
         Ok(Some(head)) => head,
@@ -105,9 +106,10 @@ fn scan<D: Disk>(alloc: Global, disk: &mut D, odd: bool) -> Result<Scanned, Open
 
 // Whether a byte other than 0 is at place 0.
 fn is_unshut<D: Disk>(disk: &mut D) -> Result<bool, Failed>
-    ensures looked { Looked D.seen D.moment D.left_at disk.old disk.new }
-    ensures told { IfOk result (λ unshut. IfSome (D.seen disk.old) (λ held. IsTrue unshut ↔ IsUnshut held)) }
-    ensures cause { HasCause (D.faults disk.old) (D.faults disk.new) result }
+    ensures looked { Looked D.at disk.old disk.new }
+    ensures told { IfOk result (λ unshut. IfSome (D.at disk.old).seen (λ held. IsTrue unshut
+        ↔ IsUnshut held)) }
+    ensures cause { HasCause (D.at disk.old).faults (D.at disk.new).faults result }
 {
     let mut gate = [0];
     let count = read_at(disk, 0, &mut gate)?;
@@ -116,12 +118,14 @@ fn is_unshut<D: Disk>(disk: &mut D) -> Result<bool, Failed>
 
 // Shuts the gate of a disk on which no journal is open, where it is there and isn't shut.
 fn settle_absent<D: Disk>(disk: &mut D) -> Result<(), Failed>
-    ensures shut { OnOk result (IfSome (D.seen disk.new) (λ after. IsUnshut after → ⊥)) }
-    ensures durable { OnOk result ((held : List ℕ) → D.seen disk.old ≡ Some held → Only held (LeftNow D.moment D.left_at disk.old) → IfSome (D.seen disk.new) (λ after. Only after (LeftNow D.moment D.left_at disk.new))) }
-    ensures telling { IsSome (D.seen disk.new) ↔ IsSome (D.seen disk.old) }
-    ensures crash { (held : List ℕ) → D.seen disk.old ≡ Some held → Only held (LeftNow D.moment D.left_at disk.old) → LeavesOnly D.moment D.left_at disk.old disk.new (AbsentLeaves held) }
-    ensures time { GoesOn D.moment D.left_at disk.old disk.new }
-    ensures cause { HasCause (D.faults disk.old) (D.faults disk.new) result }
+    ensures shut { OnOk result (IfSome (D.at disk.new).seen (λ after. IsUnshut after → ⊥)) }
+    ensures durable { OnOk result ((held : List ℕ) → (D.at disk.old).seen ≡ Some held
+        → Only held (LeftNow D.at disk.old)
+        → IfSome (D.at disk.new).seen (λ after. Only after (LeftNow D.at disk.new))) }
+    ensures crash { (held : List ℕ) → (D.at disk.old).seen ≡ Some held
+        → Only held (LeftNow D.at disk.old)
+        → LeavesOnly D.at disk.old disk.new (AbsentLeaves held) }
+    ensures called { Called D.at disk.old disk.new result }
 {
     if !is_unshut(disk)? {
         return Ok(());
@@ -135,18 +139,34 @@ fn settle_scanned<D: Disk>(
     odd: bool,
     found: Result<Scanned, OpenWhy>,
 ) -> Result<Scanned, OpenWhy>
-    requires found { MatchResult found (λ s. IfSome (D.seen disk.old) (λ held. IsScanOf odd held s) × (StartsWithin s.limit s.start × (s.count ≤ 1000001))) (λ why. IfSome (D.seen disk.old) (λ held. IsWhyOf odd held why)) }
-    ensures same { MatchResult result (λ s. found ≡ Ok s) (λ why. (found ≡ Err why) ⊎ (why ≡ OpenWhy.DiskFault)) }
-    ensures stands { IfOk result (λ _. (held : List ℕ) (w : Written) → D.seen disk.old ≡ Some held → found_on odd held ≡ Open w → IfSome (D.seen disk.new) (λ after. Stands odd after w)) }
-    ensures durable { IfOk result (λ _. (held : List ℕ) → D.seen disk.old ≡ Some held → Only held (LeftNow D.moment D.left_at disk.old) → IfSome (D.seen disk.new) (λ after. Only after (LeftNow D.moment D.left_at disk.new))) }
-    ensures telling { IsSome (D.seen disk.new) ↔ IsSome (D.seen disk.old) }
-    ensures kept { IfErr result (λ why. IsKept why → D.seen disk.new ≡ D.seen disk.old) }
-    ensures absent { result ≡ Err OpenWhy.Absent → IfSome (D.seen disk.new) (λ after. IsUnshut after → ⊥) }
-    ensures at_rest { IfErr result (λ why. IsAtRest why → (held : List ℕ) → D.seen disk.old ≡ Some held → Only held (LeftNow D.moment D.left_at disk.old) → IfSome (D.seen disk.new) (λ after. Only after (LeftNow D.moment D.left_at disk.new))) }
-    ensures crash { (held : List ℕ) → D.seen disk.old ≡ Some held → Only held (LeftNow D.moment D.left_at disk.old) → LeavesOnly D.moment D.left_at disk.old disk.new (OpenLeaves odd held) }
-    ensures time { GoesOn D.moment D.left_at disk.old disk.new }
-    ensures cause { (found ≡ Err OpenWhy.DiskFault → ⊥) → CountsOpen result (D.faults disk.old) (D.faults disk.new) }
-    ensures faulted { found ≡ Err OpenWhy.DiskFault → (result ≡ found) × (D.faults disk.new ≡ D.faults disk.old) }
+    requires found { MatchResult found
+        (λ s. IfSome (D.at disk.old).seen (λ held. IsScanOf odd held s)
+        × (StartsWithin s.limit s.start × (s.count ≤ 1000001)))
+        (λ why. IfSome (D.at disk.old).seen (λ held. IsWhyOf odd held why)) }
+    ensures same { MatchResult result
+        (λ s. found ≡ Ok s)
+        (λ why. (found ≡ Err why) ⊎ (why ≡ OpenWhy.DiskFault)) }
+    ensures stands { IfOk result (λ _. (held : List ℕ) (w : Written)
+        → (D.at disk.old).seen ≡ Some held → found_on odd held ≡ Open w
+        → IfSome (D.at disk.new).seen (λ after. Stands odd after w)) }
+    ensures durable { IfOk result (λ _. (held : List ℕ) → (D.at disk.old).seen ≡ Some held
+        → Only held (LeftNow D.at disk.old)
+        → IfSome (D.at disk.new).seen (λ after. Only after (LeftNow D.at disk.new))) }
+    ensures telling { IsSome (D.at disk.new).seen ↔ IsSome (D.at disk.old).seen }
+    ensures kept { IfErr result (λ why. IsKept why → (D.at disk.new).seen ≡ (D.at disk.old).seen) }
+    ensures absent { result ≡ Err OpenWhy.Absent
+        → IfSome (D.at disk.new).seen (λ after. IsUnshut after → ⊥) }
+    ensures at_rest { IfErr result (λ why. IsAtRest why → (held : List ℕ)
+        → (D.at disk.old).seen ≡ Some held → Only held (LeftNow D.at disk.old)
+        → IfSome (D.at disk.new).seen (λ after. Only after (LeftNow D.at disk.new))) }
+    ensures crash { (held : List ℕ) → (D.at disk.old).seen ≡ Some held
+        → Only held (LeftNow D.at disk.old)
+        → LeavesOnly D.at disk.old disk.new (OpenLeaves odd held) }
+    ensures time { GoesOn D.at disk.old disk.new }
+    ensures cause { (found ≡ Err OpenWhy.DiskFault → ⊥)
+        → CountsOpen result (D.at disk.old).faults (D.at disk.new).faults }
+    ensures faulted { found ≡ Err OpenWhy.DiskFault
+        → (result ≡ found) × ((D.at disk.new).faults ≡ (D.at disk.old).faults) }
 {
     match found {
         Ok(scanned) => match settle(disk, scanned.start + RECORD * scanned.count) {
@@ -167,18 +187,26 @@ fn settle_scanned<D: Disk>(
 pub fn open_on<D: Disk>(alloc: Global, disk: &mut D, odd: bool) -> Result<Scanned, OpenWhy>
     ensures bounds { IfOk result (λ s. StartsWithin s.limit s.start × (s.count ≤ 1000001)) }
     ensures generation { IfOk result (λ s. is_generation odd s.generation ≡ true) }
-    ensures found { IfOk result (λ s. IfSome (D.seen disk.old) (λ held. IsScanOf odd held s)) }
-    ensures stands { IfOk result (λ _. (held : List ℕ) (w : Written) → D.seen disk.old ≡ Some held → found_on odd held ≡ Open w → IfSome (D.seen disk.new) (λ after. Stands odd after w)) }
-    ensures durable { IfOk result (λ _. IfSome (D.seen disk.new) (λ after. Only after (LeftNow D.moment D.left_at disk.new))) }
-    ensures why { IfErr result (λ why. IfSome (D.seen disk.old) (λ held. IsWhyOf odd held why)) }
-    ensures kept { IfErr result (λ why. IsKept why → D.seen disk.new ≡ D.seen disk.old) }
-    ensures absent { result ≡ Err OpenWhy.Absent → IfSome (D.seen disk.new) (λ after. IsUnshut after → ⊥) }
-    ensures at_rest { IfErr result (λ why. IsAtRest why → IfSome (D.seen disk.new) (λ after. Only after (LeftNow D.moment D.left_at disk.new))) }
-    ensures telling { IsSome (D.seen disk.new) ↔ IsSome (D.seen disk.old) }
-    ensures crash { (held : List ℕ) → D.seen disk.old ≡ Some held → Only held (LeftNow D.moment D.left_at disk.old) → LeavesOnly D.moment D.left_at disk.old disk.new (OpenLeaves odd held) }
-    ensures reads { (held after : List ℕ) → D.seen disk.old ≡ Some held → D.seen disk.new ≡ Some after → OpenLeaves odd held after }
-    ensures time { GoesOn D.moment D.left_at disk.old disk.new }
-    ensures cause { CountsOpen result (D.faults disk.old) (D.faults disk.new) }
+    ensures found { IfOk result (λ s. IfSome (D.at disk.old).seen (λ held. IsScanOf odd held s)) }
+    ensures stands { IfOk result (λ _. (held : List ℕ) (w : Written)
+        → (D.at disk.old).seen ≡ Some held → found_on odd held ≡ Open w
+        → IfSome (D.at disk.new).seen (λ after. Stands odd after w)) }
+    ensures durable { IfOk result (λ _. IfSome (D.at disk.new).seen
+        (λ after. Only after (LeftNow D.at disk.new))) }
+    ensures why { IfErr result (λ why. IfSome (D.at disk.old).seen (λ held. IsWhyOf odd held why)) }
+    ensures kept { IfErr result (λ why. IsKept why → (D.at disk.new).seen ≡ (D.at disk.old).seen) }
+    ensures absent { result ≡ Err OpenWhy.Absent
+        → IfSome (D.at disk.new).seen (λ after. IsUnshut after → ⊥) }
+    ensures at_rest { IfErr result (λ why. IsAtRest why
+        → IfSome (D.at disk.new).seen (λ after. Only after (LeftNow D.at disk.new))) }
+    ensures telling { IsSome (D.at disk.new).seen ↔ IsSome (D.at disk.old).seen }
+    ensures crash { (held : List ℕ) → (D.at disk.old).seen ≡ Some held
+        → Only held (LeftNow D.at disk.old)
+        → LeavesOnly D.at disk.old disk.new (OpenLeaves odd held) }
+    ensures reads { (held after : List ℕ) → (D.at disk.old).seen ≡ Some held
+        → (D.at disk.new).seen ≡ Some after → OpenLeaves odd held after }
+    ensures time { GoesOn D.at disk.old disk.new }
+    ensures cause { CountsOpen result (D.at disk.old).faults (D.at disk.new).faults }
 {
     match disk.sync() {
         Ok(()) => {}

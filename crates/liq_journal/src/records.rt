@@ -5,7 +5,7 @@ ghost use Rattle.liq_types.specs.declared.requests.Command.{Command};
 ghost use Rattle.liq_journal.specs.Bodies.{IsBodyFault};
 ghost use Rattle.liq_journal.specs.Causes.{CountsLook};
 ghost use Rattle.liq_journal.specs.Counted.{AreRecords, IsFaultIn};
-ghost use Rattle.liq_journal.specs.Looked.{Looked};
+ghost use Rattle.liq_outside.specs.Disk.{Looked};
 ghost use Rattle.liq_journal.specs.Parts.{IsPartOf};
 ghost use Rattle.liq_journal.specs.Crash.{IsBodyOf};
 ghost use Rattle.liq_journal.specs.Tested.{IsBodyRead, IsFaultOf, IsFaultRead, IsTested};
@@ -75,12 +75,14 @@ fn read_record<D: Disk>(
     place: u64,
 ) -> Result<Option<[u8; 96]>, LookFault>
     requires limit { place < 2 ^ 40 }
-    requires part { IfSome (D.seen disk.old) (IsPartOf block.old) }
-    ensures part { IfSome (D.seen disk.new) (IsPartOf block.new) }
-    ensures looked { Looked D.seen D.moment D.left_at disk.old disk.new }
-    ensures tested { IfOk result (λ body. IfSome (D.seen disk.old) (λ held. IsTested generation index place held body)) }
-    ensures fault { IfErr result (λ why. IfSome (D.seen disk.old) (λ held. IsFaultOf generation index place held why)) }
-    ensures cause { CountsLook result (D.faults disk.old) (D.faults disk.new) }
+    requires part { IfSome (D.at disk.old).seen (IsPartOf block.old) }
+    ensures part { IfSome (D.at disk.new).seen (IsPartOf block.new) }
+    ensures looked { Looked D.at disk.old disk.new }
+    ensures tested { IfOk result (λ body. IfSome (D.at disk.old).seen
+        (λ held. IsTested generation index place held body)) }
+    ensures fault { IfErr result (λ why. IfSome (D.at disk.old).seen
+        (λ held. IsFaultOf generation index place held why)) }
+    ensures cause { CountsLook result (D.at disk.old).faults (D.at disk.new).faults }
 {
     let mut bytes = [0; 129];
     let count = match block.copy(disk, place, &mut bytes) {
@@ -118,11 +120,13 @@ pub fn read_body<D: Disk>(
     place: u64,
 ) -> Result<[u8; 96], LookFault>
     requires { place < 2 ^ 40 }
-    ensures looked { Looked D.seen D.moment D.left_at disk.old disk.new }
+    ensures looked { Looked D.at disk.old disk.new }
     ensures command { IfOk result (λ body. (command : Command) × IsBodyOf body command) }
     ensures damaged { IfErr result (IsBodyFault generation index (place + 1)) }
-    ensures told { IfSome (D.seen disk.old) (λ held. place + 129 ≤ length held → MatchResult result (IsBodyRead generation index (place + 1) held) (IsFaultRead generation index (place + 1) held)) }
-    ensures cause { CountsLook result (D.faults disk.old) (D.faults disk.new) }
+    ensures told { IfSome (D.at disk.old).seen (λ held. place + 129 ≤ length held
+        → MatchResult result (IsBodyRead generation index (place + 1) held)
+        (IsFaultRead generation index (place + 1) held)) }
+    ensures cause { CountsLook result (D.at disk.old).faults (D.at disk.new).faults }
 {
     let mut bytes = [0; 128];
     match read_at(disk, place + 1, &mut bytes) {
@@ -146,13 +150,15 @@ pub fn read_command<D: Disk>(
     place: u64,
 ) -> Result<Command, LookFault>
     requires limit { place < 2 ^ 40 }
-    requires part { IfSome (D.seen disk.old) (IsPartOf block.old) }
-    ensures part { IfSome (D.seen disk.new) (IsPartOf block.new) }
-    ensures looked { Looked D.seen D.moment D.left_at disk.old disk.new }
+    requires part { IfSome (D.at disk.old).seen (IsPartOf block.old) }
+    ensures part { IfSome (D.at disk.new).seen (IsPartOf block.new) }
+    ensures looked { Looked D.at disk.old disk.new }
     ensures command { IfOk result (λ command. (body : List ℕ) × IsBodyOf body command) }
     ensures damaged { IfErr result (IsBodyFault generation index (place + 1)) }
-    ensures told { IfSome (D.seen disk.old) (λ held. place + 129 ≤ length held → MatchResult result (IsBodyOf (piece (place + 1) 96 held)) (IsFaultRead generation index (place + 1) held)) }
-    ensures cause { CountsLook result (D.faults disk.old) (D.faults disk.new) }
+    ensures told { IfSome (D.at disk.old).seen (λ held. place + 129 ≤ length held
+        → MatchResult result (IsBodyOf (piece (place + 1) 96 held))
+        (IsFaultRead generation index (place + 1) held)) }
+    ensures cause { CountsLook result (D.at disk.old).faults (D.at disk.new).faults }
 {
     let mut bytes = [0; 128];
     match block.copy(disk, place + 1, &mut bytes) {
@@ -170,11 +176,13 @@ pub fn read_command<D: Disk>(
 // tested; or the first fault of them.
 pub fn count_records<D: Disk>(disk: &mut D, generation: u64, start: u64) -> Result<u64, LookFault>
     requires { start ≤ start_most }
-    ensures looked { Looked D.seen D.moment D.left_at disk.old disk.new }
+    ensures looked { Looked D.at disk.old disk.new }
     ensures most { IfOk result (λ count. count ≤ 1000001) }
-    ensures counted { IfOk result (λ count. IfSome (D.seen disk.old) (λ held. AreRecords generation start held count)) }
-    ensures fault { IfErr result (λ why. IfSome (D.seen disk.old) (λ held. IsFaultIn generation start held why)) }
-    ensures cause { CountsLook result (D.faults disk.old) (D.faults disk.new) }
+    ensures counted { IfOk result (λ count. IfSome (D.at disk.old).seen
+        (λ held. AreRecords generation start held count)) }
+    ensures fault { IfErr result (λ why. IfSome (D.at disk.old).seen
+        (λ held. IsFaultIn generation start held why)) }
+    ensures cause { CountsLook result (D.at disk.old).faults (D.at disk.new).faults }
 {
     let mut block = Block::new();
     for count in 0..1_000_001 {

@@ -63,7 +63,8 @@ impl Reader {
 
     /// The first byte that was taken and is unread.
     fn pop(&mut self) -> Option<u8>
-        ensures byte { MatchOption result ((self.old ≡ []) × (self.new ≡ [])) (λ byte. self.old ≡ byte ∷ self.new) }
+        ensures byte { MatchOption result ((self.old ≡ []) × (self.new ≡ []))
+            (λ byte. self.old ≡ byte ∷ self.new) }
         ensures held { length self.old ≤ READ_BYTES }
     {
         if self.start == self.end {
@@ -77,11 +78,13 @@ impl Reader {
     /// Takes the next bytes of the source. Where there are none after it, the source is at its end.
     fn refill<S: Source>(&mut self, input: &mut S) -> Result<(), Failed>
         requires { self.old ≡ [] }
-        ensures same { Reads (unread self.old (S.left input.old)) [] (unread self.new (S.left input.new)) }
-        ensures over { OnOk result (self.new ≡ [] → IsOver (unread self.new (S.left input.new))) }
+        ensures same { Reads (unread self.old (S.at input.old).left) []
+            (unread self.new (S.at input.new).left) }
+        ensures over { OnOk result
+            (self.new ≡ [] → IsOver (unread self.new (S.at input.new).left)) }
         ensures failed { OnErr result (self.new ≡ []) }
         ensures held { length self.new ≤ READ_BYTES }
-        ensures cause { HasCause (S.faults input.old) (S.faults input.new) result }
+        ensures cause { HasCause (S.at input.old).faults (S.at input.new).faults result }
     {
         let count = input.read(&mut self.chunk)?;
         self.start = 0;
@@ -91,17 +94,24 @@ impl Reader {
 
     /// The next byte, or none at the source's end.
     pub fn next_byte<S: Source>(&mut self, input: &mut S) -> Result<Option<u8>, Failed>
-        ensures byte { IfOk result (λ found. MatchOption found
-            (Reads (unread self.old (S.left input.old)) [] (unread self.new (S.left input.new)) × IsOver (unread self.new (S.left input.new)))
-            (λ byte. Reads (unread self.old (S.left input.old)) (byte ∷ []) (unread self.new (S.left input.new)))) }
-        ensures failed { OnErr result (Reads (unread self.old (S.left input.old)) [] (unread self.new (S.left input.new)) × (self.new ≡ [])) }
+        ensures byte { IfOk result
+            (λ found. MatchOption found
+            (Reads (unread self.old (S.at input.old).left) []
+            (unread self.new (S.at input.new).left)
+            × IsOver (unread self.new (S.at input.new).left))
+            (λ byte. Reads (unread self.old (S.at input.old).left) (byte ∷ [])
+            (unread self.new (S.at input.new).left))) }
+        ensures failed { OnErr result
+            (Reads (unread self.old (S.at input.old).left) []
+            (unread self.new (S.at input.new).left) × (self.new ≡ [])) }
         // A byte that was taken already is given without reading.
         ensures taken { (byte : ℕ) (rest : List ℕ) → self.old ≡ byte ∷ rest
             → (result ≡ Ok (Some byte)) × (self.new ≡ rest) × (input.new ≡ input.old) }
         // No more is held than one read asks for, the byte that is given counted with it.
         ensures held { length self.new ≤ READ_BYTES }
-        ensures held_with { IfOk result (λ found. IfSome found (λ byte. length (byte ∷ self.new) ≤ READ_BYTES)) }
-        ensures cause { HasCause (S.faults input.old) (S.faults input.new) result }
+        ensures held_with { IfOk result
+            (λ found. IfSome found (λ byte. length (byte ∷ self.new) ≤ READ_BYTES)) }
+        ensures cause { HasCause (S.at input.old).faults (S.at input.new).faults result }
     {
         if let Some(byte) = self.pop() {
             return Ok(Some(byte));
@@ -118,15 +128,17 @@ impl Reader {
         line: &mut Vec<u8>,
     ) -> Result<LineEnd, Failed>
         requires { LINE_BYTES ≤ vec_capacity line.old }
-        ensures line { ReadsLine (unread self.old (S.left input.old)) line.new.items (unread self.new (S.left input.new)) self.new result }
+        ensures line { ReadsLine (unread self.old (S.at input.old).left) line.new.items
+            (unread self.new (S.at input.new).left) self.new result }
         ensures short { length line.new.items ≤ LINE_BYTES }
         // A line and its line end, or one byte past the limit.
-        ensures few { ReadsAtMost (LINE_BYTES + 1) (unread self.old (S.left input.old)) (unread self.new (S.left input.new)) }
+        ensures few { ReadsAtMost (LINE_BYTES + 1) (unread self.old (S.at input.old).left)
+            (unread self.new (S.at input.new).left) }
         ensures held { length self.new ≤ READ_BYTES }
         // A line whose line end was taken is given without reading.
         ensures taken { Contains self.old LINE_END → IsOk result × (input.new ≡ input.old) }
         ensures capacity { vec_capacity line.new ≡ vec_capacity line.old }
-        ensures cause { HasCause (S.faults input.old) (S.faults input.new) result }
+        ensures cause { HasCause (S.at input.old).faults (S.at input.new).faults result }
     {
         if self.take_line(line) {
             return Ok(LineEnd::Ended);
@@ -165,7 +177,8 @@ impl Reader {
     /// Takes the next line whole, where it was taken from the source to its line end and is no longer than a line may be.
     fn take_line(&mut self, line: &mut Vec<u8>) -> bool
         requires { LINE_BYTES ≤ vec_capacity line.old }
-        ensures taken { IsTrue result → (self.old ≡ line.new.items ++ LINE_END ∷ self.new) × IsWithinLine line.new.items
+        ensures taken { IsTrue result
+            → (self.old ≡ line.new.items ++ LINE_END ∷ self.new) × IsWithinLine line.new.items
             × (length line.new.items ≤ LINE_BYTES) }
         ensures held { IsTrue result → length self.new ≤ READ_BYTES }
         ensures left { IsFalse result → self.new ≡ self.old }
@@ -184,12 +197,13 @@ impl Reader {
     /// The next line, byte by byte.
     fn read_line<S: Source>(&mut self, input: &mut S, line: &mut Vec<u8>) -> Result<LineEnd, Failed>
         requires { LINE_BYTES ≤ vec_capacity line.old }
-        ensures line { ReadsLine (unread self.old (S.left input.old)) line.new.items (unread self.new (S.left input.new)) self.new result }
+        ensures line { ReadsLine (unread self.old (S.at input.old).left) line.new.items
+            (unread self.new (S.at input.new).left) self.new result }
         ensures short { length line.new.items ≤ LINE_BYTES }
         ensures held { length self.new ≤ READ_BYTES }
         ensures taken { Contains self.old LINE_END → IsOk result × (input.new ≡ input.old) }
         ensures capacity { vec_capacity line.new ≡ vec_capacity line.old }
-        ensures cause { HasCause (S.faults input.old) (S.faults input.new) result }
+        ensures cause { HasCause (S.at input.old).faults (S.at input.new).faults result }
     {
         line.clear();
         for _length in 0..LINE_BYTES {

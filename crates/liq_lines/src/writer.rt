@@ -8,10 +8,10 @@ use liq_outside::{Failed, Sink};
 
 /// Writes all of the bytes, in as many calls as the sink wants.
 pub fn write_all<K: Sink>(out: &mut K, bytes: &[u8]) -> Result<(), Failed>
-    ensures ok { OnOk result (Writes (K.held out.old) bytes.now (K.held out.new)) }
-    ensures err { OnErr result (WritesPart (K.held out.old) bytes.now (K.held out.new)) }
-    ensures cause { HasCause (K.faults out.old) (K.faults out.new) result }
-    ensures unshown { K.shown out.new ≡ K.shown out.old }
+    ensures ok { OnOk result (Writes (K.at out.old).held bytes.now (K.at out.new).held) }
+    ensures err { OnErr result (WritesPart (K.at out.old).held bytes.now (K.at out.new).held) }
+    ensures cause { HasCause (K.at out.old).faults (K.at out.new).faults result }
+    ensures unshown { (K.at out.new).shown ≡ (K.at out.old).shown }
 {
     let mut written = 0;
     while written < bytes.len() {

@@ -30,9 +30,10 @@ pub fn tell_load<L: Ledger, K: Sink>(
     requires name { blank.name ≡ L.name }
     requires parts { blank.parts ≡ L.parts }
     requires one { L.parts ≡ 1 }
-    ensures told { TellsAll (summary (load opening (generated seed count))) result (Rose (K.faults out.old) (K.faults out.new)) (K.held out.old) (K.held out.new) }
+    ensures told { TellsAll (summary (load opening (generated seed count))) result
+        (Rose (K.at out.old).faults (K.at out.new).faults) (K.at out.old).held (K.at out.new).held }
     ensures ends { Contains (0 ∷ 4 ∷ 7 ∷ []) (status_of result) }
-    ensures sink { LastCause result (K.faults out.old) (K.faults out.new) }
+    ensures sink { LastCause result (K.at out.old).faults (K.at out.new).faults }
 {
     let mut steps = Steps::<L>::new(blank);
     let end = write_load(alloc, seed, count, out, &mut steps);
@@ -50,8 +51,9 @@ fn write_load<K: Sink, L: Ledger>(
     steps: &mut Steps<L>,
 ) -> Result<(), Halt>
     requires { count ≤ COUNT_MOST }
-    ensures written { WritesLine (summary (load opening (generated seed count))) result (K.held out.old) (K.held out.new) }
-    ensures sink { WriteCause result (K.faults out.old) (K.faults out.new) }
+    ensures written { WritesLine (summary (load opening (generated seed count))) result
+        (K.at out.old).held (K.at out.new).held }
+    ensures sink { WriteCause result (K.at out.old).faults (K.at out.new).faults }
 {
     let line = Load::carried_out(alloc, seed, count, steps)?.line(alloc)?;
     write_text(out, line.as_bytes())

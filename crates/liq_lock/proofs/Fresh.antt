@@ -1,5 +1,5 @@
 -- Seats as they are made, one behind the other.
-use Rattle.std.proofs.Common.{◌≡◌, ℕ, zero, suc, ◌+◌, ◌-◌, ◌<◌, false, ltb, List, [], ◌∷◌, ◌++◌, length, get_or, refl, sym, ap, ap₂, ◌∙◌, subst, length-append, arith}
+use Rattle.std.proofs.Common.{◌≡◌, ℕ, ◌+◌, ◌-◌, ◌<◌, false, ltb, List, [], ◌∷◌, ◌++◌, length, get_or, refl, sym, ap, ap₂, ◌∙◌, subst, length-append, arith}
 use mathlib.Core.Logic.{dite}
 use native.Mathlib.Decide.{dec_lt}
 use Rattle.std.specs.Prelude.{None}
@@ -25,13 +25,6 @@ module _ {I : Type 0} where
       let last : j ≡ length seats = omega arith in
       let here : seat ≡ get_or (seats ++ seat ∷ []) j d = sym (get_or_push seats seat d j (sym last)) in
       subst (λ (z : ℕ × LockSeat I). IsFresh id z.0 z.1) (λ i. ((let e : k ≡ j + 2 = omega arith in e) i, here i)) one)
-
-  -- and the first in front of them
-  pub all_fresh : (id : TableId) (seats : List (LockSeat I)) (seat : LockSeat I) → Later id seats → IsFresh id 1 seat → AreFresh id (seat ∷ seats)
-  all_fresh id seats seat later first zero d below = first
-  all_fresh id seats seat later first (suc j) d below =
-      let next : j + 2 ≡ suc j + 1 = omega arith in
-      subst (λ (n : ℕ). IsFresh id n (get_or seats j d)) next (later j d (omega (arith, below)))
 
   -- the first view before any split
   pub none_dealt : (n : ℕ) → opener {I = I} n ≡ dealer 2 n

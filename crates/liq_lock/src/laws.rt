@@ -12,6 +12,7 @@ use atomic_table::TableRule;
 
 /// The rule of the lock's table, which holds between any two atomic steps, says the ten sentences.
 pub fn rule_in_sentences<T: Chronicle>()
-    ensures { (n : ℕ) (s : State (Option T) (View T.Item)) → ⟦<Turns as TableRule<Option<T>, View<T::Item>, u32>>⟧.holds n s
+    ensures { (n : ℕ) (s : State (Option T) (View T.Item))
+        → ⟦<Turns as TableRule<Option<T>, View<T::Item>, u32>>⟧.holds n s
         → Sentences T.history T.maker n s }
 {}

@@ -25,7 +25,8 @@ const ITEMS: usize = 2;
 pub struct Lock<T: Chronicle> {
     pub(crate) table: Table<Option<T>, View<T::Item>, u32, Turns, Global>,
     pub(crate) seats: u32,
-    pub ghost sized: { (table.shared.table_id.words ≡ 3) × (table.shared.table_id.slots ≡ 1) × (table.shared.key ≡ seats) × (0 < seats) },
+    pub ghost sized: { (table.shared.table_id.words ≡ 3) × (table.shared.table_id.slots ≡ 1)
+        × (table.shared.key ≡ seats) × (0 < seats) },
 }
 
 // Written out, so that who lets a lock go need not look inside it.

@@ -3,7 +3,7 @@ use Rattle.std.proofs.Common.{◌≡◌, ◌⊎◌, inl, inr, ℕ, suc, ◌+◌,
 use Rattle.std.proofs.lemmas.List.{take_at, drop_at, drop-drop, map-append, reverse-append, length-reverse, length-map}
 use Rattle.liq_outside.specs.Calls.{Calls, begun, faulted}
 use Rattle.liq_outside.specs.Disk.{Torn, overwritten, Follows, Reaches, Within, LeftNow, Elapses, Only}
-use Rattle.liq_outside.specs.DiskInMemory.{Step, Wrote, Tried, Synced, Roomy, DiskInMemory, MayBeLeft, WasLeft, AreWrites, undone, undone_all, moment_of, left_by, IsNoted, after_disk_write, after_failed_disk_write, after_sync}
+use Rattle.liq_outside.specs.DiskInMemory.{Step, Wrote, Tried, Synced, Roomy, DiskInMemory, MayBeLeft, WasLeft, AreWrites, undone, undone_all, disk_at, IsNoted, after_disk_write, after_failed_disk_write, after_sync}
 use Rattle.liq_outside.specs.Staying.{torn_nothing, stays, left_now, is_left_now}
 use Rattle.liq_outside.specs.Made.{step_of, steps_of, IsNotedIn}
 use Rattle.liq_outside.specs.declared.made.Made.{Made}
@@ -65,7 +65,7 @@ module _ (held after : List ℕ) (steps : List Step) (step : Step) (back : undon
 
 -- one step of a disk takes time
 module _ (old new : Roomy) where
-  pub elapses_still : new.disk.held ≡ old.disk.held → new.disk.steps ≡ old.disk.steps → Elapses moment_of left_by old new
+  pub elapses_still : new.disk.held ≡ old.disk.held → new.disk.steps ≡ old.disk.steps → Elapses disk_at old new
   elapses_still held steps = record {
     goes_on = record {
       later = omega (arith, ap length steps);
@@ -75,7 +75,7 @@ module _ (old new : Roomy) where
     within = λ k image from to left. let now : k ≡ length new.disk.steps = omega (arith, from, to, ap length steps) in inr (subst (λ (n : ℕ). WasLeft new.disk.held new.disk.steps n image) now left);
   }
 
-  pub elapses_step : (step : Step) → new.disk.steps ≡ step ∷ old.disk.steps → undone new.disk.held step ≡ old.disk.held → Elapses moment_of left_by old new
+  pub elapses_step : (step : Step) → new.disk.steps ≡ step ∷ old.disk.steps → undone new.disk.held step ≡ old.disk.held → Elapses disk_at old new
   elapses_step step steps back =
       let stepped : (k : ℕ) (image : List ℕ) → WasLeft new.disk.held new.disk.steps k image → WasLeft new.disk.held (step ∷ old.disk.steps) k image = λ k image left. subst (λ (s : List Step). WasLeft new.disk.held s k image) steps left in
       record {
@@ -96,10 +96,10 @@ module _ (old new : Roomy) where
 -- what each call leaves, as a disk sees it
 module _ (old new : Roomy) (at : ℕ) (bytes : List ℕ) where
   abbrev before : List ℕ → Type 0
-  before = LeftNow moment_of left_by old
+  before = LeftNow disk_at old
 
   abbrev after : List ℕ → Type 0
-  after = LeftNow moment_of left_by new
+  after = LeftNow disk_at new
 
   -- a call that left all as it was
   pub same_within : new.disk.held ≡ old.disk.held → new.disk.steps ≡ old.disk.steps → Within after before
@@ -132,7 +132,7 @@ module _ (old new : Roomy) (at : ℕ) (bytes : List ℕ) where
     back_is : undone new.disk.held written ≡ old.disk.held
     back_is = ap (λ (l : List ℕ). undone l written) held_is ∙ undone_write old.disk.held at bytes inside
 
-    pub write_elapses : Elapses moment_of left_by old new
+    pub write_elapses : Elapses disk_at old new
     write_elapses = elapses_step old new written steps_are back_is
 
     pub write_follows : Follows (Torn at (length bytes)) before after
@@ -152,7 +152,7 @@ module _ (old new : Roomy) (at : ℕ) (bytes : List ℕ) where
     tried_held : new.disk.held ≡ old.disk.held
     tried_held = ap (λ (d : DiskInMemory). d.held) is
 
-    pub tried_elapses : Elapses moment_of left_by old new
+    pub tried_elapses : Elapses disk_at old new
     tried_elapses = elapses_step old new (Tried at (length bytes)) tried_steps tried_held
 
     pub tried_follows : Follows (Torn at (length bytes)) before after
@@ -174,7 +174,7 @@ module _ (old new : Roomy) (at : ℕ) (bytes : List ℕ) where
     synced_held : new.disk.held ≡ old.disk.held
     synced_held = ap (λ (d : DiskInMemory). d.held) is
 
-    pub sync_elapses : Elapses moment_of left_by old new
+    pub sync_elapses : Elapses disk_at old new
     sync_elapses = elapses_step old new Synced synced_steps synced_held
 
     pub sync_only : Only old.disk.held after
@@ -184,7 +184,7 @@ module _ (old new : Roomy) (at : ℕ) (bytes : List ℕ) where
     sync_within image left = subst (λ (l : List ℕ). WasLeft old.disk.held old.disk.steps (length old.disk.steps) l) (sym (sync_only image left)) (left_now old.disk.held old.disk.steps old.disk.held (stays old.disk.held old.disk.steps))
 
   -- a write that failed
-  pub failed_elapses : IsNoted old at bytes new.disk → Elapses moment_of left_by old new
+  pub failed_elapses : IsNoted old at bytes new.disk → Elapses disk_at old new
   failed_elapses (inl tried) = tried_elapses tried
   failed_elapses (inr (same, full)) = elapses_still old new (ap (λ (d : DiskInMemory). d.held) same) (ap (λ (d : DiskInMemory). d.steps) same)
 

@@ -1,5 +1,6 @@
 -- What the calls of a disk do to its bytes, and what a crash may leave of them, at each moment.
 use Rattle.std.specs.Prelude.{◌≡◌, ◌⊎◌, ℕ, ◌+◌, ◌≤◌, max, List, ◌++◌, length, take, drop}
+use Rattle.liq_outside.specs.At.{DiskAt}
 
 -- the bytes with these at this place
 abbrev pub overwritten : List ℕ → ℕ → List ℕ → List ℕ
@@ -29,33 +30,47 @@ abbrev pub Only : List ℕ → (List ℕ → Type 0) → Type 0
 Only bytes images = (image : List ℕ) → images image → image ≡ bytes
 
 -- what a crash at this moment may leave
-abbrev pub LeftNow : {D : Type 0} → (D → ℕ) → (D → ℕ → List ℕ → Type 0) → D → List ℕ → Type 0
-LeftNow moment left_at disk image = left_at disk (moment disk) image
+abbrev pub LeftNow : {D : Type 0} → (D → DiskAt) → D → List ℕ → Type 0
+LeftNow at disk image = (at disk).left_at (at disk).moment image
 
 -- what a crash at some moment from that one on may have left
-abbrev pub LeftSince : {D : Type 0} → (D → ℕ) → (D → ℕ → List ℕ → Type 0) → D → ℕ → List ℕ → Type 0
-LeftSince moment left_at disk since image = (k : ℕ) × (since ≤ k) × (k ≤ moment disk) × left_at disk k image
+abbrev pub LeftSince : {D : Type 0} → (D → DiskAt) → D → ℕ → List ℕ → Type 0
+LeftSince at disk since image = (k : ℕ) × (since ≤ k) × (k ≤ (at disk).moment) × (at disk).left_at k image
 
 -- what a crash from one moment to another may have left
-abbrev pub LeftBetween : {D : Type 0} → (D → ℕ → List ℕ → Type 0) → D → ℕ → ℕ → List ℕ → Type 0
-LeftBetween left_at disk from to image = (k : ℕ) × (from ≤ k) × (k ≤ to) × left_at disk k image
+abbrev pub LeftBetween : {D : Type 0} → (D → DiskAt) → D → ℕ → ℕ → List ℕ → Type 0
+LeftBetween at disk from to image = (k : ℕ) × (from ≤ k) × (k ≤ to) × (at disk).left_at k image
 
 -- Time goes on, and what a crash may have left at a past moment stays what it was.
-pub record GoesOn {D : Type 0} (moment : D → ℕ) (left_at : D → ℕ → List ℕ → Type 0) (old new : D) : Type 0 where
-  pub later : moment old ≤ moment new
-  pub past : (k : ℕ) (image : List ℕ) → k ≤ moment old → left_at new k image → left_at old k image
-  pub kept : (k : ℕ) (image : List ℕ) → k ≤ moment old → left_at old k image → left_at new k image
+pub record GoesOn {D : Type 0} (at : D → DiskAt) (old new : D) : Type 0 where
+  pub later : (at old).moment ≤ (at new).moment
+  pub past : (k : ℕ) (image : List ℕ) → k ≤ (at old).moment → (at new).left_at k image → (at old).left_at k image
+  pub kept : (k : ℕ) (image : List ℕ) → k ≤ (at old).moment → (at old).left_at k image → (at new).left_at k image
 
 -- One call: a crash in it leaves what it may leave before it or after it.
-pub record Elapses {D : Type 0} (moment : D → ℕ) (left_at : D → ℕ → List ℕ → Type 0) (old new : D) : Type 0 where
-  pub goes_on : GoesOn moment left_at old new
-  pub within : (k : ℕ) (image : List ℕ) → moment old ≤ k → k ≤ moment new → left_at new k image → LeftNow moment left_at old image ⊎ LeftNow moment left_at new image
+pub record Elapses {D : Type 0} (at : D → DiskAt) (old new : D) : Type 0 where
+  pub goes_on : GoesOn at old new
+  pub within :
+      (k : ℕ) (image : List ℕ)
+      → (at old).moment ≤ k → k ≤ (at new).moment → (at new).left_at k image
+      → LeftNow at old image ⊎ LeftNow at new image
 
--- The law of moments: an image since some moment before the calls was one since then before them, or is one since they began.
-abbrev pub KeepsToItsTime : {D : Type 0} → (D → ℕ) → (D → ℕ → List ℕ → Type 0) → D → D → Type 0
-KeepsToItsTime moment left_at old new = (since : ℕ) (image : List ℕ) → since ≤ moment old → LeftSince moment left_at new since image → LeftSince moment left_at old since image ⊎ LeftSince moment left_at new (moment old) image
+-- The law of moments: an image since some moment before the calls was one since then before them, or is one since they
+-- began.
+abbrev pub KeepsToItsTime : {D : Type 0} → (D → DiskAt) → D → D → Type 0
+KeepsToItsTime at old new =
+    (since : ℕ) (image : List ℕ)
+    → since ≤ (at old).moment → LeftSince at new since image
+    → LeftSince at old since image ⊎ LeftSince at new (at old).moment image
 
 -- A crash at any moment of the calls leaves what has P.
-pub record LeavesOnly {D : Type 0} (moment : D → ℕ) (left_at : D → ℕ → List ℕ → Type 0) (old new : D) (P : List ℕ → Type 0) : Type 0 where
-  pub goes_on : GoesOn moment left_at old new
-  pub each : (image : List ℕ) → LeftSince moment left_at new (moment old) image → P image
+pub record LeavesOnly {D : Type 0} (at : D → DiskAt) (old new : D) (P : List ℕ → Type 0) : Type 0 where
+  pub goes_on : GoesOn at old new
+  pub each : (image : List ℕ) → LeftSince at new (at old).moment image → P image
+
+-- Calls that write nothing: what a read gives stays as it was, and so does what a crash may leave, at each moment.
+pub record Looked {D : Type 0} (at : D → DiskAt) (old new : D) : Type 0 where
+  pub same : (at new).seen ≡ (at old).seen
+  pub within : Within (LeftNow at new) (LeftNow at old)
+  pub keeps : Within (LeftNow at old) (LeftNow at new)
+  pub leaves : LeavesOnly at old new (LeftNow at old)

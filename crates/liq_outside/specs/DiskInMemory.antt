@@ -1,6 +1,7 @@
 -- A disk in memory: its bytes, and what was done to them, by which one goes back to each earlier moment.
-use Rattle.std.specs.Prelude.{◌≡◌, ◌⊎◌, ℕ, ◌+◌, ◌-◌, ◌<◌, ◌≤◌, List, [], ◌∷◌, ◌++◌, Result, length, take, drop}
+use Rattle.std.specs.Prelude.{◌≡◌, ◌⊎◌, ℕ, ◌+◌, ◌-◌, ◌<◌, ◌≤◌, List, [], ◌∷◌, ◌++◌, Some, Result, length, take, drop}
 use Rattle.std.specs.Result.{MatchResult}
+use Rattle.liq_outside.specs.At.{DiskAt}
 use Rattle.liq_outside.specs.Calls.{Calls, begun, faulted}
 use Rattle.liq_outside.specs.Disk.{Torn, overwritten}
 
@@ -117,13 +118,14 @@ pub record Roomy : Type 0 where
   pub disk : DiskInMemory
   pub room : ℕ
 
--- the moment
-abbrev pub moment_of : Roomy → ℕ
-moment_of d = length d.disk.steps
-
--- what a crash at a moment may have left
-abbrev pub left_by : Roomy → ℕ → List ℕ → Type 0
-left_by d k image = WasLeft d.disk.held d.disk.steps k image
+-- as a disk: its moment is the number of steps
+abbrev pub disk_at : Roomy → DiskAt
+disk_at d = record {
+  seen = Some d.disk.held;
+  moment = length d.disk.steps;
+  left_at = WasLeft d.disk.held d.disk.steps;
+  faults = d.disk.calls.faults;
+}
 
 -- a write that failed is noted, unless there was no room for the note
 abbrev pub IsNoted : Roomy → ℕ → List ℕ → DiskInMemory → Type 0

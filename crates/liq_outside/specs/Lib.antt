@@ -1,4 +1,5 @@
 pub mod Adapters
+pub mod At
 pub mod Calls
 pub mod Devices
 pub mod Disk

@@ -1,4 +1,5 @@
-use Rattle.std.specs.Prelude.{ℕ, Option, List, ◌++◌, drop, length, min}
+use Rattle.std.specs.Prelude.{ℕ, Option, Some, List, ◌++◌, drop, length, min}
+use Rattle.liq_outside.specs.At.{SinkAt, SourceAt}
 use Rattle.liq_outside.specs.Calls.{Calls, begun, faulted}
 use Rattle.liq_outside.specs.declared.showing.Showing.{Showing}
 
@@ -9,6 +10,10 @@ pub record SourceInMemory : Type 0 where
   -- the most that one read takes
   pub chunk : ℕ
   pub calls : Calls
+
+-- as a source
+abbrev pub source_at : SourceInMemory → SourceAt
+source_at source = record { left = Some source.left; faults = source.calls.faults }
 
 -- how many bytes a read into a buffer of this length takes
 abbrev pub count_taken : SourceInMemory → ℕ → ℕ
@@ -29,6 +34,10 @@ pub record SinkInMemory : Type 0 where
   -- each time that it was shown two disks, while there was memory for that
   pub shown : Option (List Showing)
   pub calls : Calls
+
+-- as a sink
+abbrev pub sink_at : SinkInMemory → SinkAt
+sink_at sink = record { held = Some sink.held; shown = sink.shown; faults = sink.calls.faults }
 
 -- after a write of all the bytes
 abbrev pub after_write : SinkInMemory → List ℕ → SinkInMemory

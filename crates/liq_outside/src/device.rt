@@ -27,8 +27,10 @@ pub trait Device {
     /// device ends there.
     fn read_some(&mut self, at: u64, buf: &mut [u8]) -> Result<usize, Failed>
         ensures fits { IfOk result (λ n. n ≤ length buf.old) }
-        ensures told { IfOk result (λ n. IfSome (held self.old) (λ old. (n ≤ length old - at) × (take n buf.new ≡ take n (drop at old)))) }
-        ensures end { result ≡ Ok 0 → 0 < length buf.old → IfSome (held self.old) (λ old. length old ≤ at) }
+        ensures told { IfOk result (λ n. IfSome (held self.old)
+            (λ old. (n ≤ length old - at) × (take n buf.new ≡ take n (drop at old)))) }
+        ensures end { result ≡ Ok 0 → 0 < length buf.old
+            → IfSome (held self.old) (λ old. length old ≤ at) }
         ensures same { held self.new ≡ held self.old }
         ensures kept { synced self.new ≡ synced self.old }
         ensures counted { TellsFailure result (failures self.old) (failures self.new) };
@@ -39,7 +41,8 @@ pub trait Device {
         requires limit { at + length bytes.now ≤ 2 ^ 40 }
         ensures fits { IfOk result (λ n. n ≤ length bytes.now) }
         ensures some { 0 < length bytes.now → IfOk result (λ n. 0 < n) }
-        ensures written { IfOk result (λ n. (old : List ℕ) → held self.old ≡ Some old → at ≤ length old → held self.new ≡ Some (overwritten old at (take n bytes.now))) }
+        ensures written { IfOk result (λ n. (old : List ℕ) → held self.old ≡ Some old
+            → at ≤ length old → held self.new ≡ Some (overwritten old at (take n bytes.now))) }
         ensures telling { is_some (held self.new) ≡ is_some (held self.old) }
         ensures kept { synced self.new ≡ synced self.old }
         ensures counted { TellsFailure result (failures self.old) (failures self.new) };

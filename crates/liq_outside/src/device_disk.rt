@@ -49,19 +49,15 @@ impl<V: Device> DeviceDisk<V> {
 impl<V: Device> Ours for DeviceDisk<V> {}
 
 impl<V: Device> Disk for DeviceDisk<V> {
-    ghost seen = { λ _. None };
-
-    ghost moment = { λ _. 0 };
-
-    ghost left_at = { λ _ _ image. AnyImage image };
-
-    ghost faults = { λ d. d.faults };
+    ghost at = { λ d. record { seen = None; moment = 0; left_at = λ _ image. AnyImage image; faults = d.faults } };
 
     ghost seen_may_stay = { λ disk held is. tt };
 
     fn length(&mut self) -> Result<u64, Failed>
-        ensures told { IfOk result (λ n. IfSome (option_and_then V.held self.old.device) (λ old. n ≡ length old)) }
-        ensures same { option_and_then V.held self.new.device ≡ option_and_then V.held self.old.device }
+        ensures told { IfOk result (λ n. IfSome (option_and_then V.held self.old.device)
+            (λ old. n ≡ length old)) }
+        ensures same { option_and_then V.held self.new.device
+            ≡ option_and_then V.held self.old.device }
         ensures called { IsCall V.failures self.old self.new result }
         ensures cause { HasCause self.old.faults self.new.faults result }
     {
@@ -72,38 +68,46 @@ impl<V: Device> Disk for DeviceDisk<V> {
         counted(&mut self.faults, answer)
     }
 
-    fn read_at(&mut self, at: u64, buf: &mut [u8]) -> Result<usize, Failed>
+    fn read_at(&mut self, place: u64, buf: &mut [u8]) -> Result<usize, Failed>
         ensures fits { IfOk result (λ n. n ≤ length buf.old) }
         // As far as places go.
-        ensures told { at + length buf.old ≤ 2 ^ 64 → IfOk result (λ n. IfSome (option_and_then V.held self.old.device) (λ old. (n ≡ min (length buf.old) (length old - at)) × (take n buf.new ≡ take n (drop at old)))) }
-        ensures same { option_and_then V.held self.new.device ≡ option_and_then V.held self.old.device }
+        ensures told { place + length buf.old ≤ 2 ^ 64
+            → IfOk result (λ n. IfSome (option_and_then V.held self.old.device) (λ old.
+            (n ≡ min (length buf.old) (length old - place))
+            × (take n buf.new ≡ take n (drop place old)))) }
+        ensures same { option_and_then V.held self.new.device
+            ≡ option_and_then V.held self.old.device }
         ensures called { IsCall V.failures self.old self.new result }
         ensures cause { HasCause self.old.faults self.new.faults result }
     {
         let answer = match &mut self.device {
-            Some(device) => filled(device, at, buf),
+            Some(device) => filled(device, place, buf),
             None => Err(Failed),
         };
         counted(&mut self.faults, answer)
     }
 
-    fn write_at(&mut self, at: u64, bytes: &[u8]) -> Result<(), Failed>
-        requires limit { at + length bytes.now ≤ 2 ^ 40 }
-        ensures written { OnOk result ((old : List ℕ) → option_and_then V.held self.old.device ≡ Some old → at ≤ length old → option_and_then V.held self.new.device ≡ Some (overwritten old at bytes.now)) }
-        ensures crash { Follows (Torn at (length bytes.now)) AnyImage AnyImage }
+    fn write_at(&mut self, place: u64, bytes: &[u8]) -> Result<(), Failed>
+        requires limit { place + length bytes.now ≤ 2 ^ 40 }
+        ensures written { OnOk result ((old : List ℕ)
+            → option_and_then V.held self.old.device ≡ Some old → place ≤ length old
+            → option_and_then V.held self.new.device ≡ Some (overwritten old place bytes.now)) }
+        ensures crash { Follows (Torn place (length bytes.now)) AnyImage AnyImage }
         ensures called { IsCall V.failures self.old self.new result }
         ensures cause { HasCause self.old.faults self.new.faults result }
     {
         let answer = match &mut self.device {
-            Some(device) => written(device, at, bytes),
+            Some(device) => written(device, place, bytes),
             None => Err(Failed),
         };
         counted(&mut self.faults, answer)
     }
 
     fn sync(&mut self) -> Result<(), Failed>
-        ensures synced { OnOk result (option_and_then V.synced self.new.device ≡ option_and_then V.held self.old.device) }
-        ensures same { option_and_then V.held self.new.device ≡ option_and_then V.held self.old.device }
+        ensures synced { OnOk result (option_and_then V.synced self.new.device
+            ≡ option_and_then V.held self.old.device) }
+        ensures same { option_and_then V.held self.new.device
+            ≡ option_and_then V.held self.old.device }
         ensures called { IsCall V.failures self.old self.new result }
         ensures cause { HasCause self.old.faults self.new.faults result }
     {
@@ -141,7 +145,10 @@ fn counted<T>(faults: &mut u64, answer: Result<T, Failed>) -> Result<T, Failed>
 // One read may give less than there is, so it goes on until the buffer is full or the device ends.
 fn filled<V: Device>(device: &mut V, at: u64, buf: &mut [u8]) -> Result<usize, Failed>
     ensures fits { IfOk result (λ n. n ≤ length buf.old) }
-    ensures told { at + length buf.old ≤ 2 ^ 64 → IfOk result (λ n. IfSome (V.held device.old) (λ old. (n ≡ min (length buf.old) (length old - at)) × (take n buf.new ≡ take n (drop at old)))) }
+    ensures told { at + length buf.old ≤ 2 ^ 64
+        → IfOk result (λ n. IfSome (V.held device.old) (λ old.
+        (n ≡ min (length buf.old) (length old - at))
+        × (take n buf.new ≡ take n (drop at old)))) }
     ensures same { V.held device.new ≡ V.held device.old }
     ensures kept { V.synced device.new ≡ V.synced device.old }
     ensures counted { TellsFailure result (V.failures device.old) (V.failures device.new) }
@@ -160,7 +167,8 @@ fn filled<V: Device>(device: &mut V, at: u64, buf: &mut [u8]) -> Result<usize, F
 // One write may take less than it is given, so it goes on behind what was taken.
 fn written<V: Device>(device: &mut V, at: u64, bytes: &[u8]) -> Result<(), Failed>
     requires { at + length bytes.now ≤ 2 ^ 40 }
-    ensures written { OnOk result ((old : List ℕ) → V.held device.old ≡ Some old → at ≤ length old → V.held device.new ≡ Some (overwritten old at bytes.now)) }
+    ensures written { OnOk result ((old : List ℕ) → V.held device.old ≡ Some old → at ≤ length old
+        → V.held device.new ≡ Some (overwritten old at bytes.now)) }
     ensures telling { is_some (V.held device.new) ≡ is_some (V.held device.old) }
     ensures kept { V.synced device.new ≡ V.synced device.old }
     ensures counted { TellsFailure result (V.failures device.old) (V.failures device.new) }

@@ -19,7 +19,8 @@ impl DeviceDisk<File> {
     /// The disk of this file, or of none. A file that stands in the place of a standard stream is none: what the program writes to
     /// that stream would be written over its bytes.
     pub fn new(file: Option<File>) -> Self
-        ensures taken { (f : File) → file ≡ Some f → pos 3 ≤ℤ file_raw_fd f → result.device ≡ Some f }
+        ensures taken { (f : File) → file ≡ Some f → pos 3 ≤ℤ file_raw_fd f
+            → result.device ≡ Some f }
         ensures apart { IfSome result.device (λ f. (file ≡ Some f) × (pos 3 ≤ℤ file_raw_fd f)) }
         ensures faults { result.faults ≡ 0 }
     {

@@ -25,10 +25,12 @@ pub fn overwrite(
     requires inside { at ≤ length held.old.items }
     requires limit { at + length bytes.now ≤ 2 ^ 40 }
     ensures written { OnOk result (held.new.items ≡ overwritten held.old.items at bytes.now) }
-    ensures noted { OnOk result (IsNotedIn made.old.items made.new.items (Wrote at (length bytes.now) (take (length bytes.now) (drop at held.old.items)))) }
+    ensures noted { OnOk result (IsNotedIn made.old.items made.new.items
+        (Wrote at (length bytes.now) (take (length bytes.now) (drop at held.old.items)))) }
     ensures not_written { OnErr result (held.new.items ≡ held.old.items) }
     ensures not_noted { OnErr result (made.new.items ≡ made.old.items) }
-    ensures full { OnErr result ((0 < length bytes.now) ⊎ (vec_capacity made.old ≤ length made.old.items)) }
+    ensures full { OnErr result ((0 < length bytes.now)
+        ⊎ (vec_capacity made.old ≤ length made.old.items)) }
 {
     let len = held.len();
     let stop = len.min(at + bytes.len());
@@ -58,7 +60,8 @@ fn replace(held: &mut Vec<u8>, at: usize, bytes: &[u8])
 
 // Notes a write that failed, where there is room for the note.
 pub fn note_try(made: &mut Vec<Made>, at: usize, count: usize)
-    ensures { IsNotedIn made.old.items made.new.items (Tried at count) ⊎ ((made.new.items ≡ made.old.items) × (vec_capacity made.old ≤ length made.old.items)) }
+    ensures { IsNotedIn made.old.items made.new.items (Tried at count)
+        ⊎ ((made.new.items ≡ made.old.items) × (vec_capacity made.old ≤ length made.old.items)) }
 {
     let _ = note(made, Made::Tried(at, count));
 }

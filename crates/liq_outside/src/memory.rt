@@ -1,8 +1,8 @@
 // A source and a sink in memory, whose calls fail where they are told to.
-ghost use Rattle.std.specs.Prelude.{◌≡◌, ◌≤◌, ◌<◌, ◌↔◌, ◌⊎◌, ◌++◌, [], Some, length, take, drop, IfOk, OnOk, OnErr, IsErr};
+ghost use Rattle.std.specs.Prelude.{◌≡◌, ◌≤◌, ◌<◌, ◌↔◌, ◌⊎◌, ◌++◌, [], Some, is_some, length, take, drop, IfOk, OnOk, OnErr, IsErr};
 ghost use Rattle.liq_outside.specs.Calls.{FailsNext, not_begun};
 ghost use Rattle.liq_outside.specs.Faults.{HasCause};
-ghost use Rattle.liq_outside.specs.Memory.{after_failed_read, after_failed_write, after_read, after_write, count_taken};
+ghost use Rattle.liq_outside.specs.Memory.{after_failed_read, after_failed_write, after_read, after_write, count_taken, sink_at, source_at};
 ghost use Rattle.liq_outside.specs.Showings.{Notes};
 
 use super::disk::Disk;
@@ -71,9 +71,7 @@ impl MemorySource {
 }
 
 impl Source for MemorySource {
-    ghost left = { λ s. Some s.left };
-
-    ghost faults = { λ s. s.calls.faults };
+    ghost at = { source_at };
 
     fn read(&mut self, buf: &mut [u8]) -> Result<usize, Failed>
         // It fails exactly where it is told to, and else takes all that buffer, chunk and rest allow.
@@ -138,6 +136,13 @@ impl MemorySink {
         &self.bytes
     }
 
+    /// Whether it tells what it was shown: it does until there is no memory for a note.
+    pub fn tells(&self) -> bool
+        ensures { result ≡ is_some self.now.shown }
+    {
+        self.shown.is_some()
+    }
+
     /// How many writes have failed. It stays at the last value of a u64.
     pub fn faults(&self) -> u64
         ensures { result ≡ self.now.calls.faults }
@@ -147,16 +152,12 @@ impl MemorySink {
 }
 
 impl Sink for MemorySink {
-    ghost held = { λ s. Some s.held };
-
-    ghost faults = { λ s. s.calls.faults };
-
-    ghost shown = { λ s. s.shown };
+    ghost at = { sink_at };
 
     fn show<D: Disk>(&mut self, left: &D, right: &D)
         ensures held { self.new.held ≡ self.old.held }
         ensures calls { self.new.calls ≡ self.old.calls }
-        ensures shown { Notes D.moment (Some self.old.held) left.now right.now self.old.shown self.new.shown }
+        ensures shown { Notes D.at (Some self.old.held) left.now right.now self.old.shown self.new.shown }
     {
         let key = Key::new();
         let showing = Showing {

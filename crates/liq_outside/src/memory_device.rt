@@ -84,7 +84,9 @@ impl Device for MemoryDevice {
 
     fn read_some(&mut self, at: u64, buf: &mut [u8]) -> Result<usize, Failed>
         ensures listed { IsErr result ↔ FailsNext self.old.calls }
-        ensures told { IfOk result (λ n. (n ≡ min (min (length buf.old) self.old.chunk) (length self.old.held - at)) × (buf.new ≡ take n (drop at self.old.held) ++ drop n buf.old)) }
+        ensures told { IfOk result (λ n.
+            (n ≡ min (min (length buf.old) self.old.chunk) (length self.old.held - at))
+            × (buf.new ≡ take n (drop at self.old.held) ++ drop n buf.old)) }
         ensures end { result ≡ Ok 0 → 0 < length buf.old → length self.old.held ≤ at }
         ensures asked { OnOk result (self.new ≡ after_asking self.old) }
         ensures failed { OnErr result (self.new ≡ after_failure self.old) }
@@ -103,7 +105,8 @@ impl Device for MemoryDevice {
         ensures past { length self.old.held < at → IsErr result }
         ensures taken { IfOk result (λ n. n ≡ min (length bytes.now) self.old.chunk) }
         ensures some { 0 < length bytes.now → IfOk result (λ n. 0 < n) }
-        ensures written { IfOk result (λ n. self.new ≡ after_writing self.old at (take n bytes.now)) }
+        ensures written { IfOk result (λ n. self.new
+            ≡ after_writing self.old at (take n bytes.now)) }
         ensures failed { OnErr result (self.new ≡ after_failure self.old) }
     {
         if self.schedule.begin() || self.bytes.len() < at as usize {

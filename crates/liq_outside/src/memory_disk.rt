@@ -3,7 +3,7 @@ ghost use Rattle.std.specs.Prelude.{◌≡◌, ◌≤◌, ◌<◌, ◌↔◌, �
 ghost use Rattle.liq_outside.specs.Calls.{FailsNext};
 ghost use Rattle.liq_outside.specs.Faults.{HasCause};
 ghost use Rattle.liq_outside.specs.Disk.{Elapses, Follows, LeftNow, Only, Reaches, Torn, Within};
-ghost use Rattle.liq_outside.specs.DiskInMemory.{IsNoted, Looks, fresh, left_by, moment_of, after_failed_look, after_disk_write, after_sync};
+ghost use Rattle.liq_outside.specs.DiskInMemory.{IsNoted, Looks, disk_at, fresh, after_failed_look, after_disk_write, after_sync};
 
 use super::crash::tear;
 use super::disk::Disk;
@@ -64,7 +64,7 @@ impl MemoryDisk {
     /// promised. As it is built, choice 0 keeps all that was written, 1 nothing that wasn't synced, 2 and 3 a half of each write,
     /// 4 to 7 the same with other bytes in place of those that are lost.
     pub fn crash(self, choice: u64) -> MemoryDisk
-        ensures left { LeftNow moment_of left_by self result.disk.held }
+        ensures left { LeftNow disk_at self result.disk.held }
         ensures synced { result.disk ≡ fresh result.disk.held [] }
     {
         let MemoryDisk {
@@ -83,13 +83,7 @@ impl Ours for MemoryDisk {}
 impl Disk for MemoryDisk {
     ghost use Rattle.liq_outside.specs.Staying.{held_may_stay};
 
-    ghost seen = { λ d. Some d.disk.held };
-
-    ghost moment = { moment_of };
-
-    ghost left_at = { left_by };
-
-    ghost faults = { λ d. d.disk.calls.faults };
+    ghost at = { disk_at };
 
     ghost seen_may_stay = { λ d held is. held_may_stay d.disk.held held d.disk.steps is };
 
@@ -106,9 +100,11 @@ impl Disk for MemoryDisk {
         Ok(self.bytes.len() as u64)
     }
 
-    fn read_at(&mut self, at: u64, buf: &mut [u8]) -> Result<usize, Failed>
+    fn read_at(&mut self, place: u64, buf: &mut [u8]) -> Result<usize, Failed>
         ensures listed { IsErr result ↔ FailsNext self.old.disk.calls }
-        ensures told { IfOk result (λ n. (n ≡ min (length buf.old) (length self.old.disk.held - at)) × (buf.new ≡ take n (drop at self.old.disk.held) ++ drop n buf.old)) }
+        ensures told { IfOk result (λ n.
+            (n ≡ min (length buf.old) (length self.old.disk.held - place))
+            × (buf.new ≡ take n (drop place self.old.disk.held) ++ drop n buf.old)) }
         ensures looked { Looks result self.old.disk self.new.disk }
         ensures cause { HasCause self.old.disk.calls.faults self.new.disk.calls.faults result }
     {
@@ -117,25 +113,31 @@ impl Disk for MemoryDisk {
             return Err(Failed);
         }
         let most = buf.len();
-        Ok(read_part(&self.bytes, at as usize, most, buf))
+        Ok(read_part(&self.bytes, place as usize, most, buf))
     }
 
-    fn write_at(&mut self, at: u64, bytes: &[u8]) -> Result<(), Failed>
-        requires inside { at ≤ length self.old.disk.held }
-        requires limit { at + length bytes.now ≤ 2 ^ 40 }
+    fn write_at(&mut self, place: u64, bytes: &[u8]) -> Result<(), Failed>
+        requires inside { place ≤ length self.old.disk.held }
+        requires limit { place + length bytes.now ≤ 2 ^ 40 }
         // It fails where it is told to. Any other failure is want of memory.
         ensures listed { FailsNext self.old.disk.calls → IsErr result }
-        ensures unlisted { OnErr result (FailsNext self.old.disk.calls ⊎ ((0 < length bytes.now) ⊎ (self.old.room ≤ length self.old.disk.steps))) }
-        ensures written { OnOk result (self.new.disk ≡ after_disk_write self.old.disk at bytes.now) }
-        ensures tried { FailsNext self.old.disk.calls → IsNoted self.old at bytes.now self.new.disk }
-        ensures not_written { (FailsNext self.old.disk.calls → ⊥) → OnErr result (self.new.disk ≡ after_failed_look self.old.disk) }
-        ensures crash { Follows (Torn at (length bytes.now)) (LeftNow moment_of left_by self.old) (LeftNow moment_of left_by self.new) }
-        ensures noted { OnOk result (Reaches (Torn at (length bytes.now)) (LeftNow moment_of left_by self.old) (LeftNow moment_of left_by self.new)) }
-        ensures keeps { Within (LeftNow moment_of left_by self.old) (LeftNow moment_of left_by self.new) }
-        ensures time { Elapses moment_of left_by self.old self.new }
+        ensures unlisted { OnErr result (FailsNext self.old.disk.calls
+            ⊎ ((0 < length bytes.now) ⊎ (self.old.room ≤ length self.old.disk.steps))) }
+        ensures written { OnOk result (self.new.disk
+            ≡ after_disk_write self.old.disk place bytes.now) }
+        ensures tried { FailsNext self.old.disk.calls
+            → IsNoted self.old place bytes.now self.new.disk }
+        ensures not_written { (FailsNext self.old.disk.calls → ⊥)
+            → OnErr result (self.new.disk ≡ after_failed_look self.old.disk) }
+        ensures crash { Follows (Torn place (length bytes.now)) (LeftNow disk_at self.old)
+            (LeftNow disk_at self.new) }
+        ensures noted { OnOk result (Reaches (Torn place (length bytes.now))
+            (LeftNow disk_at self.old) (LeftNow disk_at self.new)) }
+        ensures keeps { Within (LeftNow disk_at self.old) (LeftNow disk_at self.new) }
+        ensures time { Elapses disk_at self.old self.new }
         ensures cause { HasCause self.old.disk.calls.faults self.new.disk.calls.faults result }
     {
-        let at = at as usize;
+        let at = place as usize;
         if self.schedule.begin() {
             self.schedule.fault();
             // Some of the bytes may have been written.
@@ -153,12 +155,13 @@ impl Disk for MemoryDisk {
 
     fn sync(&mut self) -> Result<(), Failed>
         ensures listed { FailsNext self.old.disk.calls → IsErr result }
-        ensures unlisted { OnErr result (FailsNext self.old.disk.calls ⊎ (self.old.room ≤ length self.old.disk.steps)) }
+        ensures unlisted { OnErr result (FailsNext self.old.disk.calls
+            ⊎ (self.old.room ≤ length self.old.disk.steps)) }
         ensures synced { OnOk result (self.new.disk ≡ after_sync self.old.disk) }
         ensures not_synced { OnErr result (self.new.disk ≡ after_failed_look self.old.disk) }
-        ensures only { OnOk result (Only self.old.disk.held (LeftNow moment_of left_by self.new)) }
-        ensures crash { Within (LeftNow moment_of left_by self.new) (LeftNow moment_of left_by self.old) }
-        ensures time { Elapses moment_of left_by self.old self.new }
+        ensures only { OnOk result (Only self.old.disk.held (LeftNow disk_at self.new)) }
+        ensures crash { Within (LeftNow disk_at self.new) (LeftNow disk_at self.old) }
+        ensures time { Elapses disk_at self.old self.new }
         ensures cause { HasCause self.old.disk.calls.faults self.new.disk.calls.faults result }
     {
         if self.schedule.begin() {

@@ -5,6 +5,7 @@ use Rattle.liq_types.specs.declared.requests.Command.{Command}
 use Rattle.liq_types.specs.declared.requests.Request.{Request}
 use Rattle.liq_types.specs.State.{State}
 use Rattle.liq_rules.specs.Step.{Allowed, accepted, after, ruling, run}
+use Rattle.liq_outside.specs.At.{DiskAt}
 use Rattle.liq_outside.specs.Disk.{LeftSince}
 use Rattle.liq_journal.specs.Crash.{SettleLeaves}
 use Rattle.liq_journal.specs.Written.{Absent, Open, Written, found_on, is_rotate}
@@ -78,14 +79,15 @@ rotations start requests fault =
 -- All that a crash at some moment since these may have left of either disk. The disk that was taken first is absent in
 -- none of it, unless there were two rotations.
 pub record LeavesPast
-    {D : Type 0} (moment : D → ℕ) (left_at : D → ℕ → List ℕ → Type 0) (since : Side → ℕ)
-    (l r : List ℕ) (start : State) (requests : List Request) (fault : Fault) (left right : D) : Type 0 where
+    {D : Type 0} (at : D → DiskAt) (since : Side → ℕ)
+    (l r : List ℕ) (start : State) (requests : List Request) (fault : Fault)
+    (left right : D) : Type 0 where
   pub images :
-      (side : Side) (image : List ℕ) → LeftSince moment left_at (on side left right) (since side) image
+      (side : Side) (image : List ℕ) → LeftSince at (on side left right) (since side) image
       → IsOfRun side l r start requests fault image
   pub whole :
       (side : Side) → IsTakenFirst side l r → rotations start requests fault ≤ 1
-      → (image : List ℕ) → LeftSince moment left_at (on side left right) (since side) image
+      → (image : List ℕ) → LeftSince at (on side left right) (since side) image
       → found_on (has_odd side) image ≡ Absent → ⊥
 
 -- ---- both at the end
@@ -96,4 +98,5 @@ abbrev pub KeptAtEnd : List ℕ → List ℕ → State → List Request → Faul
 KeptAtEnd l r start requests NoFault a b = IsKept a b (run start requests).0
 KeptAtEnd l r start requests InOpening a b = (requests ≡ []) × IsRecovered l r start a b
 KeptAtEnd l r start requests (AtCommand c) a b =
-    let s = (run start requests).0 in IsKept a b s ⊎ ((ruling s c ≡ Allowed) × IsKept a b (after s c))
+    let s = (run start requests).0 in
+    IsKept a b s ⊎ ((ruling s c ≡ Allowed) × IsKept a b (after s c))

@@ -6,7 +6,7 @@ ghost use Rattle.liq_types.specs.declared.requests.Command.{Command};
 ghost use Rattle.liq_types.specs.State.{State};
 ghost use Rattle.liq_core.specs.Core.{StandsFor};
 ghost use Rattle.liq_journal.specs.Bodies.{IsJournalOf};
-ghost use Rattle.liq_journal.specs.Looked.{Looked};
+ghost use Rattle.liq_outside.specs.Disk.{Looked};
 ghost use Rattle.liq_journal.specs.Parts.{IsPartOf};
 ghost use Rattle.liq_journal.specs.Written.{Written, is_rotate};
 ghost use Rattle.liq_records.specs.Reading.{CountsReading, IsRecordNumber};
@@ -37,9 +37,11 @@ fn redo<L: Ledger>(
     steps: &mut Steps<L>,
 ) -> Result<(), AcceptedFault>
     requires { is_rotate command.now.call ≡ false }
-    ensures outcome { (s : State) → StandsFor protocol.old s → IsOutcome s command.now index protocol.new result }
+    ensures outcome { (s : State) → StandsFor protocol.old s
+        → IsOutcome s command.now index protocol.new result }
     ensures counted { OnOk result (protocol.new.records ≡ protocol.old.records + 1) }
-    ensures generation { OnOk result (protocol.new.image.generation ≡ protocol.old.image.generation) }
+    ensures generation { OnOk result (protocol.new.image.generation
+        ≡ protocol.old.image.generation) }
     ensures no_device { result ≢ Err AcceptedFault.DiskFault }
 {
     match protocol.redo(command, steps) {
@@ -59,15 +61,20 @@ fn redo_record<D: Disk, L: Ledger>(
     steps: &mut Steps<L>,
 ) -> Result<(), AcceptedFault>
     requires there { IsRecordNumber journal.old.count index }
-    requires part { IfSome (D.seen journal.old.disk) (IsPartOf block.old) }
-    ensures part { IfSome (D.seen journal.new.disk) (IsPartOf block.new) }
-    ensures looked { Looked D.seen D.moment D.left_at journal.old.disk journal.new.disk }
+    requires part { IfSome (D.at journal.old.disk).seen (IsPartOf block.old) }
+    ensures part { IfSome (D.at journal.new.disk).seen (IsPartOf block.new) }
+    ensures looked { Looked D.at journal.old.disk journal.new.disk }
     ensures same { journal.new ≡ record journal.old { disk = journal.new.disk } }
-    ensures replayed { (held : List ℕ) (w : Written) (s : State) (c : Command) → D.seen journal.old.disk ≡ Some held → IsJournalOf journal.old.generation journal.old.start held w → slice_get w.commands (index - 1) ≡ Some c
-        → StandsFor protocol.old s → IsOutcome s c index protocol.new result }
+    ensures replayed { (held : List ℕ) (w : Written) (s : State) (c : Command)
+        → (D.at journal.old.disk).seen ≡ Some held
+        → IsJournalOf journal.old.generation journal.old.start held w
+        → slice_get w.commands (index - 1) ≡ Some c → StandsFor protocol.old s
+        → IsOutcome s c index protocol.new result }
     ensures counted { OnOk result (protocol.new.records ≡ protocol.old.records + 1) }
-    ensures generation { OnOk result (protocol.new.image.generation ≡ protocol.old.image.generation) }
-    ensures cause { CountsReading result (D.faults journal.old.disk) (D.faults journal.new.disk) }
+    ensures generation { OnOk result (protocol.new.image.generation
+        ≡ protocol.old.image.generation) }
+    ensures cause { CountsReading result (D.at journal.old.disk).faults
+        (D.at journal.new.disk).faults }
 {
     let command = match tested_command(journal, block, index) {
         Ok(command) => command,
@@ -85,13 +92,19 @@ pub fn replay<D: Disk, L: Ledger>(
     requires name { blank.name ≡ L.name }
     requires parts { blank.parts ≡ L.parts }
     requires one { L.parts ≡ 1 }
-    ensures looked { Looked D.seen D.moment D.left_at journal.old.disk journal.new.disk }
+    ensures looked { Looked D.at journal.old.disk journal.new.disk }
     ensures same { journal.new ≡ record journal.old { disk = journal.new.disk } }
-    ensures replayed { (held : List ℕ) (w : Written) (s : State) → D.seen journal.old.disk ≡ Some held → IsJournalOf journal.old.generation journal.old.start held w → length w.commands ≡ journal.old.count
-        → StandsFor protocol.old s → Replays s w.commands protocol.new result }
-    ensures counted { OnOk result (protocol.new.records ≡ protocol.old.records + journal.old.count) }
-    ensures generation { OnOk result (protocol.new.image.generation ≡ protocol.old.image.generation) }
-    ensures cause { CountsReading result (D.faults journal.old.disk) (D.faults journal.new.disk) }
+    ensures replayed { (held : List ℕ) (w : Written) (s : State)
+        → (D.at journal.old.disk).seen ≡ Some held
+        → IsJournalOf journal.old.generation journal.old.start held w
+        → length w.commands ≡ journal.old.count → StandsFor protocol.old s
+        → Replays s w.commands protocol.new result }
+    ensures counted { OnOk result (protocol.new.records ≡ protocol.old.records
+        + journal.old.count) }
+    ensures generation { OnOk result (protocol.new.image.generation
+        ≡ protocol.old.image.generation) }
+    ensures cause { CountsReading result (D.at journal.old.disk).faults
+        (D.at journal.new.disk).faults }
 {
     let mut steps = Steps::<L>::new(blank);
     let mut block = Block::new();

@@ -1,7 +1,7 @@
 //! The commands of a journal, read back.
 ghost use Rattle.std.specs.Prelude.{◌≡◌, ◌≤◌, ◌-◌, Some, List, ℕ, length, slice_get, false, IfOk, IfErr, IfSome};
 ghost use Rattle.liq_journal.specs.Bodies.{IsJournalOf};
-ghost use Rattle.liq_journal.specs.Looked.{Looked};
+ghost use Rattle.liq_outside.specs.Disk.{Looked};
 ghost use Rattle.liq_journal.specs.Parts.{IsPartOf};
 ghost use Rattle.liq_journal.specs.Written.{Written, is_rotate};
 ghost use Rattle.liq_records.specs.Reading.{CountsReading, IsReadable, IsRecordNumber};
@@ -18,15 +18,21 @@ pub fn tested_command<D: Disk>(
     index: u64,
 ) -> Result<Command, AcceptedFault>
     requires there { IsRecordNumber journal.old.count index }
-    requires part { IfSome (D.seen journal.old.disk) (IsPartOf block.old) }
-    ensures part { IfSome (D.seen journal.new.disk) (IsPartOf block.new) }
-    ensures looked { Looked D.seen D.moment D.left_at journal.old.disk journal.new.disk }
+    requires part { IfSome (D.at journal.old.disk).seen (IsPartOf block.old) }
+    ensures part { IfSome (D.at journal.new.disk).seen (IsPartOf block.new) }
+    ensures looked { Looked D.at journal.old.disk journal.new.disk }
     ensures same { journal.new ≡ record journal.old { disk = journal.new.disk } }
-    ensures command { IfOk result (λ c. (held : List ℕ) (w : Written) → D.seen journal.old.disk ≡ Some held → IsJournalOf journal.old.generation journal.old.start held w → index ≤ length w.commands
+    ensures command { IfOk result (λ c. (held : List ℕ) (w : Written)
+        → (D.at journal.old.disk).seen ≡ Some held
+        → IsJournalOf journal.old.generation journal.old.start held w → index ≤ length w.commands
         → slice_get w.commands (index - 1) ≡ Some c) }
     ensures no_rotation { IfOk result (λ c. is_rotate c.call ≡ false) }
-    ensures readable { IfErr result (λ why. (held : List ℕ) (w : Written) → D.seen journal.old.disk ≡ Some held → IsJournalOf journal.old.generation journal.old.start held w → index ≤ length w.commands → IsReadable why) }
-    ensures cause { CountsReading result (D.faults journal.old.disk) (D.faults journal.new.disk) }
+    ensures readable { IfErr result (λ why. (held : List ℕ) (w : Written)
+        → (D.at journal.old.disk).seen ≡ Some held
+        → IsJournalOf journal.old.generation journal.old.start held w → index ≤ length w.commands
+        → IsReadable why) }
+    ensures cause { CountsReading result (D.at journal.old.disk).faults
+        (D.at journal.new.disk).faults }
 {
     match journal.command(block, index) {
         Ok(command) => Ok(command),

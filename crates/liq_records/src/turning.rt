@@ -28,31 +28,33 @@ pub fn turn<D: Disk>(
 
     ensures exchanged { OnOk result (beside.new ≡ taken.old.disk) }
     ensures kept { OnErr result (taken.new ≡ taken.old) }
-    ensures known { OnOk result ((taken.new.generation ≡ taken.old.generation + 1) × (taken.new.limit ≡ LIM)
-        × (taken.new.start ≡ start_of (beginning (taken.old.generation + 1) checkpoint.now)) × (taken.new.count ≡ 0)) }
+    ensures known { OnOk result ((taken.new.generation ≡ taken.old.generation + 1)
+        × (taken.new.limit ≡ LIM)
+        × (taken.new.start ≡ start_of (beginning (taken.old.generation + 1) checkpoint.now))
+        × (taken.new.count ≡ 0)) }
 
     // The disk that was beside is the journal's at `Ok`, and still beside after a fault.
-    ensures created { OnOk result ((held : List ℕ) → D.seen beside.old ≡ Some held
-        → (after : List ℕ) × (D.seen taken.new.disk ≡ Some after)
-        × Stands (is_odd (taken.old.generation + 1)) after (beginning (taken.old.generation + 1) checkpoint.now)) }
-    ensures settled { OnOk result (IfSome (D.seen taken.new.disk)
+    ensures created { OnOk result ((held : List ℕ) → (D.at beside.old).seen ≡ Some held
+        → (after : List ℕ) × ((D.at taken.new.disk).seen ≡ Some after)
+        × Stands (is_odd (taken.old.generation + 1)) after
+        (beginning (taken.old.generation + 1) checkpoint.now)) }
+    ensures settled { OnOk result (IfSome (D.at taken.new.disk).seen
         (IsSettled taken.new.generation taken.new.start taken.new.count)) }
-    ensures durable { OnOk result (IfSome (D.seen taken.new.disk)
-        (λ after. Only after (LeftNow D.moment D.left_at taken.new.disk))) }
+    ensures durable { OnOk result (IfSome (D.at taken.new.disk).seen
+        (λ after. Only after (LeftNow D.at taken.new.disk))) }
     ensures telling { MatchResult result
-        (λ _. IsSome (D.seen taken.new.disk) ↔ IsSome (D.seen beside.old))
-        (λ _. IsSome (D.seen beside.new) ↔ IsSome (D.seen beside.old)) }
+        (λ _. IsSome (D.at taken.new.disk).seen ↔ IsSome (D.at beside.old).seen)
+        (λ _. IsSome (D.at beside.new).seen ↔ IsSome (D.at beside.old).seen) }
     ensures crash { MatchResult result
-        (λ _. CrashOfCreate D.seen D.moment D.left_at beside.old taken.new.disk
+        (λ _. CrashOfCreate D.at beside.old taken.new.disk
         (taken.old.generation + 1) checkpoint.now)
-        (λ _. CrashOfCreate D.seen D.moment D.left_at beside.old beside.new
-        (taken.old.generation + 1) checkpoint.now) }
+        (λ _. CrashOfCreate D.at beside.old beside.new (taken.old.generation + 1) checkpoint.now) }
     ensures time { MatchResult result
-        (λ _. GoesOn D.moment D.left_at beside.old taken.new.disk)
-        (λ _. GoesOn D.moment D.left_at beside.old beside.new) }
+        (λ _. GoesOn D.at beside.old taken.new.disk)
+        (λ _. GoesOn D.at beside.old beside.new) }
     ensures cause { MatchResult result
-        (λ _. D.faults taken.new.disk ≡ D.faults beside.old)
-        (λ _. Counted (D.faults beside.old) (D.faults beside.new)) }
+        (λ _. (D.at taken.new.disk).faults ≡ (D.at beside.old).faults)
+        (λ _. Counted (D.at beside.old).faults (D.at beside.new).faults) }
 {
     match taken.turn(beside, checkpoint) {
         Ok(()) => Ok(side.other()),

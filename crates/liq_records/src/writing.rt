@@ -1,7 +1,7 @@
 //! How a command's record is written.
-ghost use Rattle.std.specs.Prelude.{◌≡◌, ◌<◌, ◌+◌, ◌↔◌, Some, List, ℕ, false, IfSome, IsSome, OnErr, OnOk};
-ghost use Rattle.liq_outside.specs.Disk.{GoesOn, LeavesOnly, LeftNow, Only};
-ghost use Rattle.liq_outside.specs.Faults.{HasCause};
+ghost use Rattle.std.specs.Prelude.{◌≡◌, ◌<◌, ◌+◌, Some, List, ℕ, false, IfSome, OnErr, OnOk};
+ghost use Rattle.liq_outside.specs.Disk.{LeavesOnly, LeftNow, Only};
+ghost use Rattle.liq_journal.specs.Called.{Called};
 ghost use Rattle.liq_journal.specs.Crash.{BeforeOrAfter, Stands, is_odd};
 ghost use Rattle.liq_journal.specs.Settled.{IsSettled};
 ghost use Rattle.liq_journal.specs.Written.{Written, and_then, is_rotate};
@@ -17,7 +17,8 @@ use liq_wire::encode;
 pub fn write_record<D: Disk>(taken: &mut Journal<D>, command: &Command) -> Result<(), DiskFault>
     requires stays { is_rotate command.now.call ≡ false }
     requires few { taken.old.count < 1000000 }
-    requires settled { IfSome (D.seen taken.old.disk) (IsSettled taken.old.generation taken.old.start taken.old.count) }
+    requires settled { IfSome (D.at taken.old.disk).seen
+        (IsSettled taken.old.generation taken.old.start taken.old.count) }
 
     ensures generation { taken.new.generation ≡ taken.old.generation }
     ensures start { taken.new.start ≡ taken.old.start }
@@ -25,15 +26,19 @@ pub fn write_record<D: Disk>(taken: &mut Journal<D>, command: &Command) -> Resul
     ensures no_more { OnErr result (taken.new.count ≡ taken.old.count) }
 
     // Where the disk tells its content.
-    ensures telling { IsSome (D.seen taken.new.disk) ↔ IsSome (D.seen taken.old.disk) }
-    ensures appended { OnOk result ((held : List ℕ) (w : Written) → D.seen taken.old.disk ≡ Some held → Stands (is_odd taken.old.generation) held w
-        → (after : List ℕ) × (D.seen taken.new.disk ≡ Some after) × Stands (is_odd taken.old.generation) after (and_then w (read_back command.now))) }
-    ensures settled { OnOk result (IfSome (D.seen taken.new.disk) (IsSettled taken.new.generation taken.new.start taken.new.count)) }
-    ensures durable { OnOk result (IfSome (D.seen taken.new.disk) (λ held. Only held (LeftNow D.moment D.left_at taken.new.disk))) }
-    ensures crash { (held : List ℕ) (w : Written) → D.seen taken.old.disk ≡ Some held → Only held (LeftNow D.moment D.left_at taken.old.disk) → Stands (is_odd taken.old.generation) held w
-        → LeavesOnly D.moment D.left_at taken.old.disk taken.new.disk (BeforeOrAfter (is_odd taken.old.generation) w (read_back command.now)) }
-    ensures time { GoesOn D.moment D.left_at taken.old.disk taken.new.disk }
-    ensures cause { HasCause (D.faults taken.old.disk) (D.faults taken.new.disk) result }
+    ensures appended { OnOk result ((held : List ℕ) (w : Written)
+        → (D.at taken.old.disk).seen ≡ Some held → Stands (is_odd taken.old.generation) held w
+        → (after : List ℕ) × ((D.at taken.new.disk).seen ≡ Some after)
+        × Stands (is_odd taken.old.generation) after (and_then w (read_back command.now))) }
+    ensures settled { OnOk result (IfSome (D.at taken.new.disk).seen
+        (IsSettled taken.new.generation taken.new.start taken.new.count)) }
+    ensures durable { OnOk result (IfSome (D.at taken.new.disk).seen
+        (λ held. Only held (LeftNow D.at taken.new.disk))) }
+    ensures crash { (held : List ℕ) (w : Written) → (D.at taken.old.disk).seen ≡ Some held
+        → Only held (LeftNow D.at taken.old.disk) → Stands (is_odd taken.old.generation) held w
+        → LeavesOnly D.at taken.old.disk taken.new.disk
+        (BeforeOrAfter (is_odd taken.old.generation) w (read_back command.now)) }
+    ensures called { Called D.at taken.old.disk taken.new.disk result }
 {
     match taken.append(&encode(command)) {
         Ok(()) => Ok(()),

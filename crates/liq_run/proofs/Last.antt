@@ -1,5 +1,6 @@
 -- A run at its end, its last line written.
 use Rattle.std.proofs.Common.{◌≡◌, List, ℕ, [], ◌++◌, Option, Ok, Err, Result, refl, ap, subst, ◌∙◌, append-nil}
+use Rattle.liq_outside.specs.At.{DiskAt}
 use Rattle.liq_outside.specs.declared.showing.Showing.{Showing}
 use Rattle.liq_types.specs.declared.requests.Request.{Request}
 use Rattle.liq_types.specs.State.{State}
@@ -52,15 +53,15 @@ all_written start (Rotated generation) fault requests before now after h adds = 
 all_written start (DamagedInput number) fault requests before now after h adds = line_behind fault
     (lines start requests) (last (DamagedInput number)) before now after h adds
 
-module _ {D : Type 0} (seen : D → Option (List ℕ)) (moment : D → ℕ) (left_at : D → ℕ → List ℕ → Type 0)
+module _ {D : Type 0} (at : D → DiskAt)
     (old_left old_right : D) (start : State) (formed : IsWellFormed start) (bytes l r : List ℕ)
     (unread : Option (List ℕ)) (fault : Type 0) (shown shown_now : Option (List Showing)) (left right : D) where
   abbrev Gives : Result (Unit {0}) Halt → Option (List ℕ) → Option (List ℕ) → Type 0
-  Gives end before now = GivesBack seen moment left_at old_left old_right start end bytes l r unread before now shown
+  Gives end before now = GivesBack at old_left old_right start end bytes l r unread before now shown
       shown_now left right
 
   abbrev EndsSo : Result (Unit {0}) Halt → Option (List ℕ) → Option (List ℕ) → Type 0
-  EndsSo end before now = EndsIn seen moment left_at old_left old_right start end bytes l r unread fault before now
+  EndsSo end before now = EndsIn at old_left old_right start end bytes l r unread fault before now
       shown shown_now left right
 
   ends_so : (end : Result (Unit {0}) Halt) (before now after : Option (List ℕ)) → (h : Gives end before now)

@@ -1,5 +1,6 @@
 -- How showings go on, and what they hold of the requests.
 use Rattle.std.proofs.Common.{◌≡◌, ◌⊎◌, inl, inr, ⊎_elim, ℕ, zero, suc, ◌+◌, ◌-◌, ◌≤◌, List, [], ◌∷◌, ◌++◌, length, take, drop, fold, arith, refl, sym, ap, subst, ◌∙◌, append_assoc, append-nil, length-append, take-append-drop}
+use Rattle.liq_outside.specs.At.{DiskAt}
 use Rattle.liq_outside.specs.declared.showing.Showing.{Showing}
 use Rattle.liq_outside.specs.Disk.{GoesOn, LeftBetween, LeftSince}
 use Rattle.liq_outside.specs.Showings.{AllNeighbours, LeavesBetween, shown_as}
@@ -165,17 +166,16 @@ module _ (start : State) (before : ℕ) where
 
 -- ---- what the sink was shown
 
-module _ {D : Type 0} (moment : D → ℕ) (left_at : D → ℕ → List ℕ → Type 0) where
-  earlier_left : (old new : D) (from to : ℕ) (image : List ℕ) → GoesOn moment left_at old new → to ≤ moment old
-      → LeftBetween left_at new from to image → LeftBetween left_at old from to image
+module _ {D : Type 0} (at : D → DiskAt) where
+  earlier_left : (old new : D) (from to : ℕ) (image : List ℕ) → GoesOn at old new → to ≤ (at old).moment
+      → LeftBetween at new from to image → LeftBetween at old from to image
   earlier_left old new from to image time le left =
       (left.0, left.1, left.2, time.past left.0 image (omega (arith, left.2, le)) left.3)
 
   -- as time goes on, and of what P gives
-  later_on : (ol or nl nr : D) (P Q : ℕ → List ℕ → List ℕ → Type 0) → GoesOn moment left_at ol nl
-      → GoesOn moment left_at or nr
-      → ((held : ℕ) (a b : List ℕ) → P held a b → Q held a b) → (p q : Showing) → Covers moment left_at ol or P p q
-      → Covers moment left_at nl nr Q p q
+  later_on : (ol or nl nr : D) (P Q : ℕ → List ℕ → List ℕ → Type 0) → GoesOn at ol nl → GoesOn at or nr
+      → ((held : ℕ) (a b : List ℕ) → P held a b → Q held a b) → (p q : Showing) → Covers at ol or P p q
+      → Covers at nl nr Q p q
   later_on ol or nl nr P Q left right gives p q covers = record {
     between = record {
       left_time = covers.between.left_time;
@@ -189,37 +189,38 @@ module _ {D : Type 0} (moment : D → ℕ) (left_at : D → ℕ → List ℕ →
   }
 
   -- what a crash from a moment until now may have left
-  pub since_then : (disk : D) (from : ℕ) (image : List ℕ) → LeftBetween left_at disk from (moment disk) image
-      → LeftSince moment left_at disk from image
+  pub since_then : (disk : D) (from : ℕ) (image : List ℕ) → LeftBetween at disk from (at disk).moment image
+      → LeftSince at disk from image
   since_then disk from image left = (left.0, left.1, left.2, left.3)
 
   -- of two disks that were opened, and the same since then, all that was left in the opening has P
-  pub opening_left : (ol or ml mr nl nr : D) → GoesOn moment left_at ml nl → GoesOn moment left_at mr nr
-      → moment ol ≤ moment ml → moment or ≤ moment mr → (P : List ℕ → List ℕ → Type 0) (before now : List ℕ)
-      → LeavesPairs moment left_at ol or ml mr P
-      → LeavesBetween left_at nl nr (λ held a b. P a b) (shown_as moment before ol or) (shown_as moment now ml mr)
+  pub opening_left : (ol or ml mr nl nr : D) → GoesOn at ml nl → GoesOn at mr nr
+      → (at ol).moment ≤ (at ml).moment → (at or).moment ≤ (at mr).moment
+      → (P : List ℕ → List ℕ → Type 0) (before now : List ℕ)
+      → LeavesPairs at ol or ml mr P
+      → LeavesBetween at nl nr (λ held a b. P a b) (shown_as at before ol or) (shown_as at now ml mr)
   opening_left ol or ml mr nl nr left right left_time right_time P before now leaves = record {
     left_time = left_time;
     right_time = right_time;
     leaves = λ a b at_a at_b.
-        leaves a b (since_then ml (moment ol) a
-        (earlier_left ml nl (moment ol) (moment ml) a left (omega arith) at_a))
-        (since_then mr (moment or) b (earlier_left mr nr (moment or) (moment mr) b right (omega arith) at_b));
+        leaves a b (since_then ml (at ol).moment a
+        (earlier_left ml nl (at ol).moment (at ml).moment a left (omega arith) at_a))
+        (since_then mr (at or).moment b (earlier_left mr nr (at or).moment (at mr).moment b right (omega arith) at_b));
   }
 
   module _ (start : State) (before : ℕ) (first : Showing) (earlier : List Showing) where
     abbrev ShownSo : List Request → D → D → List Showing → Type 0
-    ShownSo requests left right all = IsShown moment left_at start before requests left right first earlier all
+    ShownSo requests left right all = IsShown at start before requests left right first earlier all
 
     -- before the first request
-    pub shown_first : (left right : D) → first.left ≡ moment left → first.right ≡ moment right
+    pub shown_first : (left right : D) → first.left ≡ (at left).moment → first.right ≡ (at right).moment
         → ShownSo [] left right (earlier ++ first ∷ [])
     shown_first left right left_is right_is = record
         { since = []; are = refl; each = tt; left_is = left_is; right_is = right_is }
 
     -- more requests, at which no disk was called
     pub shown_on : (requests more : List Request) (left right : D) (all : List Showing)
-        → GoesOn moment left_at left left → GoesOn moment left_at right right
+        → GoesOn at left left → GoesOn at right right
         → ShownSo requests left right all → ShownSo (requests ++ more) left right all
     shown_on requests more left right all time_left time_right shown = record {
       since = shown.since;
@@ -231,23 +232,23 @@ module _ {D : Type 0} (moment : D → ℕ) (left_at : D → ℕ → List ℕ →
     }
 
     module _ (requests : List Request) (ol or nl nr : D) (all : List Showing)
-        (time_left : GoesOn moment left_at ol nl) (time_right : GoesOn moment left_at or nr)
+        (time_left : GoesOn at ol nl) (time_right : GoesOn at or nr)
         (shown : ShownSo requests ol or all) where
-      from_left : (a : List ℕ) → LeftBetween left_at nl (last_of first shown.since).left (moment nl) a
-          → LeftSince moment left_at nl (moment ol) a
-      from_left a at = since_then nl (moment ol) a
-          (subst (λ (k : ℕ). LeftBetween left_at nl k (moment nl) a) shown.left_is at)
+      from_left : (a : List ℕ) → LeftBetween at nl (last_of first shown.since).left (at nl).moment a
+          → LeftSince at nl (at ol).moment a
+      from_left a left = since_then nl (at ol).moment a
+          (subst (λ (k : ℕ). LeftBetween at nl k (at nl).moment a) shown.left_is left)
 
-      from_right : (b : List ℕ) → LeftBetween left_at nr (last_of first shown.since).right (moment nr) b
-          → LeftSince moment left_at nr (moment or) b
-      from_right b at = since_then nr (moment or) b
-          (subst (λ (k : ℕ). LeftBetween left_at nr k (moment nr) b) shown.right_is at)
+      from_right : (b : List ℕ) → LeftBetween at nr (last_of first shown.since).right (at nr).moment b
+          → LeftSince at nr (at or).moment b
+      from_right b right = since_then nr (at or).moment b
+          (subst (λ (k : ℕ). LeftBetween at nr k (at nr).moment b) shown.right_is right)
 
       -- from the last showing until now
       until_now : (now : List ℕ) (P : ℕ → List ℕ → List ℕ → Type 0)
-          → ((a b : List ℕ) → LeftSince moment left_at nl (moment ol) a → LeftSince moment left_at nr (moment or) b
+          → ((a b : List ℕ) → LeftSince at nl (at ol).moment a → LeftSince at nr (at or).moment b
           → P (length now) a b)
-          → LeavesBetween left_at nl nr P (last_of first shown.since) (shown_as moment now nl nr)
+          → LeavesBetween at nl nr P (last_of first shown.since) (shown_as at now nl nr)
       until_now now P gives = record {
         left_time = omega (arith, shown.left_is, time_left.later);
         right_time = omega (arith, shown.right_is, time_right.later);
@@ -256,18 +257,18 @@ module _ {D : Type 0} (moment : D → ℕ) (left_at : D → ℕ → List ℕ →
 
       -- one request more, and a showing behind it
       pub shown_again : (request : Request) (now : List ℕ) → length now ≤ before + length (lines start requests)
-          → ((a b : List ℕ) → LeftSince moment left_at nl (moment ol) a → LeftSince moment left_at nr (moment or) b
+          → ((a b : List ℕ) → LeftSince at nl (at ol).moment a → LeftSince at nr (at or).moment b
           → IsKeptAround (run start requests).0 request a b)
-          → ShownSo (requests ++ request ∷ []) nl nr (all ++ shown_as moment now nl nr ∷ [])
+          → ShownSo (requests ++ request ∷ []) nl nr (all ++ shown_as at now nl nr ∷ [])
       shown_again request now within leaves =
-          let next = shown_as moment now nl nr in
+          let next = shown_as at now nl nr in
           let is = last_is first shown.since next in
           let holds = HoldsFirst start before (requests ++ request ∷ []) in
           record {
             since = shown.since ++ next ∷ [];
             are = ap (λ (t : List Showing). t ++ next ∷ []) shown.are
                 ∙ append_assoc earlier (first ∷ shown.since) (next ∷ []);
-            each = one_more (Covers moment left_at nl nr holds) first shown.since next
+            each = one_more (Covers at nl nr holds) first shown.since next
                 (all_weaker _ _ (later_on ol or nl nr _ _ time_left time_right
                 (λ held a b h. further start before requests (request ∷ []) held a b h)) first shown.since
                 shown.each)
@@ -285,14 +286,14 @@ module _ {D : Type 0} (moment : D → ℕ) (left_at : D → ℕ → List ℕ →
       pub shown_all : (others : List Request) (fault : Fault)
           → ((held : ℕ) (a b : List ℕ) → HoldsFirst start before requests held a b
           → HoldsAnswered start others fault before held a b)
-          → ((a b : List ℕ) → LeftSince moment left_at nl (moment ol) a → LeftSince moment left_at nr (moment or) b
+          → ((a b : List ℕ) → LeftSince at nl (at ol).moment a → LeftSince at nr (at or).moment b
           → IsKept a b (run start others).0 ⊎ IsKeptFailed fault (run start others).0 a b)
-          → WasShown moment left_at start before others fault nl nr first earlier all
+          → WasShown at start before others fault nl nr first earlier all
       shown_all others fault more gives = record {
         since = shown.since;
         are = shown.are;
-        each = λ now. one_more (LeavesBetween left_at nl nr (HoldsAnswered start others fault before)) first
-            shown.since (shown_as moment now nl nr)
+        each = λ now. one_more (LeavesBetween at nl nr (HoldsAnswered start others fault before)) first
+            shown.since (shown_as at now nl nr)
             (all_weaker _ _ (λ p q covers. (later_on ol or nl nr _ _ time_left time_right more p q covers).between)
             first shown.since shown.each)
             (until_now now (HoldsAnswered start others fault before)
@@ -301,10 +302,10 @@ module _ {D : Type 0} (moment : D → ℕ) (left_at : D → ℕ → List ℕ →
 
     -- at a command
     pub shown_failed : (requests : List Request) (fault : Fault) (ol or nl nr : D) (all : List Showing)
-        → GoesOn moment left_at ol nl → GoesOn moment left_at or nr → ShownSo requests ol or all
-        → ((a b : List ℕ) → LeftSince moment left_at nl (moment ol) a → LeftSince moment left_at nr (moment or) b
+        → GoesOn at ol nl → GoesOn at or nr → ShownSo requests ol or all
+        → ((a b : List ℕ) → LeftSince at nl (at ol).moment a → LeftSince at nr (at or).moment b
         → IsKept a b (run start requests).0 ⊎ IsKeptFailed fault (run start requests).0 a b)
-        → WasShown moment left_at start before requests fault nl nr first earlier all
+        → WasShown at start before requests fault nl nr first earlier all
     shown_failed requests fault ol or nl nr all time_left time_right shown gives =
         shown_all requests ol or nl nr all time_left time_right shown requests fault
         (λ held a b h. in_all start before requests fault held a b h) gives
@@ -312,11 +313,11 @@ module _ {D : Type 0} (moment : D → ℕ) (left_at : D → ℕ → List ℕ →
     -- at rest, where the replies to some later requests were cut, of which none was accepted
     pub shown_ended : (requests later : List Request) (fault : Fault) (left right : D) (all : List Showing)
         → accepted start requests ≡ accepted start (requests ++ later)
-        → GoesOn moment left_at left left → GoesOn moment left_at right right
+        → GoesOn at left left → GoesOn at right right
         → ShownSo (requests ++ later) left right all
-        → ((a b : List ℕ) → LeftSince moment left_at left (moment left) a
-        → LeftSince moment left_at right (moment right) b → IsKept a b (run start requests).0)
-        → WasShown moment left_at start before requests fault left right first earlier all
+        → ((a b : List ℕ) → LeftSince at left (at left).moment a → LeftSince at right (at right).moment b
+        → IsKept a b (run start requests).0)
+        → WasShown at start before requests fault left right first earlier all
     shown_ended requests later fault left right all same time_left time_right shown gives =
         shown_all (requests ++ later) left right left right all time_left time_right shown requests fault
         (λ held a b h. of_cut start before requests later fault held a b same h)

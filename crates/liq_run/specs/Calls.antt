@@ -1,5 +1,6 @@
 -- One request, as the store of two disks answers it.
 use Rattle.std.specs.Prelude.{ℕ, ◌≡◌, ◌↔◌, List, Option, Some, None, IsSome, Result, Ok, Err}
+use Rattle.liq_outside.specs.At.{DiskAt}
 use Rattle.liq_outside.specs.Disk.{GoesOn}
 use Rattle.liq_types.specs.declared.replies.Reply.{Reply}
 use Rattle.liq_types.specs.declared.requests.Request.{Request}
@@ -17,8 +18,8 @@ abbrev pub IsCommand : Request → Type 0
 IsCommand (Do command) = Unit {0}
 IsCommand (Ask query) = ⊥
 
--- The step was made; or there was no memory, or a disk met a fault at a command that is accepted: no step was made
--- then.
+-- The step was made; or there was no memory, or a disk met a fault at a command that is accepted:
+-- no step was made then.
 abbrev pub Calls : State → Request → Result Reply Halt → Core → Type 0
 Calls s request (Ok reply) core = StandsFor core (step s request).0 × ((step s request).1 ≡ reply)
 Calls s request (Err NoMemory) core = StandsFor core s × TakesMemory s request
@@ -31,18 +32,17 @@ IsStopped (Err DiskFault) stopped = (sum : ℕ) × (stopped ≡ Some sum)
 IsStopped (Err (Rotated generation)) stopped = ⊥
 IsStopped _ stopped = stopped ≡ None
 
-module _ {D : Type 0} (seen : D → Option (List ℕ)) where
+module _ {D : Type 0} (at : D → DiskAt) where
   -- where both disks tell their bytes, these are kept for the state before the request or after it
   abbrev pub KeepsAround : D → D → State → Request → Type 0
   KeepsAround left right s request =
-      (l r : List ℕ) → seen left ≡ Some l → seen right ≡ Some r → IsKeptAround s request l r
+      (l r : List ℕ) → (at left).seen ≡ Some l → (at right).seen ≡ Some r
+      → IsKeptAround s request l r
 
--- For both disks of a store time goes on, and what a crash may have left at a past moment stays what it was. Each tells
--- its bytes where it told them before, and there alone.
-pub record GoOn
-    {D : Type 0} (seen : D → Option (List ℕ)) (moment : D → ℕ) (left_at : D → ℕ → List ℕ → Type 0)
-    (old new : Stored D) : Type 0 where
-  pub left : GoesOn moment left_at old.left new.left
-  pub right : GoesOn moment left_at old.right new.right
-  pub left_telling : IsSome (seen new.left) ↔ IsSome (seen old.left)
-  pub right_telling : IsSome (seen new.right) ↔ IsSome (seen old.right)
+-- For both disks of a store time goes on, and what a crash may have left at a past moment stays
+-- what it was. Each tells its bytes where it told them before, and there alone.
+pub record GoOn {D : Type 0} (at : D → DiskAt) (old new : Stored D) : Type 0 where
+  pub left : GoesOn at old.left new.left
+  pub right : GoesOn at old.right new.right
+  pub left_telling : IsSome (at new.left).seen ↔ IsSome (at old.left).seen
+  pub right_telling : IsSome (at new.right).seen ↔ IsSome (at old.right).seen

@@ -4,7 +4,8 @@ use Rattle.liq_lines.specs.Writing.{Writes, WritesPart}
 use Rattle.liq_ends.specs.declared.halts.Halt.{Halt}
 use Rattle.liq_ends.specs.declared.halts.Halt.TheVariants.{WriteFault}
 
--- A front of what waited was written, and the rest still waits; or the sink met a fault within what waited.
+-- A front of what waited was written, and the rest still waits; or the sink met a fault within what
+-- waited.
 abbrev pub WritesFront :
     Result (Unit {0}) Halt → List ℕ → List ℕ → Option (List ℕ) → Option (List ℕ) → Type 0
 WritesFront (Ok done) waited waits before after =

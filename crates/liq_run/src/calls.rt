@@ -1,12 +1,13 @@
 //! One request after another, as the store answers them.
 
-ghost use Rattle.std.specs.Prelude.{◌≡◌, ◌≢◌, ◌≤◌, ◌<◌, ◌+◌, ◌++◌, [], Some, None, Err, List, ℕ, vec_len, vec_capacity};
+ghost use Rattle.std.specs.Prelude.{◌≡◌, ◌≢◌, ◌≤◌, ◌<◌, ◌+◌, ◌++◌, [], None, Err, List, vec_len, vec_capacity};
 ghost use Rattle.liq_types.specs.declared.requests.Request.{Request};
 ghost use Rattle.liq_types.specs.declared.requests.Request.TheVariants.{Ask};
 ghost use Rattle.liq_rules.specs.Step.{step};
 ghost use Rattle.liq_text.specs.Replies.{reply_line};
 ghost use Rattle.liq_types.specs.State.{State};
 ghost use Rattle.liq_core.specs.Core.{StandsFor};
+ghost use Rattle.liq_store.specs.Causes.{counts_of};
 ghost use Rattle.liq_ends.specs.Causes.{DiskCause};
 ghost use Rattle.liq_ends.specs.Output.{lines};
 ghost use Rattle.liq_lines.specs.Writing.{Writes};
@@ -21,40 +22,45 @@ use liq_store::Store;
 use liq_types::amounts::REPLY_BYTES;
 use liq_types::{Answer, Hint, Query, Reply, Request};
 
-/// Puts the reply to a query behind those that wait. The store is not called for it: so nothing is cleared or moved that a
-/// command's plan has room for.
+/// Puts the reply to a query behind those that wait. The store is not called for it: so nothing is
+/// cleared or moved that a command's plan has room for.
 pub fn tell<D: Disk>(store: &Store<D>, query: &Query, waiting: &mut Vec<u8>)
     requires { vec_len waiting.old + REPLY_BYTES < vec_capacity waiting.old }
-    ensures line { (s : State) → StandsFor store.now.core s → waiting.new.items ≡ waiting.old.items ++ reply_line (step s (Ask query.now)).1 }
+    ensures line { (s : State) → StandsFor store.now.core s
+        → waiting.new.items ≡ waiting.old.items ++ reply_line (step s (Ask query.now)).1 }
     ensures capacity { vec_capacity waiting.old ≤ vec_capacity waiting.new }
 {
     keep(&store.protocol().query(query), waiting);
 }
 
-/// Makes the request's step, and gives its reply. The sink is shown the disks behind the step: by then no reply is out but
-/// those before this one.
+/// Makes the request's step, and gives its reply. The sink is shown the disks behind the step: by
+/// then no reply is out but those before this one.
 pub fn call<D: Disk, K: Sink>(
     store: &mut Store<D>,
     request: &Request,
     out: &mut K,
 ) -> Result<Reply, Halt>
     requires going { store.old.stopped ≡ None }
-    ensures call { (s : State) → StandsFor store.old.core s → Calls s request.now result store.new.core }
+    ensures call { (s : State) → StandsFor store.old.core s
+        → Calls s request.now result store.new.core }
     ensures no_source { result ≢ Err Halt.ReadFault }
     ensures no_sink { result ≢ Err Halt.WriteFault }
     ensures command { result ≡ Err Halt.DiskFault → IsCommand request.now }
     ensures stopped { IsStopped result store.new.stopped }
-    ensures time { GoOn D.seen D.moment D.left_at store.old store.new }
+    ensures time { GoOn D.at store.old store.new }
     // Nobody follows the list here.
     ensures untold { store.new.changes ≡ [] }
     // Where a disk met a fault, both keep the state before the request or after it.
-    ensures kept { result ≡ Err Halt.DiskFault → (s : State) → StandsFor store.old.core s → KeepsAround D.seen store.new.left store.new.right s request.now }
-    ensures past { (begun : Begun D) (requests : List Request) → IsPastOf D.seen D.moment D.left_at begun requests store.old (K.shown out.old)
-        → Writes begun.held (lines begun.start requests) (K.held out.old)
-        → Passes D.seen D.moment D.left_at begun requests request.now result store.new (K.shown out.new) }
-    ensures held { K.held out.new ≡ K.held out.old }
-    ensures sink { K.faults out.new ≡ K.faults out.old }
-    ensures cause { DiskCause result (record { left = D.faults store.old.left; right = D.faults store.old.right }) (record { left = D.faults store.new.left; right = D.faults store.new.right }) }
+    ensures kept { result ≡ Err Halt.DiskFault → (s : State) → StandsFor store.old.core s
+        → KeepsAround D.at store.new.left store.new.right s request.now }
+    ensures past { (begun : Begun D) (requests : List Request)
+        → IsPastOf D.at begun requests store.old (K.at out.old).shown
+        → Writes begun.held (lines begun.start requests) (K.at out.old).held
+        → Passes D.at begun requests request.now result store.new (K.at out.new).shown }
+    ensures held { (K.at out.new).held ≡ (K.at out.old).held }
+    ensures sink { (K.at out.new).faults ≡ (K.at out.old).faults }
+    ensures cause { DiskCause result (counts_of D.at store.old.left store.old.right)
+        (counts_of D.at store.new.left store.new.right) }
 {
     protocols_stand(store.protocol());
     let answer = store.call(request, &Hint::NONE);

@@ -1,4 +1,5 @@
-//! The word `run`: each line of the input is a request, answered in turn over the store of two disks.
+//! The word `run`: each line of the input is a request, answered in turn over the store of two
+//! disks.
 #![tactic(auto)]
 
 mod calls;

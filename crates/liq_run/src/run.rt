@@ -11,7 +11,7 @@ ghost use Rattle.liq_run.specs.declared.run.Next.TheVariants.{Line};
 ghost use Rattle.liq_run.specs.Calls.{GoOn, IsStopped, KeepsAround};
 ghost use Rattle.liq_run.specs.Passing.{Begun, BeginsNone, BeginsRun, IsPastOf, Passes};
 ghost use Rattle.liq_run.specs.Progress.{RequestOn, ReadsRequest, Answers, GivesBack, Written};
-ghost use Rattle.liq_run.specs.Turns.{HasCome, HasEnded, PartShows, TakesTurn};
+ghost use Rattle.liq_run.specs.Turns.{HasCome, HasEnded, PartShows, TakesTurn, run_at};
 ghost use Rattle.liq_core.specs.Core.{StandsFor};
 ghost use Rattle.liq_pairs.specs.Pair.{state_on};
 ghost use Rattle.liq_store.specs.Causes.{Faults, counts_of};
@@ -46,8 +46,8 @@ enum Next {
     End,
 }
 
-/// Reads the next line's request, of which there are so many before it: of this size where it was taken whole already. Behind a
-/// bad line nothing is read.
+/// Reads the next line's request, of which there are so many before it: of this size where it was
+/// taken whole already. Behind a bad line nothing is read.
 fn next_request<S: Source>(
     reader: &mut Reader,
     whole: Option<usize>,
@@ -58,13 +58,15 @@ fn next_request<S: Source>(
     requires few { before < LINES_MOST }
     requires room { LINE_BYTES ≤ vec_capacity line.old }
     requires whole { IfSome whole (λ size. IsWholeLine size reader.old) }
-    ensures request { ReadsRequest (unread reader.old (S.left input.old)) (unread reader.new (S.left input.new)) reader.new (before + 1) result }
-    ensures few { ReadsAtMost (LINE_BYTES + 1) (unread reader.old (S.left input.old)) (unread reader.new (S.left input.new)) }
+    ensures request { ReadsRequest (unread reader.old (S.at input.old).left)
+        (unread reader.new (S.at input.new).left) reader.new (before + 1) result }
+    ensures few { ReadsAtMost (LINE_BYTES + 1) (unread reader.old (S.at input.old).left)
+        (unread reader.new (S.at input.new).left) }
     ensures held { length reader.new ≤ READ_BYTES }
     // Where the line was taken already, nothing is read.
     ensures taken { IsSome whole → result ≢ Err Halt.ReadFault }
     ensures capacity { vec_capacity line.new ≡ vec_capacity line.old }
-    ensures cause { ReadCause result (S.faults input.old) (S.faults input.new) }
+    ensures cause { ReadCause result (S.at input.old).faults (S.at input.new).faults }
 {
     match whole {
         Some(size) => taken_request(reader, size, before),
@@ -72,11 +74,15 @@ fn next_request<S: Source>(
     }
 }
 
-/// The query on the next line, where that was taken whole and has one: then the line is passed, and else none is.
+/// The query on the next line, where that was taken whole and has one: then the line is passed, and
+/// else none is.
 fn next_query(reader: &mut Reader, whole: Option<usize>) -> Option<Query>
     requires { IfSome whole (λ size. IsWholeLine size reader.old) }
-    ensures query { IfSome result (λ query. (number : ℕ) (left : Option (List ℕ)) → ReadsRequest (unread reader.old left) (unread reader.new left) reader.new number (Ok (Line (Ask query)))) }
-    ensures few { IfSome result (λ _. (left : Option (List ℕ)) → ReadsAtMost (LINE_BYTES + 1) (unread reader.old left) (unread reader.new left)) }
+    ensures query { IfSome result (λ query. (number : ℕ) (left : Option (List ℕ))
+        → ReadsRequest (unread reader.old left) (unread reader.new left) reader.new number
+        (Ok (Line (Ask query)))) }
+    ensures few { IfSome result (λ _. (left : Option (List ℕ))
+        → ReadsAtMost (LINE_BYTES + 1) (unread reader.old left) (unread reader.new left)) }
     ensures held { IsSome result → length reader.new ≤ READ_BYTES }
     ensures stays { result ≡ None → reader.new ≡ reader.old }
 {
@@ -90,8 +96,11 @@ fn next_query(reader: &mut Reader, whole: Option<usize>) -> Option<Query>
 fn taken_request(reader: &mut Reader, size: usize, before: u64) -> Result<Next, Halt>
     requires few { before < LINES_MOST }
     requires whole { IsWholeLine size reader.old }
-    ensures request { (left : Option (List ℕ)) → ReadsRequest (unread reader.old left) (unread reader.new left) reader.new (before + 1) result }
-    ensures few { (left : Option (List ℕ)) → ReadsAtMost (LINE_BYTES + 1) (unread reader.old left) (unread reader.new left) }
+    ensures request { (left : Option (List ℕ))
+        → ReadsRequest (unread reader.old left) (unread reader.new left) reader.new (before + 1)
+        result }
+    ensures few { (left : Option (List ℕ))
+        → ReadsAtMost (LINE_BYTES + 1) (unread reader.old left) (unread reader.new left) }
     ensures held { length reader.new ≤ READ_BYTES }
     ensures taken { result ≢ Err Halt.ReadFault }
 {
@@ -112,11 +121,13 @@ fn read_request<S: Source>(
 ) -> Result<Next, Halt>
     requires few { before < LINES_MOST }
     requires room { LINE_BYTES ≤ vec_capacity line.old }
-    ensures request { ReadsRequest (unread reader.old (S.left input.old)) (unread reader.new (S.left input.new)) reader.new (before + 1) result }
-    ensures few { ReadsAtMost (LINE_BYTES + 1) (unread reader.old (S.left input.old)) (unread reader.new (S.left input.new)) }
+    ensures request { ReadsRequest (unread reader.old (S.at input.old).left)
+        (unread reader.new (S.at input.new).left) reader.new (before + 1) result }
+    ensures few { ReadsAtMost (LINE_BYTES + 1) (unread reader.old (S.at input.old).left)
+        (unread reader.new (S.at input.new).left) }
     ensures held { length reader.new ≤ READ_BYTES }
     ensures capacity { vec_capacity line.new ≡ vec_capacity line.old }
-    ensures cause { ReadCause result (S.faults input.old) (S.faults input.new) }
+    ensures cause { ReadCause result (S.at input.old).faults (S.at input.new).faults }
 {
     match reader.next_line(input, line) {
         Err(Failed) => Err(Halt::ReadFault),
@@ -146,16 +157,19 @@ pub fn answer_input<S: Source, K: Sink, D: Disk>(
     left: D,
     right: D,
 ) -> Ending<D>
-    ensures run { OfState D.seen left right (λ l r start. (bytes : List ℕ) → S.left input.old ≡ Some bytes
-        → GivesBack D.seen D.moment D.left_at left right start result.end bytes l r (S.left input.new)
-        (K.held out.old) (K.held out.new) (K.shown out.old) (K.shown out.new) result.left result.right) }
+    ensures run { OfState D.at left right (λ l r start. (bytes : List ℕ)
+        → (S.at input.old).left ≡ Some bytes
+        → GivesBack D.at left right start result.end bytes l r (S.at input.new).left
+        (K.at out.old).held (K.at out.new).held (K.at out.old).shown (K.at out.new).shown
+        result.left result.right) }
     // Over damaged disks nothing is read or written.
-    ensures damaged { OfDamage D.seen left right (λ l r side damage. (input.new ≡ input.old) × (out.new ≡ out.old)
-        × LeavesDamaged D.seen D.moment D.left_at left right l r side damage result.end result.left result.right) }
-    ensures few { ReadsAtMost (taken_most LINES_MOST) (S.left input.old) (S.left input.new) }
-    ensures source { ReadCause result.end (S.faults input.old) (S.faults input.new) }
-    ensures sink { WriteCause result.end (K.faults out.old) (K.faults out.new) }
-    ensures disks { DisksGoOn D.seen D.faults D.moment D.left_at left right result.end result.left result.right }
+    ensures damaged { OfDamage D.at left right (λ l r side damage.
+        (input.new ≡ input.old) × (out.new ≡ out.old)
+        × LeavesDamaged D.at left right l r side damage result.end result.left result.right) }
+    ensures few { ReadsAtMost (taken_most LINES_MOST) (S.at input.old).left (S.at input.new).left }
+    ensures source { ReadCause result.end (S.at input.old).faults (S.at input.new).faults }
+    ensures sink { WriteCause result.end (K.at out.old).faults (K.at out.new).faults }
+    ensures disks { DisksGoOn D.at left right result.end result.left result.right }
     // It goes on in whatever generation.
     ensures goes_on { (generation : ℕ) → result.end ≢ Err (Halt.Rotated generation) }
 {
@@ -201,30 +215,37 @@ pub struct Run<D: Disk> {
 }
 
 impl<D: Disk> Run<D> {
-    /// A run over the store of two disks, which the sink is shown then. Where it is not opened the disks are handed back.
+    /// A run over the store of two disks, which the sink is shown then. Where it is not opened the
+    /// disks are handed back.
     pub fn open<K: Sink>(
         alloc: Global,
         left: D,
         right: D,
         out: &mut K,
     ) -> Result<Run<D>, StoreFault<D>>
-        ensures opened { IfOk result (λ run. OpensOn D.seen D.faults left right run.store × (run.reader ≡ []) × (run.waiting.items ≡ [])) }
-        ensures not_opened { IfErr result (IsNotOpened D.seen D.faults left right) }
+        ensures opened { IfOk result (λ run.
+            OpensOn D.at left right run.store × (run.reader ≡ []) × (run.waiting.items ≡ [])) }
+        ensures not_opened { IfErr result (IsNotOpened D.at left right) }
         // What a crash at some moment may have left of both disks is that of an opening.
-        ensures begins { IfOk result (λ run. (l r : List ℕ) (start : State) → D.seen left ≡ Some l → D.seen right ≡ Some r → state_on l r ≡ Ok start
-            → BeginsRun D.seen D.moment D.left_at left right l r start run.store (K.held out.old) (K.shown out.old) (K.shown out.new)) }
-        ensures begins_none { IfErr result (λ fault. (l r : List ℕ) (start : State) → D.seen left ≡ Some l → D.seen right ≡ Some r → state_on l r ≡ Ok start
-            → BeginsNone D.seen D.moment D.left_at left right l r start fault.why fault.left fault.right) }
-        ensures held { K.held out.new ≡ K.held out.old }
-        ensures sink { K.faults out.new ≡ K.faults out.old }
+        ensures begins { IfOk result (λ run. (l r : List ℕ) (start : State)
+            → (D.at left).seen ≡ Some l → (D.at right).seen ≡ Some r → state_on l r ≡ Ok start
+            → BeginsRun D.at left right l r start run.store (K.at out.old).held
+            (K.at out.old).shown (K.at out.new).shown) }
+        ensures begins_none { IfErr result (λ fault. (l r : List ℕ) (start : State)
+            → (D.at left).seen ≡ Some l → (D.at right).seen ≡ Some r → state_on l r ≡ Ok start
+            → BeginsNone D.at left right l r start fault.why fault.left fault.right) }
+        ensures held { (K.at out.new).held ≡ (K.at out.old).held }
+        ensures sink { (K.at out.new).faults ≡ (K.at out.old).faults }
         ensures untouched { IfErr result (λ _. out.new ≡ out.old) }
-        ensures time { IfOk result (λ run. GoesOn D.moment D.left_at left run.store.left × GoesOn D.moment D.left_at right run.store.right) }
-        ensures telling { IfOk result (λ run. (IsSome (D.seen run.store.left) ↔ IsSome (D.seen left))
-            × (IsSome (D.seen run.store.right) ↔ IsSome (D.seen right))) }
-        ensures disks { IfErr result (λ fault. DisksGoOn D.seen D.faults D.moment D.left_at left right
-            (Err (halt_of fault.why)) fault.left fault.right) }
-        ensures damaged { IfErr result (λ fault. OfDamage D.seen left right (λ l r side damage.
-            LeavesDamaged D.seen D.moment D.left_at left right l r side damage (Err (halt_of fault.why))
+        ensures time { IfOk result (λ run.
+            GoesOn D.at left run.store.left × GoesOn D.at right run.store.right) }
+        ensures telling { IfOk result (λ run.
+            (IsSome (D.at run.store.left).seen ↔ IsSome (D.at left).seen)
+            × (IsSome (D.at run.store.right).seen ↔ IsSome (D.at right).seen)) }
+        ensures disks { IfErr result (λ fault.
+            DisksGoOn D.at left right (Err (halt_of fault.why)) fault.left fault.right) }
+        ensures damaged { IfErr result (λ fault. OfDamage D.at left right (λ l r side damage.
+            LeavesDamaged D.at left right l r side damage (Err (halt_of fault.why))
             fault.left fault.right)) }
     {
         let Buffers {
@@ -272,28 +293,42 @@ impl<D: Disk> Run<D> {
         requires unread { self.old.reader ≡ [] }
         requires waiting { self.old.waiting.items ≡ [] }
         requires going { self.old.store.stopped ≡ None }
-        ensures run { (begun : Begun D) (bytes : List ℕ) → S.left input.old ≡ Some bytes → begun.held ≡ K.held out.old → IsPastOf D.seen D.moment D.left_at begun [] self.old.store (K.shown out.old)
-            → HasEnded D.seen D.moment D.left_at begun bytes (record { store = self.new.store; taken = self.new.reader; left = S.left input.new; waiting = self.new.waiting.items; held = K.held out.new; shown = K.shown out.new }) result }
-        ensures few { ReadsAtMost (taken_most LINES_MOST) (S.left input.old) (S.left input.new) }
-        ensures source { ReadCause result (S.faults input.old) (S.faults input.new) }
-        ensures sink { WriteCause result (K.faults out.old) (K.faults out.new) }
+        ensures run { (begun : Begun D) (bytes : List ℕ)
+            → (S.at input.old).left ≡ Some bytes → begun.held ≡ (K.at out.old).held
+            → IsPastOf D.at begun [] self.old.store (K.at out.old).shown
+            → HasEnded D.at begun bytes
+            (run_at self.new.store self.new.reader self.new.waiting.items
+            (S.at input.new).left (K.at out.new)) result }
+        ensures few { ReadsAtMost (taken_most LINES_MOST)
+            (S.at input.old).left (S.at input.new).left }
+        ensures source { ReadCause result (S.at input.old).faults (S.at input.new).faults }
+        ensures sink { WriteCause result (K.at out.old).faults (K.at out.new).faults }
         ensures stopped { IsStopped result self.new.store.stopped }
-        ensures time { GoOn D.seen D.moment D.left_at self.old.store self.new.store }
-        ensures disks { DiskCause result (counts_of D.faults self.old.store.left self.old.store.right) (counts_of D.faults self.new.store.left self.new.store.right) }
+        ensures time { GoOn D.at self.old.store self.new.store }
+        ensures disks { DiskCause result (counts_of D.at self.old.store.left self.old.store.right)
+            (counts_of D.at self.new.store.left self.new.store.right) }
     {
         let end = self.answer_lines(input, out);
         self.catch_up_at(end, out)
     }
 
-    /// Answers the input's lines. Some replies may wait at the end, but none at a read fault or a disk's.
+    /// Answers the input's lines. Some replies may wait at the end, but none at a read fault or a
+    /// disk's.
     fn answer_lines<S: Source, K: Sink>(&mut self, input: &mut S, out: &mut K) -> Result<(), Halt>
         requires unread { self.old.reader ≡ [] }
         requires waiting { self.old.waiting.items ≡ [] }
         requires going { self.old.store.stopped ≡ None }
-        ensures run { (begun : Begun D) (bytes : List ℕ) → S.left input.old ≡ Some bytes → begun.held ≡ K.held out.old → IsPastOf D.seen D.moment D.left_at begun [] self.old.store (K.shown out.old)
-            → HasCome D.seen D.moment D.left_at begun bytes (record { store = self.new.store; taken = self.new.reader; left = S.left input.new; waiting = self.new.waiting.items; held = K.held out.new; shown = K.shown out.new }) result }
-        ensures few { ReadsAtMost (taken_most LINES_MOST) (S.left input.old) (S.left input.new) }
-        ensures shows { PartShows D.seen D.faults D.moment D.left_at self.old.store self.new.store self.new.waiting.items (S.faults input.old) (S.faults input.new) (K.faults out.old) (K.faults out.new) result }
+        ensures run { (begun : Begun D) (bytes : List ℕ)
+            → (S.at input.old).left ≡ Some bytes → begun.held ≡ (K.at out.old).held
+            → IsPastOf D.at begun [] self.old.store (K.at out.old).shown
+            → HasCome D.at begun bytes
+            (run_at self.new.store self.new.reader self.new.waiting.items
+            (S.at input.new).left (K.at out.new)) result }
+        ensures few { ReadsAtMost (taken_most LINES_MOST)
+            (S.at input.old).left (S.at input.new).left }
+        ensures shows { PartShows D.at self.old.store self.new.store self.new.waiting.items
+            (S.at input.old).faults (S.at input.new).faults
+            (K.at out.old).faults (K.at out.new).faults result }
     {
         for answered in 0..LINES_MOST {
             if !self.turn(input, out, answered)? {
@@ -311,18 +346,27 @@ impl<D: Disk> Run<D> {
     /// Writes what waits at the run's end. Where the sink meets a fault at it, that is the end.
     fn catch_up_at<K: Sink>(&self, end: Result<(), Halt>, out: &mut K) -> Result<(), Halt>
         ensures run { (begun : Begun D) (bytes : List ℕ) (left : Option (List ℕ))
-            → HasCome D.seen D.moment D.left_at begun bytes (record { store = self.now.store; taken = self.now.reader; left = left; waiting = self.now.waiting.items; held = K.held out.old; shown = K.shown out.old }) end
-            → HasEnded D.seen D.moment D.left_at begun bytes (record { store = self.now.store; taken = self.now.reader; left = left; waiting = []; held = K.held out.new; shown = K.shown out.new }) result }
-        ensures source { (old new : ℕ) → (end ≡ Err Halt.ReadFault → self.now.waiting.items ≡ []) → ReadCause end old new → ReadCause result old new }
-        ensures sink { (old : ℕ) → WriteCause end old (K.faults out.old) → WriteCause result old (K.faults out.new) }
-        ensures disks { (old new : Faults) → (end ≡ Err Halt.DiskFault → self.now.waiting.items ≡ []) → DiskCause end old new → DiskCause result old new }
-        ensures stopped { (stopped : Option ℕ) → (end ≡ Err Halt.DiskFault → self.now.waiting.items ≡ []) → IsStopped end stopped → IsStopped result stopped }
+            → HasCome D.at begun bytes
+            (run_at self.now.store self.now.reader self.now.waiting.items left (K.at out.old)) end
+            → HasEnded D.at begun bytes
+            (run_at self.now.store self.now.reader [] left (K.at out.new)) result }
+        ensures source { (old new : ℕ)
+            → (end ≡ Err Halt.ReadFault → self.now.waiting.items ≡ [])
+            → ReadCause end old new → ReadCause result old new }
+        ensures sink { (old : ℕ) → WriteCause end old (K.at out.old).faults
+            → WriteCause result old (K.at out.new).faults }
+        ensures disks { (old new : Faults)
+            → (end ≡ Err Halt.DiskFault → self.now.waiting.items ≡ [])
+            → DiskCause end old new → DiskCause result old new }
+        ensures stopped { (stopped : Option ℕ)
+            → (end ≡ Err Halt.DiskFault → self.now.waiting.items ≡ [])
+            → IsStopped end stopped → IsStopped result stopped }
     {
         write_rest(out, &self.waiting, end)
     }
 
-    /// Answers the next line, of which there are `answered` before it, and says whether another may follow. Before the source
-    /// is read the replies that wait are written.
+    /// Answers the next line, of which there are `answered` before it, and says whether another may
+    /// follow. Before the source is read the replies that wait are written.
     fn turn<S: Source, K: Sink>(
         &mut self,
         input: &mut S,
@@ -331,9 +375,14 @@ impl<D: Disk> Run<D> {
     ) -> Result<bool, Halt>
         requires few { answered < LINES_MOST }
         requires going { self.old.store.stopped ≡ None }
-        ensures turn { TakesTurn D.seen D.moment D.left_at answered (record { store = self.old.store; taken = self.old.reader; left = S.left input.old; waiting = self.old.waiting.items; held = K.held out.old; shown = K.shown out.old })
-            (record { store = self.new.store; taken = self.new.reader; left = S.left input.new; waiting = self.new.waiting.items; held = K.held out.new; shown = K.shown out.new }) result }
-        ensures shows { PartShows D.seen D.faults D.moment D.left_at self.old.store self.new.store self.new.waiting.items (S.faults input.old) (S.faults input.new) (K.faults out.old) (K.faults out.new) result }
+        ensures turn { TakesTurn D.at answered
+            (run_at self.old.store self.old.reader self.old.waiting.items
+            (S.at input.old).left (K.at out.old))
+            (run_at self.new.store self.new.reader self.new.waiting.items
+            (S.at input.new).left (K.at out.new)) result }
+        ensures shows { PartShows D.at self.old.store self.new.store self.new.waiting.items
+            (S.at input.old).faults (S.at input.new).faults
+            (K.at out.old).faults (K.at out.new).faults result }
     {
         let whole = self.reader.whole_line();
         if let Some(query) = next_query(&mut self.reader, whole) {
@@ -354,9 +403,14 @@ impl<D: Disk> Run<D> {
         requires whole { IfSome whole (λ size. IsWholeLine size self.old.reader) }
         requires few { answered < LINES_MOST }
         requires going { self.old.store.stopped ≡ None }
-        ensures turn { TakesTurn D.seen D.moment D.left_at answered (record { store = self.old.store; taken = self.old.reader; left = S.left input.old; waiting = self.old.waiting.items; held = K.held out.old; shown = K.shown out.old })
-            (record { store = self.new.store; taken = self.new.reader; left = S.left input.new; waiting = self.new.waiting.items; held = K.held out.new; shown = K.shown out.new }) result }
-        ensures shows { PartShows D.seen D.faults D.moment D.left_at self.old.store self.new.store self.new.waiting.items (S.faults input.old) (S.faults input.new) (K.faults out.old) (K.faults out.new) result }
+        ensures turn { TakesTurn D.at answered
+            (run_at self.old.store self.old.reader self.old.waiting.items
+            (S.at input.old).left (K.at out.old))
+            (run_at self.new.store self.new.reader self.new.waiting.items
+            (S.at input.new).left (K.at out.new)) result }
+        ensures shows { PartShows D.at self.old.store self.new.store self.new.waiting.items
+            (S.at input.old).faults (S.at input.new).faults
+            (K.at out.old).faults (K.at out.new).faults result }
     {
         catch_up(whole, &mut self.waiting, out)?;
         match next_request(&mut self.reader, whole, &mut self.line, input, answered)? {
@@ -372,23 +426,29 @@ impl<D: Disk> Run<D> {
         }
     }
 
-    /// Makes the request's step, and keeps its reply until it is written. Before a command's step all other replies are written.
+    /// Makes the request's step, and keeps its reply until it is written. Before a command's step
+    /// all other replies are written.
     fn answer<K: Sink>(&mut self, request: &Request, out: &mut K) -> Result<(), Halt>
         requires going { self.old.store.stopped ≡ None }
         ensures answer { (s : State) → StandsFor self.old.store.core s
-            → Answers s request.now result self.new.store.core self.old.waiting.items self.new.waiting.items (K.held out.old) (K.held out.new) }
+            → Answers s request.now result self.new.store.core self.old.waiting.items
+            self.new.waiting.items (K.at out.old).held (K.at out.new).held }
         ensures reader { self.new.reader ≡ self.old.reader }
-        ensures past { (begun : Begun D) (requests : List Request) → IsPastOf D.seen D.moment D.left_at begun requests self.old.store (K.shown out.old)
-            → Written begun.start requests self.old.waiting.items begun.held (K.held out.old)
-            → Passes D.seen D.moment D.left_at begun requests request.now result self.new.store (K.shown out.new) }
+        ensures past { (begun : Begun D) (requests : List Request)
+            → IsPastOf D.at begun requests self.old.store (K.at out.old).shown
+            → Written begun.start requests self.old.waiting.items begun.held (K.at out.old).held
+            → Passes D.at begun requests request.now result self.new.store (K.at out.new).shown }
         ensures other { result ≢ Err Halt.ReadFault }
-        // Where a disk met a fault nothing waits, and both disks keep the state before the request or after it.
+        // Where a disk met a fault nothing waits, and both disks keep the state before the request
+        // or after it.
         ensures caught_up { result ≡ Err Halt.DiskFault → self.new.waiting.items ≡ [] }
-        ensures kept { result ≡ Err Halt.DiskFault → (s : State) → StandsFor self.old.store.core s → KeepsAround D.seen self.new.store.left self.new.store.right s request.now }
-        ensures sink { WriteCause result (K.faults out.old) (K.faults out.new) }
+        ensures kept { result ≡ Err Halt.DiskFault → (s : State) → StandsFor self.old.store.core s
+            → KeepsAround D.at self.new.store.left self.new.store.right s request.now }
+        ensures sink { WriteCause result (K.at out.old).faults (K.at out.new).faults }
         ensures stopped { IsStopped result self.new.store.stopped }
-        ensures time { GoOn D.seen D.moment D.left_at self.old.store self.new.store }
-        ensures disks { DiskCause result (counts_of D.faults self.old.store.left self.old.store.right) (counts_of D.faults self.new.store.left self.new.store.right) }
+        ensures time { GoOn D.at self.old.store self.new.store }
+        ensures disks { DiskCause result (counts_of D.at self.old.store.left self.old.store.right)
+            (counts_of D.at self.new.store.left self.new.store.right) }
     {
         match request {
             Request::Ask(query) => self.answer_query(query, out),
@@ -405,17 +465,22 @@ impl<D: Disk> Run<D> {
     fn answer_query<K: Sink>(&mut self, query: &Query, out: &mut K) -> Result<(), Halt>
         requires going { self.old.store.stopped ≡ None }
         ensures answer { (s : State) → StandsFor self.old.store.core s
-            → Answers s (Ask query.now) result self.new.store.core self.old.waiting.items self.new.waiting.items (K.held out.old) (K.held out.new) }
+            → Answers s (Ask query.now) result self.new.store.core self.old.waiting.items
+            self.new.waiting.items (K.at out.old).held (K.at out.new).held }
         ensures reader { self.new.reader ≡ self.old.reader }
-        ensures past { (begun : Begun D) (requests : List Request) → IsPastOf D.seen D.moment D.left_at begun requests self.old.store (K.shown out.old)
-            → Passes D.seen D.moment D.left_at begun requests (Ask query.now) result self.new.store (K.shown out.new) }
+        ensures past { (begun : Begun D) (requests : List Request)
+            → IsPastOf D.at begun requests self.old.store (K.at out.old).shown
+            → Passes D.at begun requests (Ask query.now) result self.new.store
+            (K.at out.new).shown }
         ensures other { result ≢ Err Halt.ReadFault }
         ensures caught_up { result ≡ Err Halt.DiskFault → self.new.waiting.items ≡ [] }
-        ensures kept { result ≡ Err Halt.DiskFault → (s : State) → StandsFor self.old.store.core s → KeepsAround D.seen self.new.store.left self.new.store.right s (Ask query.now) }
-        ensures sink { WriteCause result (K.faults out.old) (K.faults out.new) }
+        ensures kept { result ≡ Err Halt.DiskFault → (s : State) → StandsFor self.old.store.core s
+            → KeepsAround D.at self.new.store.left self.new.store.right s (Ask query.now) }
+        ensures sink { WriteCause result (K.at out.old).faults (K.at out.new).faults }
         ensures stopped { IsStopped result self.new.store.stopped }
-        ensures time { GoOn D.seen D.moment D.left_at self.old.store self.new.store }
-        ensures disks { DiskCause result (counts_of D.faults self.old.store.left self.old.store.right) (counts_of D.faults self.new.store.left self.new.store.right) }
+        ensures time { GoOn D.at self.old.store self.new.store }
+        ensures disks { DiskCause result (counts_of D.at self.old.store.left self.old.store.right)
+            (counts_of D.at self.new.store.left self.new.store.right) }
     {
         make_room(&mut self.waiting, out)?;
         tell(&self.store, query, &mut self.waiting);

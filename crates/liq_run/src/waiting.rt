@@ -17,11 +17,12 @@ pub const WAITING_MOST: usize = 16_384;
 
 /// Writes all that waits. Nothing waits then, also where the sink met a fault.
 pub fn flush<K: Sink>(waiting: &mut Vec<u8>, out: &mut K) -> Result<(), Halt>
-    ensures written { WritesFront result waiting.old.items waiting.new.items (K.held out.old) (K.held out.new) }
+    ensures written { WritesFront result waiting.old.items waiting.new.items
+        (K.at out.old).held (K.at out.new).held }
     ensures empty { waiting.new.items ≡ [] }
     ensures capacity { vec_capacity waiting.new ≡ vec_capacity waiting.old }
-    ensures cause { WriteCause result (K.faults out.old) (K.faults out.new) }
-    ensures unshown { K.shown out.new ≡ K.shown out.old }
+    ensures cause { WriteCause result (K.at out.old).faults (K.at out.new).faults }
+    ensures unshown { (K.at out.new).shown ≡ (K.at out.old).shown }
 {
     let written = write_all(out, waiting);
     waiting.clear();
@@ -31,17 +32,19 @@ pub fn flush<K: Sink>(waiting: &mut Vec<u8>, out: &mut K) -> Result<(), Halt>
     }
 }
 
-/// Writes what waits, but where the next line was taken from the source whole, so that the source is not read for it.
+/// Writes what waits, but where the next line was taken from the source whole, so that the source
+/// is not read for it.
 pub fn catch_up<K: Sink>(
     whole: Option<usize>,
     waiting: &mut Vec<u8>,
     out: &mut K,
 ) -> Result<(), Halt>
-    ensures written { WritesFront result waiting.old.items waiting.new.items (K.held out.old) (K.held out.new) }
+    ensures written { WritesFront result waiting.old.items waiting.new.items
+        (K.at out.old).held (K.at out.new).held }
     ensures taken { OnOk result ((waiting.new.items ≡ []) ⊎ IsSome whole) }
     ensures capacity { vec_capacity waiting.new ≡ vec_capacity waiting.old }
-    ensures cause { WriteCause result (K.faults out.old) (K.faults out.new) }
-    ensures unshown { K.shown out.new ≡ K.shown out.old }
+    ensures cause { WriteCause result (K.at out.old).faults (K.at out.new).faults }
+    ensures unshown { (K.at out.new).shown ≡ (K.at out.old).shown }
 {
     match whole {
         Some(_) => Ok(()),
@@ -52,11 +55,12 @@ pub fn catch_up<K: Sink>(
 /// Writes what waits where there is no room for another reply.
 pub fn make_room<K: Sink>(waiting: &mut Vec<u8>, out: &mut K) -> Result<(), Halt>
     requires { WAITING_MOST ≤ vec_capacity waiting.old }
-    ensures written { WritesFront result waiting.old.items waiting.new.items (K.held out.old) (K.held out.new) }
+    ensures written { WritesFront result waiting.old.items waiting.new.items
+        (K.at out.old).held (K.at out.new).held }
     ensures room { OnOk result (vec_len waiting.new + REPLY_BYTES < vec_capacity waiting.new) }
     ensures capacity { vec_capacity waiting.new ≡ vec_capacity waiting.old }
-    ensures cause { WriteCause result (K.faults out.old) (K.faults out.new) }
-    ensures unshown { K.shown out.new ≡ K.shown out.old }
+    ensures cause { WriteCause result (K.at out.old).faults (K.at out.new).faults }
+    ensures unshown { (K.at out.new).shown ≡ (K.at out.old).shown }
 {
     if waiting.len() < WAITING_MOST - REPLY_BYTES {
         Ok(())

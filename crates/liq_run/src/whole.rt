@@ -20,19 +20,23 @@ where
     S: Source,
     K: Sink,
     D: Disk,
-    ensures run { OfState D.seen left right (λ l r start. (bytes : List ℕ) → S.left input.old ≡ Some bytes
-        → EndsIn D.seen D.moment D.left_at left right start result.end bytes l r (S.left input.new)
-        (Rose (K.faults out.old) (K.faults out.new)) (K.held out.old) (K.held out.new)
-        (K.shown out.old) (K.shown out.new) result.left result.right) }
+    ensures run { OfState D.at left right (λ l r start. (bytes : List ℕ)
+        → (S.at input.old).left ≡ Some bytes
+        → EndsIn D.at left right start result.end bytes l r (S.at input.new).left
+        (Rose (K.at out.old).faults (K.at out.new).faults) (K.at out.old).held (K.at out.new).held
+        (K.at out.old).shown (K.at out.new).shown result.left result.right) }
     // Over damaged disks nothing is read.
-    ensures damaged { OfDamage D.seen left right (λ l r side damage. (input.new ≡ input.old)
-        × StopsDamaged D.seen D.moment D.left_at left right l r side damage result.end
-        (Rose (K.faults out.old) (K.faults out.new)) (K.held out.old) (K.held out.new) result.left result.right) }
-    // No more is taken from the source than 1,000,000 lines of 201 bytes, and what one read asks for.
-    ensures few { ReadsAtMost (taken_most LINES_MOST) (S.left input.old) (S.left input.new) }
-    ensures causes { HasCauses S.faults K.faults D.seen D.faults D.moment D.left_at
+    ensures damaged { OfDamage D.at left right (λ l r side damage. (input.new ≡ input.old)
+        × StopsDamaged D.at left right l r side damage result.end
+        (Rose (K.at out.old).faults (K.at out.new).faults) (K.at out.old).held (K.at out.new).held
+        result.left result.right) }
+    // No more is taken from the source than 1,000,000 lines of 201 bytes, and what one read asks
+    // for.
+    ensures few { ReadsAtMost (taken_most LINES_MOST) (S.at input.old).left (S.at input.new).left }
+    ensures causes { HasCauses S.at K.at D.at
         (record { source = input.old; sink = out.old; left = left; right = right })
-        (record { source = input.new; sink = out.new; left = result.left; right = result.right }) result.end }
+        (record { source = input.new; sink = out.new; left = result.left; right = result.right })
+        result.end }
     // It goes on in whatever generation.
     ensures goes_on { (generation : ℕ) → result.end ≢ Err (Halt.Rotated generation) }
 {

@@ -27,16 +27,20 @@ use std::alloc::Global;
 /// - [`Stop::NoMemory`]: there was no memory;
 /// - [`Stop::Limit`]: a line behind the last that is answered begins.
 pub fn read_scripts<S: Source>(alloc: Global, input: &mut S) -> Result<Vec<Script>, Stop>
-    ensures read { Gathers result (S.left input.old) (S.left input.new) }
+    ensures read { Gathers result (S.at input.old).left (S.at input.new).left }
     // All scripts together have no more requests than there are lines.
-    ensures few { IfOk result (λ scripts. sum_by (λ script. length script.requests) scripts.items ≤ LINES_MOST) }
+    ensures few { IfOk result
+        (λ scripts. sum_by (λ script. length script.requests) scripts.items ≤ LINES_MOST) }
     // At most as many lines are taken from the source as are read, and what one read asks for.
-    ensures takes { ReadsAtMost (taken_most LINES_MOST) (S.left input.old) (S.left input.new) }
-    ensures source { ReadCause result (S.faults input.old) (S.faults input.new) }
+    ensures takes { ReadsAtMost (taken_most LINES_MOST) (S.at input.old).left
+        (S.at input.new).left }
+    ensures source { ReadCause result (S.at input.old).faults (S.at input.new).faults }
 
     // Where each line asks something, none is too many and the source meets no fault, memory alone can be missing.
-    ensures complete { (bytes : List ℕ) → S.left input.old ≡ Some bytes → (asked : List (ℕ × Request)) → AllZip Asks (lines_in bytes) asked
-        → length asked ≤ LINES_MOST → (Rose (S.faults input.old) (S.faults input.new) → ⊥) → IsOkUnless result Stop.NoMemory }
+    ensures complete { (bytes : List ℕ) → (S.at input.old).left ≡ Some bytes
+        → (asked : List (ℕ × Request)) → AllZip Asks (lines_in bytes) asked
+        → length asked ≤ LINES_MOST → (Rose (S.at input.old).faults (S.at input.new).faults → ⊥)
+        → IsOkUnless result Stop.NoMemory }
 {
     let mut scripts = nothing_asked(alloc)?;
     gather_into(alloc, &mut scripts, input)?;

@@ -62,10 +62,10 @@ impl Outbox {
 
     /// Writes all that waits.
     pub(crate) fn flush<K: Sink>(&mut self, out: &mut K) -> Result<(), Failed>
-        ensures sends { Sends result self.old [] self.new (K.held out.old) (K.held out.new) }
+        ensures sends { Sends result self.old [] self.new (K.at out.old).held (K.at out.new).held }
         ensures empty { self.new ≡ [] }
-        ensures cause { HasCause (K.faults out.old) (K.faults out.new) result }
-        ensures unshown { K.shown out.new ≡ K.shown out.old }
+        ensures cause { HasCause (K.at out.old).faults (K.at out.new).faults result }
+        ensures unshown { (K.at out.new).shown ≡ (K.at out.old).shown }
     {
         let written = write_all(out, &self.bytes);
         self.bytes.clear();
@@ -74,9 +74,10 @@ impl Outbox {
 
     /// Puts the line behind those that wait. Where there is no room for it, what waits is written first.
     pub(crate) fn send<K: Sink>(&mut self, line: Line, out: &mut K) -> Result<(), Failed>
-        ensures sends { Sends result self.old (line_text line) self.new (K.held out.old) (K.held out.new) }
-        ensures cause { HasCause (K.faults out.old) (K.faults out.new) result }
-        ensures unshown { K.shown out.new ≡ K.shown out.old }
+        ensures sends { Sends result self.old (line_text line) self.new (K.at out.old).held
+            (K.at out.new).held }
+        ensures cause { HasCause (K.at out.old).faults (K.at out.new).faults result }
+        ensures unshown { (K.at out.new).shown ≡ (K.at out.old).shown }
     {
         if self.bytes.len() > ROOM - LINE_ROOM {
             self.flush(out)?;

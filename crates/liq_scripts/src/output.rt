@@ -48,10 +48,12 @@ pub fn write_served<E: Shown, K: Sink>(
     out: &mut K,
 ) -> Result<(), Failed>
     requires { outbox.old ≡ [] }
-    ensures ok { OnOk result (Writes (K.held out.old) (served (map E.entry entries.now)) (K.held out.new)) }
-    ensures err { OnErr result (WritesPart (K.held out.old) (served (map E.entry entries.now)) (K.held out.new)) }
-    ensures cause { HasCause (K.faults out.old) (K.faults out.new) result }
-    ensures unshown { K.shown out.new ≡ K.shown out.old }
+    ensures ok { OnOk result
+        (Writes (K.at out.old).held (served (map E.entry entries.now)) (K.at out.new).held) }
+    ensures err { OnErr result
+        (WritesPart (K.at out.old).held (served (map E.entry entries.now)) (K.at out.new).held) }
+    ensures cause { HasCause (K.at out.old).faults (K.at out.new).faults result }
+    ensures unshown { (K.at out.new).shown ≡ (K.at out.old).shown }
 {
     send_replies(entries, outbox, out)?;
     outbox.send(Line::History, out)?;
@@ -65,9 +67,10 @@ fn send_replies<E: Shown, K: Sink>(
     outbox: &mut Outbox,
     out: &mut K,
 ) -> Result<(), Failed>
-    ensures sends { Sends result outbox.old (replies_text (map E.entry entries.now)) outbox.new (K.held out.old) (K.held out.new) }
-    ensures cause { HasCause (K.faults out.old) (K.faults out.new) result }
-    ensures unshown { K.shown out.new ≡ K.shown out.old }
+    ensures sends { Sends result outbox.old (replies_text (map E.entry entries.now)) outbox.new
+        (K.at out.old).held (K.at out.new).held }
+    ensures cause { HasCause (K.at out.old).faults (K.at out.new).faults result }
+    ensures unshown { (K.at out.new).shown ≡ (K.at out.old).shown }
 {
     for before in 0..SESSIONS {
         send_session(entries, before + 1, outbox, out)?;
@@ -82,9 +85,11 @@ fn send_session<E: Shown, K: Sink>(
     outbox: &mut Outbox,
     out: &mut K,
 ) -> Result<(), Failed>
-    ensures sends { Sends result outbox.old (session_text session (own_entries session (map E.entry entries.now))) outbox.new (K.held out.old) (K.held out.new) }
-    ensures cause { HasCause (K.faults out.old) (K.faults out.new) result }
-    ensures unshown { K.shown out.new ≡ K.shown out.old }
+    ensures sends { Sends result outbox.old
+        (session_text session (own_entries session (map E.entry entries.now))) outbox.new
+        (K.at out.old).held (K.at out.new).held }
+    ensures cause { HasCause (K.at out.old).faults (K.at out.new).faults result }
+    ensures unshown { (K.at out.new).shown ≡ (K.at out.old).shown }
 {
     if !has_entries(entries, session) {
         return Ok(());
@@ -106,9 +111,10 @@ fn send_entries<E: Shown, K: Sink>(
     outbox: &mut Outbox,
     out: &mut K,
 ) -> Result<(), Failed>
-    ensures sends { Sends result outbox.old (history_text (map E.entry entries.now)) outbox.new (K.held out.old) (K.held out.new) }
-    ensures cause { HasCause (K.faults out.old) (K.faults out.new) result }
-    ensures unshown { K.shown out.new ≡ K.shown out.old }
+    ensures sends { Sends result outbox.old (history_text (map E.entry entries.now)) outbox.new
+        (K.at out.old).held (K.at out.new).held }
+    ensures cause { HasCause (K.at out.old).faults (K.at out.new).faults result }
+    ensures unshown { (K.at out.new).shown ≡ (K.at out.old).shown }
 {
     send_each(entries, Part::Call, outbox, out)
 }
@@ -120,10 +126,10 @@ fn send_each<E: Shown, K: Sink>(
     outbox: &mut Outbox,
     out: &mut K,
 ) -> Result<(), Failed>
-    ensures sends { Sends result outbox.old (flat_map (λ e. part_text part (E.entry e)) entries.now) outbox.new
-        (K.held out.old) (K.held out.new) }
-    ensures cause { HasCause (K.faults out.old) (K.faults out.new) result }
-    ensures unshown { K.shown out.new ≡ K.shown out.old }
+    ensures sends { Sends result outbox.old (flat_map (λ e. part_text part (E.entry e)) entries.now)
+        outbox.new (K.at out.old).held (K.at out.new).held }
+    ensures cause { HasCause (K.at out.old).faults (K.at out.new).faults result }
+    ensures unshown { (K.at out.new).shown ≡ (K.at out.old).shown }
 {
     for entry in entries {
         send_part(entry, part, outbox, out)?;
@@ -138,9 +144,10 @@ fn send_part<E: Shown, K: Sink>(
     outbox: &mut Outbox,
     out: &mut K,
 ) -> Result<(), Failed>
-    ensures sends { Sends result outbox.old (part_text part (E.entry entry.now)) outbox.new (K.held out.old) (K.held out.new) }
-    ensures cause { HasCause (K.faults out.old) (K.faults out.new) result }
-    ensures unshown { K.shown out.new ≡ K.shown out.old }
+    ensures sends { Sends result outbox.old (part_text part (E.entry entry.now)) outbox.new
+        (K.at out.old).held (K.at out.new).held }
+    ensures cause { HasCause (K.at out.old).faults (K.at out.new).faults result }
+    ensures unshown { (K.at out.new).shown ≡ (K.at out.old).shown }
 {
     match part {
         Part::ReplyTo(session) => send_own(entry, session, outbox, out),
@@ -155,9 +162,10 @@ fn send_own<E: Shown, K: Sink>(
     outbox: &mut Outbox,
     out: &mut K,
 ) -> Result<(), Failed>
-    ensures sends { Sends result outbox.old (part_text (Part.ReplyTo session) (E.entry entry.now)) outbox.new (K.held out.old) (K.held out.new) }
-    ensures cause { HasCause (K.faults out.old) (K.faults out.new) result }
-    ensures unshown { K.shown out.new ≡ K.shown out.old }
+    ensures sends { Sends result outbox.old (part_text (Part.ReplyTo session) (E.entry entry.now))
+        outbox.new (K.at out.old).held (K.at out.new).held }
+    ensures cause { HasCause (K.at out.old).faults (K.at out.new).faults result }
+    ensures unshown { (K.at out.new).shown ≡ (K.at out.old).shown }
 {
     if entry.session() != session {
         return Ok(());

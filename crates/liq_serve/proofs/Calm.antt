@@ -3,7 +3,7 @@ use Rattle.std.proofs.Common.{◌≡◌, ◌≢◌, ◌≤◌, ℕ, zero, suc, L
 use Rattle.std.specs.Prelude.{◌⊎◌, ◌<◌, Contains}
 use Rattle.std.specs.List.{AllZip}
 use Rattle.std.proofs.lemmas.Result.{MatchResult-at_ok}
-use Rattle.liq_outside.specs.declared.showing.Showing.{Showing}
+use Rattle.liq_outside.specs.At.{DiskAt, SinkAt, SourceAt}
 use Rattle.liq_outside.specs.Faults.{Rose}
 use Rattle.liq_types.specs.declared.amounts.TheConstants.{LINES_MOST}
 use Rattle.liq_types.specs.declared.requests.Request.{Request}
@@ -48,15 +48,22 @@ use Rattle.liq_serve.proofs.Telling.{audit_done, load_done, rotated_done, state_
 -- reading stopped
 module _ {X : Type 0} (Says : List ℕ → X → Type 0) where
   stopped_seven :
-      (end : Result (Unit {0}) Halt) (bytes : List ℕ) (left : Option (List ℕ)) (asked all : List X) → IsStopping end → ReadsTo Says bytes left asked end → AllZip Says (lines_in bytes) all → length all ≤ LINES_MOST
+      (end : Result (Unit {0}) Halt) (bytes : List ℕ) (left : Option (List ℕ)) (asked all : List X) → IsStopping end
+      → ReadsTo Says bytes left asked end → AllZip Says (lines_in bytes) all → length all ≤ LINES_MOST
       → status_of end ≢ 3 → status_of end ≡ 7
   stopped_seven end bytes left asked all (n, (zero, within, is)) h spelled few read =
-      absurd (neither (λ e. cc) (λ e. cc) (stops_outside Says (stop.BadLine n) bytes left asked all spelled few (subst (λ (e : Result (Unit {0}) Halt). ReadsTo Says bytes left asked e) (sym is) h)))
-  stopped_seven end bytes left asked all (n, (suc zero, within, is)) h spelled few read = absurd (read (sym (ap status_of is)))
+      absurd (neither (λ e. cc) (λ e. cc)
+      (stops_outside Says (stop.BadLine n) bytes left asked all spelled few
+      (subst (λ (e : Result (Unit {0}) Halt). ReadsTo Says bytes left asked e) (sym is) h)))
+  stopped_seven end bytes left asked all (n, (suc zero, within, is)) h spelled few read =
+      absurd (read (sym (ap status_of is)))
   stopped_seven end bytes left asked all (n, (suc (suc zero), within, is)) h spelled few read = sym (ap status_of is)
   stopped_seven end bytes left asked all (n, (suc (suc (suc zero)), within, is)) h spelled few read =
-      absurd (neither (λ e. cc) (λ e. cc) (stops_outside Says stop.Limit bytes left asked all spelled few (subst (λ (e : Result (Unit {0}) Halt). ReadsTo Says bytes left asked e) (sym is) h).1))
-  stopped_seven end bytes left asked all (n, (suc (suc (suc (suc k))), within, is)) h spelled few read = absurd (omega (arith, within))
+      absurd (neither (λ e. cc) (λ e. cc)
+      (stops_outside Says stop.Limit bytes left asked all spelled few
+      (subst (λ (e : Result (Unit {0}) Halt). ReadsTo Says bytes left asked e) (sym is) h).1))
+  stopped_seven end bytes left asked all (n, (suc (suc (suc (suc k))), within, is)) h spelled few read =
+      absurd (omega (arith, within))
 
 unopened_done : (n : ℕ) → Contains (5 ∷ 6 ∷ 7 ∷ []) n → n ≢ 5 → n ≢ 6 → IsDone n
 unopened_done n (zero, within, is) disk damage = absurd (disk (sym is))
@@ -70,9 +77,11 @@ whole_done n (suc zero, within, is) sink = absurd (sink (sym is))
 whole_done n (suc (suc k), within, is) sink = absurd (omega (arith, within))
 
 module _
-    {S K D : Type 0} (unread : S → Option (List ℕ)) (source_faults : S → ℕ) (held : K → Option (List ℕ)) (shown : K → Option (List Showing)) (sink_faults : K → ℕ) (seen : D → Option (List ℕ))
-    (disk_faults : D → ℕ) (moment : D → ℕ) (left_at : D → ℕ → List ℕ → Type 0) (before after : Outside S K D) where
-  answers_done : (asked : List (ℕ × Request)) (history : List Entry) (fault : Fault) (end : Result (Unit {0}) Halt) → Answers unread source_faults held shown sink_faults seen disk_faults moment left_at before after asked history fault end → status_of end ≢ 4 → status_of end ≢ 5 → IsDone (status_of end)
+    {S K D : Type 0} (source_at : S → SourceAt) (sink_at : K → SinkAt) (disk_at : D → DiskAt)
+    (before after : Outside S K D) where
+  answers_done : (asked : List (ℕ × Request)) (history : List Entry) (fault : Fault) (end : Result (Unit {0}) Halt)
+      → Answers source_at sink_at disk_at before after asked history fault end → status_of end ≢ 4 → status_of end ≢ 5
+      → IsDone (status_of end)
   answers_done asked history fault (Ok done) a sink disk = inl refl
   answers_done asked history fault (Err (BadLine n)) a sink disk = whole_done _ a.2 sink
   answers_done asked history fault (Err ReadFault) a sink disk = whole_done _ a.2 sink
@@ -85,18 +94,25 @@ module _
   answers_done asked history fault (Err (DamagedInput number)) a sink disk = whole_done _ a.2 sink
 
   pub serve_done :
-      (end : Result (Unit {0}) Halt) → ServesTo unread source_faults held shown sink_faults seen disk_faults moment left_at before after end
-      → (bytes l r : List ℕ) (start : State) (all : List (ℕ × Request)) → unread before.source ≡ Some bytes → seen before.left ≡ Some l → seen before.right ≡ Some r
-      → state_on l r ≡ Ok start → AllZip Asks (lines_in bytes) all → length all ≤ LINES_MOST → status_of end ≢ 3 → status_of end ≢ 4 → status_of end ≢ 5
+      (end : Result (Unit {0}) Halt) → ServesTo source_at sink_at disk_at before after end
+      → (bytes l r : List ℕ) (start : State) (all : List (ℕ × Request)) → (source_at before.source).left ≡ Some bytes
+      → (disk_at before.left).seen ≡ Some l → (disk_at before.right).seen ≡ Some r
+      → state_on l r ≡ Ok start → AllZip Asks (lines_in bytes) all → length all ≤ LINES_MOST → status_of end ≢ 3
+      → status_of end ≢ 4 → status_of end ≢ 5
       → IsDone (status_of end)
   serve_done end serves bytes l r start all told told_l told_r is spelled few read sink disk = by serves.came where
-    by : ((serves.reading ≡ end) × (serves.history ≡ []) × (serves.fault ≡ NoFault) × (after.left ≡ before.left) × (after.right ≡ before.right) × IsStopping end)
+    by : ((serves.reading ≡ end) × (serves.history ≡ []) × (serves.fault ≡ NoFault) × (after.left ≡ before.left)
+        × (after.right ≡ before.right) × IsStopping end)
         ⊎ ((serves.reading ≡ Ok tt)
-        × (OpensNone unread source_faults held shown sink_faults seen disk_faults moment left_at before after serves.history serves.fault end
-        ⊎ Answers unread source_faults held shown sink_faults seen disk_faults moment left_at before after serves.asked serves.history serves.fault end)) → IsDone (status_of end)
+        × (OpensNone source_at sink_at disk_at before after serves.history serves.fault end
+        ⊎ Answers source_at sink_at disk_at before after serves.asked serves.history serves.fault end))
+        → IsDone (status_of end)
     by (inl (stopped, none, no_fault, left, right, stopping)) =
-        inr (stopped_seven Asks end bytes (unread after.source) serves.asked all stopping (subst (λ (e : Result (Unit {0}) Halt). ReadsTo Asks bytes (unread after.source) serves.asked e) stopped (serves.read bytes told)) spelled few read)
-    by (inr (whole, inl opens)) = unopened_done (status_of end) opens.2 disk (MatchResult-at_ok _ _ start is (opens.3 l r told_l told_r)).0
+        inr (stopped_seven Asks end bytes (source_at after.source).left serves.asked all stopping
+        (subst (λ (e : Result (Unit {0}) Halt). ReadsTo Asks bytes (source_at after.source).left serves.asked e) stopped
+        (serves.read bytes told)) spelled few read)
+    by (inr (whole, inl opens)) = unopened_done (status_of end) opens.2 disk
+        (MatchResult-at_ok _ _ start is (opens.3 l r told_l told_r)).0
     by (inr (whole, inr answers)) = answers_done serves.asked serves.history serves.fault end answers sink disk
 
 -- ---- of what is followed
@@ -106,14 +122,16 @@ done_by end (inl is) = inl (ap status_of is)
 done_by end (inr is) = inr (ap status_of is)
 
 -- what holds of an end holds of the one that it is
-stopped_by : (P : Result (Unit {0}) Halt → Type 0) (end wanted : Result (Unit {0}) Halt) → P end → (end ≡ wanted) ⊎ (end ≡ Err NoMemory) → ((status_of end ≡ status_of wanted) × P wanted) ⊎ (status_of end ≡ 7)
+stopped_by : (P : Result (Unit {0}) Halt → Type 0) (end wanted : Result (Unit {0}) Halt) → P end → (end ≡ wanted)
+    ⊎ (end ≡ Err NoMemory) → ((status_of end ≡ status_of wanted) × P wanted) ⊎ (status_of end ≡ 7)
 stopped_by P end wanted holds (inl is) = inl (ap status_of is, subst P is holds)
 stopped_by P end wanted holds (inr is) = inr (ap status_of is)
 
 -- ---- of lines that are answered
 
 -- of the first generation
-answers_beside_done : (s : State) (end : Result (Unit {0}) Halt) → s.generation ≡ 1 → IsAnswerOf s end → status_of end ≢ 4 → status_of end ≢ 5 → IsDone (status_of end)
+answers_beside_done : (s : State) (end : Result (Unit {0}) Halt) → s.generation ≡ 1 → IsAnswerOf s end
+    → status_of end ≢ 4 → status_of end ≢ 5 → IsDone (status_of end)
 answers_beside_done s (Ok done) first h sink disk = inl refl
 answers_beside_done s (Err WriteFault) first h sink disk = absurd (sink refl)
 answers_beside_done s (Err DiskFault) first h sink disk = absurd (disk refl)
@@ -122,7 +140,8 @@ answers_beside_done s (Err (Rotated generation)) first h sink disk = absurd (ome
 answers_beside_done s (Err _) first h sink disk = absurd h
 
 -- of a later one
-answers_beside_rotated : (s : State) (end : Result (Unit {0}) Halt) → 1 < s.generation → IsAnswerOf s end → status_of end ≢ 5 → (status_of end ≡ 9) ⊎ (status_of end ≡ 7)
+answers_beside_rotated : (s : State) (end : Result (Unit {0}) Halt) → 1 < s.generation → IsAnswerOf s end
+    → status_of end ≢ 5 → (status_of end ≡ 9) ⊎ (status_of end ≡ 7)
 answers_beside_rotated s (Ok done) later h disk = absurd (omega (arith, later, h))
 answers_beside_rotated s (Err WriteFault) later h disk = absurd (omega (arith, later, h))
 answers_beside_rotated s (Err DiskFault) later h disk = absurd (disk refl)
@@ -131,153 +150,196 @@ answers_beside_rotated s (Err (Rotated generation)) later h disk = inl refl
 answers_beside_rotated s (Err _) later h disk = absurd h
 
 module _
-    {S K D : Type 0} (unread : S → Option (List ℕ)) (held : K → Option (List ℕ)) (sink_faults : K → ℕ) (seen : D → Option (List ℕ))
-    (moment : D → ℕ) (left_at : D → ℕ → List ℕ → Type 0) (before after : Outside S K D)
+    {S K D : Type 0} (source_at : S → SourceAt) (sink_at : K → SinkAt) (disk_at : D → DiskAt)
+    (before after : Outside S K D)
     {X : Type 0} (Says : List ℕ → X → Type 0) (text : ℕ → List Command → List X → List ℕ) where
   -- Where all lines were read well, they were answered beside the state, or there was no memory to read them.
   lines_came :
-      (end : Result (Unit {0}) Halt) (answered : AnswersLines unread held sink_faults seen moment left_at before after Says text end)
-      → (bytes l r : List ℕ) (start : State) (all : List X) → unread before.source ≡ Some bytes → seen before.left ≡ Some l → seen before.right ≡ Some r
+      (end : Result (Unit {0}) Halt) (answered : AnswersLines source_at sink_at disk_at before after Says text end)
+      → (bytes l r : List ℕ) (start : State) (all : List X) → (source_at before.source).left ≡ Some bytes
+      → (disk_at before.left).seen ≡ Some l → (disk_at before.right).seen ≡ Some r
       → state_on l r ≡ Ok start → AllZip Says (lines_in bytes) all → length all ≤ LINES_MOST → status_of end ≢ 3
       → IsAnswerOf start end ⊎ (status_of end ≡ 7)
   lines_came end answered bytes l r start all told told_l told_r is spelled few read = by answered.came where
-    by : ((answered.reading ≡ end) × StopsUnopened unread held sink_faults seen moment left_at before after end)
-        ⊎ ((answered.reading ≡ Ok tt) × IsOfNoInput unread held sink_faults seen moment left_at before after end × AnswersBeside unread held sink_faults seen moment left_at before after (λ limit commands. text limit commands answered.asked) end) → IsAnswerOf start end ⊎ (status_of end ≡ 7)
+    by : ((answered.reading ≡ end) × StopsUnopened source_at sink_at disk_at before after end)
+        ⊎ ((answered.reading ≡ Ok tt) × IsOfNoInput source_at sink_at disk_at before after end
+        × AnswersBeside source_at sink_at disk_at before after (λ limit commands. text limit commands answered.asked)
+        end) → IsAnswerOf start end ⊎ (status_of end ≡ 7)
     by (inl (stopped, unopened)) =
-        inr (stopped_seven Says end bytes (unread after.source) answered.asked all unopened.3 (subst (λ (e : Result (Unit {0}) Halt). ReadsTo Says bytes (unread after.source) answered.asked e) stopped (answered.read bytes told)) spelled few read)
+        inr (stopped_seven Says end bytes (source_at after.source).left answered.asked all unopened.3
+        (subst (λ (e : Result (Unit {0}) Halt). ReadsTo Says bytes (source_at after.source).left answered.asked e)
+        stopped (answered.read bytes told)) spelled few read)
     by (inr (whole, own, answers)) = inl (MatchResult-at_ok _ _ start is (answers l r told_l told_r)).0
 
-lines_done : (s : State) (end : Result (Unit {0}) Halt) → IsAnswerOf s end ⊎ (status_of end ≡ 7) → s.generation ≡ 1 → status_of end ≢ 4 → status_of end ≢ 5 → IsDone (status_of end)
+lines_done : (s : State) (end : Result (Unit {0}) Halt) → IsAnswerOf s end ⊎ (status_of end ≡ 7) → s.generation ≡ 1
+    → status_of end ≢ 4 → status_of end ≢ 5 → IsDone (status_of end)
 lines_done s end (inl h) first sink disk = answers_beside_done s end first h sink disk
 lines_done s end (inr seven) first sink disk = inr seven
 
-lines_rotated : (s : State) (end : Result (Unit {0}) Halt) → IsAnswerOf s end ⊎ (status_of end ≡ 7) → 1 < s.generation → status_of end ≢ 5 → (status_of end ≡ 9) ⊎ (status_of end ≡ 7)
+lines_rotated : (s : State) (end : Result (Unit {0}) Halt) → IsAnswerOf s end ⊎ (status_of end ≡ 7) → 1 < s.generation
+    → status_of end ≢ 5 → (status_of end ≡ 9) ⊎ (status_of end ≡ 7)
 lines_rotated s end (inl h) later disk = answers_beside_rotated s end later h disk
 lines_rotated s end (inr seven) later disk = inr seven
 
 -- ---- of each word
 
 module _
-    {S K D : Type 0} (unread : S → Option (List ℕ)) (source_faults : S → ℕ) (held : K → Option (List ℕ)) (shown : K → Option (List Showing)) (sink_faults : K → ℕ) (seen : D → Option (List ℕ))
-    (disk_faults : D → ℕ) (moment : D → ℕ) (left_at : D → ℕ → List ℕ → Type 0) (before after : Outside S K D) where
+    {S K D : Type 0} (source_at : S → SourceAt) (sink_at : K → SinkAt) (disk_at : D → DiskAt)
+    (before after : Outside S K D) where
   -- the counts that rose, by a status
   record Rises (status : ℕ) : Type 0 where
-    source : status ≡ 3 → Rose (source_faults before.source) (source_faults after.source)
-    sink : status ≡ 4 → Rose (sink_faults before.sink) (sink_faults after.sink)
-    disk : status ≡ 5 → OneRose (counts_of disk_faults before.left before.right) (counts_of disk_faults after.left after.right)
+    source : status ≡ 3 → Rose (source_at before.source).faults (source_at after.source).faults
+    sink : status ≡ 4 → Rose (sink_at before.sink).faults (sink_at after.sink).faults
+    disk : status ≡ 5 → OneRose (counts_of disk_at before.left before.right) (counts_of disk_at after.left after.right)
 
   abbrev First : {X : Type 0} → (List ℕ → X → Type 0) → ℕ → Type 0
-  First Says status = AnswersFirst unread source_faults held sink_faults seen disk_faults moment left_at before after Says status
+  First Says status = AnswersFirst source_at sink_at disk_at before after Says status
 
   abbrev Later : {X : Type 0} → (List ℕ → X → Type 0) → ℕ → Type 0
-  Later Says status = RefusesLater unread source_faults held sink_faults seen disk_faults moment left_at before after Says status
+  Later Says status = RefusesLater source_at sink_at disk_at before after Says status
 
   -- lines of one kind that are answered
   module _
-      {X : Type 0} (Says : List ℕ → X → Type 0) (text : ℕ → List Command → List X → List ℕ) (end : Result (Unit {0}) Halt)
-      (answered : AnswersLines unread held sink_faults seen moment left_at before after Says text end) (rises : Rises (status_of end)) where
-    lines_first : First Says (status_of end)
-    lines_first bytes l r start asked told stood all few first well calm =
-        lines_done start end (lines_came unread held sink_faults seen moment left_at before after Says text end answered bytes l r start asked told stood.left stood.right stood.is all few (λ is. well (rises.source is)))
-        first (λ is. calm.sink (rises.sink is)) (λ is. calm.disk (rises.disk is))
+      {X : Type 0} (Says : List ℕ → X → Type 0) (text : ℕ → List Command → List X → List ℕ)
+      (end : Result (Unit {0}) Halt)
+      (answered : AnswersLines source_at sink_at disk_at before after Says text end) (rises : Rises (status_of end))
+    where
+      lines_first : First Says (status_of end)
+      lines_first bytes l r start asked told stood all few first well calm =
+          lines_done start end (lines_came source_at sink_at disk_at before after Says text end answered bytes l r start
+          asked told stood.left stood.right stood.is all few (λ is. well (rises.source is)))
+          first (λ is. calm.sink (rises.sink is)) (λ is. calm.disk (rises.disk is))
 
-    lines_later : Later Says (status_of end)
-    lines_later bytes l r start asked told stood all few later well kept =
-        lines_rotated start end (lines_came unread held sink_faults seen moment left_at before after Says text end answered bytes l r start asked told stood.left stood.right stood.is all few (λ is. well (rises.source is)))
-        later (λ is. kept (rises.disk is))
+      lines_later : Later Says (status_of end)
+      lines_later bytes l r start asked told stood all few later well kept =
+          lines_rotated start end (lines_came source_at sink_at disk_at before after Says text end answered bytes l r
+          start asked told stood.left stood.right stood.is all few (λ is. well (rises.source is)))
+          later (λ is. kept (rises.disk is))
 
   abbrev Told : List ℕ → Result (Unit {0}) Halt → Type 0
-  Told text end = Tells unread source_faults held shown sink_faults seen disk_faults moment left_at before after [] text end
+  Told text end = Tells source_at sink_at disk_at before after [] text end
 
   -- what was followed of a source that told its bytes
   record Follows (bytes : List ℕ) (end : Result (Unit {0}) Halt) : Type 0 where
     read : List ℕ
-    reads : Reads (Some bytes) read (unread after.source)
+    reads : Reads (Some bytes) read (source_at after.source).left
     text : List ℕ
-    so : FollowsTo end read (unread after.source) text
+    so : FollowsTo end read (source_at after.source).left text
     told : Told text end
 
-  module _ (status : ℕ) (words : List (List ℕ)) (ends : Ends unread source_faults held shown sink_faults seen disk_faults moment left_at before after status words)
-      (asked : Ask words word.Follow) (bytes : List ℕ) (is : unread before.source ≡ Some bytes) where
+  module _ (status : ℕ) (words : List (List ℕ)) (ends : Ends source_at sink_at disk_at before after status words)
+      (asked : Ask words word.Follow) (bytes : List ℕ) (is : (source_at before.source).left ≡ Some bytes) where
     abbrev followed : Result (Unit {0}) Halt
     followed = (ends.ends word.Follow asked).0
 
     follows : Follows bytes followed
     follows =
         let f = (ends.ends word.Follow asked).2.1 in
-        record { read = f.0; reads = subst (λ (o : Option (List ℕ)). Reads o f.0 (unread after.source)) is f.1; text = f.2.0; so = f.2.1; told = f.2.2 }
+        record {
+          read = f.0;
+          reads = subst (λ (o : Option (List ℕ)). Reads o f.0 (source_at after.source).left) is f.1;
+          text = f.2.0;
+          so = f.2.1;
+          told = f.2.2;
+        }
 
     -- no fault of the source stopped it
-    well_read : (Rose (source_faults before.source) (source_faults after.source) → ⊥) → status_of followed ≢ 3
+    well_read : (Rose (source_at before.source).faults (source_at after.source).faults → ⊥) → status_of followed ≢ 3
     well_read well three = well (ends.source_fault ((ends.ends word.Follow asked).1 ∙ three))
 
     -- it stopped so and told it, unless there was no memory
-    follow_halts : (halt : Halt) → (followed ≡ Err halt) ⊎ (followed ≡ Err NoMemory) → ((status ≡ status_of (Err halt)) × Told follows.text (Err halt)) ⊎ (status ≡ 7)
+    follow_halts : (halt : Halt) → (followed ≡ Err halt) ⊎ (followed ≡ Err NoMemory)
+        → ((status ≡ status_of (Err halt)) × Told follows.text (Err halt)) ⊎ (status ≡ 7)
     follow_halts halt so =
-        subst (λ (n : ℕ). ((n ≡ status_of (Err halt)) × Told follows.text (Err halt)) ⊎ (n ≡ 7)) (sym (ends.ends word.Follow asked).1)
+        subst (λ (n : ℕ). ((n ≡ status_of (Err halt)) × Told follows.text (Err halt)) ⊎ (n ≡ 7))
+        (sym (ends.ends word.Follow asked).1)
         (stopped_by (Told follows.text) followed (Err halt) follows.told so)
 
   pub complete :
-      ((l r : List ℕ) (s : State) → state_on l r ≡ Ok s → s.generation ≡ 1 → replay 1 (opening_with s.limit) (commands_on l r) ≡ Ok s)
+      ((l r : List ℕ) (s : State) → state_on l r ≡ Ok s → s.generation ≡ 1
+      → replay 1 (opening_with s.limit) (commands_on l r) ≡ Ok s)
       → ((front rest : List ℕ) → GoOn (front ++ rest) → GoOn front)
-      → (status : ℕ) (words : List (List ℕ)) → Ends unread source_faults held shown sink_faults seen disk_faults moment left_at before after status words
-      → IsComplete unread source_faults held sink_faults seen disk_faults moment left_at before after status words
+      → (status : ℕ) (words : List (List ℕ)) → Ends source_at sink_at disk_at before after status words
+      → IsComplete source_at sink_at disk_at before after status words
   complete leads stays status words ends =
-      let rises : Rises status = record { source = ends.source_fault; sink = ends.sink_fault; disk = ends.disk_fault } in
+      let rises : Rises status = record {
+        source = ends.source_fault;
+        sink = ends.sink_fault;
+        disk = ends.disk_fault;
+      } in
       record {
         run = λ asked bytes l r start requests told stood all few well calm.
             let e = ends.ends word.Run asked in
             let ran = MatchResult-at_ok _ _ start stood.is (e.2 l r stood.left stood.right) bytes told in
             subst IsDone (sym e.1)
-            (run_done bytes (unread after.source) requests all few e.0 (λ is. well (ends.source_fault (e.1 ∙ is))) (λ is. calm.sink (ends.sink_fault (e.1 ∙ is))) (λ is. calm.disk (ends.disk_fault (e.1 ∙ is))) ran.statuses ran.requests ran.read);
+            (run_done bytes (source_at after.source).left requests all few e.0
+            (λ is. well (ends.source_fault (e.1 ∙ is))) (λ is. calm.sink (ends.sink_fault (e.1 ∙ is)))
+            (λ is. calm.disk (ends.disk_fault (e.1 ∙ is))) ran.statuses ran.requests ran.read);
         serve = λ asks bytes l r start asked told stood all few well calm.
             let e = ends.ends word.Serve asks in
             subst IsDone (sym e.1)
-            (serve_done unread source_faults held shown sink_faults seen disk_faults moment left_at before after e.0 e.2 bytes l r start asked told stood.left stood.right stood.is all few (λ is. well (ends.source_fault (e.1 ∙ is))) (λ is. calm.sink (ends.sink_fault (e.1 ∙ is))) (λ is. calm.disk (ends.disk_fault (e.1 ∙ is))));
+            (serve_done source_at sink_at disk_at before after e.0 e.2 bytes l r start asked told stood.left stood.right
+            stood.is all few (λ is. well (ends.source_fault (e.1 ∙ is))) (λ is. calm.sink (ends.sink_fault (e.1 ∙ is)))
+            (λ is. calm.disk (ends.disk_fault (e.1 ∙ is))));
         staking = λ asks.
             let e = ends.ends word.Staking asks in
-            subst (First stakes.Spells) (sym e.1) (lines_first stakes.Spells staked_text e.0 e.2 (subst Rises e.1 rises));
+            subst (First stakes.Spells) (sym e.1)
+            (lines_first stakes.Spells staked_text e.0 e.2 (subst Rises e.1 rises));
         rewards = λ asks.
             let e = ends.ends word.Rewards asks in
             subst (First tags.Spells) (sym e.1) (lines_first tags.Spells rewarded_text e.0 e.2 (subst Rises e.1 rises));
         staking_rotated = λ asks.
             let e = ends.ends word.Staking asks in
-            subst (Later stakes.Spells) (sym e.1) (lines_later stakes.Spells staked_text e.0 e.2 (subst Rises e.1 rises));
+            subst (Later stakes.Spells) (sym e.1)
+            (lines_later stakes.Spells staked_text e.0 e.2 (subst Rises e.1 rises));
         rewards_rotated = λ asks.
             let e = ends.ends word.Rewards asks in
             subst (Later tags.Spells) (sym e.1) (lines_later tags.Spells rewarded_text e.0 e.2 (subst Rises e.1 rises));
         state = λ asked l r start stood calm.
             let e = ends.ends word.State asked in
             let told = MatchResult-at_ok _ _ start stood.is (e.2.1 l r stood.left stood.right) in
-            subst IsDone (sym e.1) (state_done (status_of e.0) told.0 (λ is. calm.sink (ends.sink_fault (e.1 ∙ is))) (λ is. calm.disk (ends.disk_fault (e.1 ∙ is))));
+            subst IsDone (sym e.1) (state_done (status_of e.0) told.0 (λ is. calm.sink (ends.sink_fault (e.1 ∙ is)))
+            (λ is. calm.disk (ends.disk_fault (e.1 ∙ is))));
         report = λ asked l r start stood calm.
             let e = ends.ends word.Report asked in
             let told = MatchResult-at_ok _ _ start stood.is (e.2.1 l r stood.left stood.right) in
-            subst IsDone (sym e.1) (state_done (status_of e.0) told.0 (λ is. calm.sink (ends.sink_fault (e.1 ∙ is))) (λ is. calm.disk (ends.disk_fault (e.1 ∙ is))));
+            subst IsDone (sym e.1) (state_done (status_of e.0) told.0 (λ is. calm.sink (ends.sink_fault (e.1 ∙ is)))
+            (λ is. calm.disk (ends.disk_fault (e.1 ∙ is))));
         audit = λ asked l r start stood first within calm.
             let e = ends.ends word.Audit asked in
             let told = MatchResult-at_ok _ _ start stood.is (e.2.1 l r stood.left stood.right) in
             subst IsDone (sym e.1)
-            (audit_done start (commands_on l r) e.0 told.0.0 first told.0.1 (λ number limit. no_limit start.limit (commands_on l r) start number (leads l r start stood.is first) within limit)
+            (audit_done start (commands_on l r) e.0 told.0.0 first told.0.1
+            (λ number limit. no_limit start.limit (commands_on l r) start number (leads l r start stood.is first) within
+            limit)
             (λ is. calm.sink (ends.sink_fault (e.1 ∙ is))) (λ is. calm.disk (ends.disk_fault (e.1 ∙ is))));
         rotated = λ asked l r start stood later well.
             let e = ends.ends word.Audit asked in
             let told = MatchResult-at_ok _ _ start stood.is (e.2.1 l r stood.left stood.right) in
-            subst (λ (n : ℕ). (n ≡ 9) ⊎ (n ≡ 7)) (sym e.1) (rotated_done start (commands_on l r) e.0 told.0.0 later told.0.1 (λ is. well (ends.disk_fault (e.1 ∙ is))));
+            subst (λ (n : ℕ). (n ≡ 9) ⊎ (n ≡ 7)) (sym e.1)
+            (rotated_done start (commands_on l r) e.0 told.0.0 later told.0.1
+            (λ is. well (ends.disk_fault (e.1 ∙ is))));
         follow = λ asked bytes told few goes well none.
             let e = ends.ends word.Follow asked in
             let f = follows status words ends asked bytes told in
             subst IsDone (sym e.1)
-            (done_by e.0 (whole_so bytes f.read (unread after.source) f.reads stays e.0 f.text f.so (well_read status words ends asked bytes told well) few goes (λ is. none (ends.sink_fault (e.1 ∙ is)))));
+            (done_by e.0 (whole_so bytes f.read (source_at after.source).left f.reads stays e.0 f.text f.so
+            (well_read status words ends asked bytes told well) few goes (λ is. none (ends.sink_fault (e.1 ∙ is)))));
         damaged_input = λ asked bytes told index fault well.
             let f = follows status words ends asked bytes told in
-            follow_halts status words ends asked bytes told (DamagedInput index) (damaged_so bytes f.read (unread after.source) f.reads stays _ f.text f.so (well_read status words ends asked bytes told well) index fault);
+            follow_halts status words ends asked bytes told (DamagedInput index)
+            (damaged_so bytes f.read (source_at after.source).left f.reads stays _ f.text f.so
+            (well_read status words ends asked bytes told well) index fault);
         rotated_input = λ asked bytes told generation fault well.
             let f = follows status words ends asked bytes told in
-            follow_halts status words ends asked bytes told (Rotated generation) (turned_so bytes f.read (unread after.source) f.reads stays _ f.text f.so (well_read status words ends asked bytes told well) generation fault);
+            follow_halts status words ends asked bytes told (Rotated generation)
+            (turned_so bytes f.read (source_at after.source).left f.reads stays _ f.text f.so
+            (well_read status words ends asked bytes told well) generation fault);
         long_input = λ asked bytes told long goes well.
             let f = follows status words ends asked bytes told in
-            follow_halts status words ends asked bytes told (Limit FED_MOST) (long_so bytes f.read (unread after.source) f.reads stays _ f.text f.so (well_read status words ends asked bytes told well) long goes);
+            follow_halts status words ends asked bytes told (Limit FED_MOST)
+            (long_so bytes f.read (source_at after.source).left f.reads stays _ f.text f.so
+            (well_read status words ends asked bytes told well) long goes);
         gen = λ seed count asked none.
             let e = ends.ends (word.Gen seed count) asked in
             subst IsDone (sym e.1) (load_done (status_of e.0) e.2.1 (λ is. none (ends.sink_fault (e.1 ∙ is))));

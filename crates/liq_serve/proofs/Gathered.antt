@@ -3,6 +3,7 @@ use Rattle.std.proofs.Common.{◌≡◌, ◌≢◌, ℕ, List, [], length, Optio
 use Rattle.std.specs.Prelude.{Vec}
 use Rattle.std.specs.Global.{Global}
 use Rattle.std.specs.List.{AllZip}
+use Rattle.liq_outside.specs.At.{DiskAt, SinkAt, SourceAt}
 use Rattle.liq_outside.specs.Faults.{Rose}
 use Rattle.liq_types.specs.declared.requests.Command.{Command}
 use Rattle.liq_gathered.specs.Gathering as lines
@@ -27,7 +28,9 @@ AreGathered items said = items.items ≡ said
 -- ---- where reading stopped
 
 -- the counts
-pub stop_source : (X : Type 0) (why_not : Stop) (before after : ℕ) → lines.ReadCause {T = Vec X Global} (Err why_not) before after → ReadCause {T = Unit {0}} (Err (halt_at why_not)) before after
+pub stop_source : (X : Type 0) (why_not : Stop) (before after : ℕ)
+    → lines.ReadCause {T = Vec X Global} (Err why_not) before after
+    → ReadCause {T = Unit {0}} (Err (halt_at why_not)) before after
 stop_source X (stop.BadLine number) before after c = c
 stop_source X stop.ReadFault before after c = c
 stop_source X stop.NoMemory before after c = c
@@ -46,47 +49,61 @@ stop_disks stop.NoMemory counts = refl
 stop_disks stop.Limit counts = refl
 
 -- the last line alone is written
-stop_told : (why_not : Stop) (fault : Type 0) (before now : Option (List ℕ)) → Adds [] (last (halt_at why_not)) fault before now → TellsBehind [] [] (Err (halt_at why_not)) fault before now
+stop_told : (why_not : Stop) (fault : Type 0) (before now : Option (List ℕ))
+    → Adds [] (last (halt_at why_not)) fault before now → TellsBehind [] [] (Err (halt_at why_not)) fault before now
 stop_told (stop.BadLine number) fault before now h = h
 stop_told stop.ReadFault fault before now h = h
 stop_told stop.NoMemory fault before now h = h
 stop_told stop.Limit fault before now h = h
 
 module _
-    {S K D : Type 0} (unread : S → Option (List ℕ)) (held : K → Option (List ℕ)) (sink_faults : K → ℕ) (seen : D → Option (List ℕ))
-    (moment : D → ℕ) (left_at : D → ℕ → List ℕ → Type 0) {X : Type 0} (Says : List ℕ → X → Type 0)
+    {S K D : Type 0} (source_at : S → SourceAt) (sink_at : K → SinkAt) (disk_at : D → DiskAt) {X : Type 0}
+    (Says : List ℕ → X → Type 0)
     (text : ℕ → List Command → List X → List ℕ) where
   -- reading stopped: a last line is written
   pub lines_stopped :
-      (before after : Outside S K D) (why_not : Stop) → lines.Gathers Says AreGathered (Err why_not) (unread before.source) (unread after.source)
+      (before after : Outside S K D) (why_not : Stop)
+      → lines.Gathers Says AreGathered (Err why_not) (source_at before.source).left (source_at after.source).left
       → after.left ≡ before.left → after.right ≡ before.right
-      → (let fault = Rose (sink_faults before.sink) (sink_faults after.sink) in Adds [] (last (halt_at why_not)) fault (held before.sink) (held after.sink))
-      → AnswersLines unread held sink_faults seen moment left_at before after Says text (Err (halt_at why_not))
+      → (let fault = Rose (sink_at before.sink).faults (sink_at after.sink).faults in Adds [] (last (halt_at why_not))
+      fault (sink_at before.sink).held (sink_at after.sink).held)
+      → AnswersLines source_at sink_at disk_at before after Says text (Err (halt_at why_not))
   lines_stopped before after why_not read left right told =
       record {
         asked = read.said;
         few = read.few;
         reading = Err (halt_at why_not);
-        read = λ bytes is. read_so Says why_not bytes (unread after.source) read.said (read.read bytes is);
-        came = inl (refl, (left, right, stop_told why_not _ (held before.sink) (held after.sink) told, stopping why_not));
+        read = λ bytes is. read_so Says why_not bytes (source_at after.source).left read.said (read.read bytes is);
+        came = inl (
+          refl,
+          (
+            left,
+            right,
+            stop_told why_not _ (sink_at before.sink).held (sink_at after.sink).held told,
+            stopping why_not,
+          ),
+        );
       }
 
   -- ---- where all lines were read
 
   pub lines_whole :
-      (before after : Outside S K D) (items : Vec X Global) (end : Result (Unit {0}) Halt) → lines.Gathers Says AreGathered (Ok items) (unread before.source) (unread after.source)
+      (before after : Outside S K D) (items : Vec X Global) (end : Result (Unit {0}) Halt)
+      → lines.Gathers Says AreGathered (Ok items) (source_at before.source).left (source_at after.source).left
       → end ≢ Err ReadFault → ((number : ℕ) → end ≢ Err (BadLine number))
-      → AnswersBeside unread held sink_faults seen moment left_at before after (λ limit commands. text limit commands items.items) end
-      → AnswersLines unread held sink_faults seen moment left_at before after Says text end
+      → AnswersBeside source_at sink_at disk_at before after (λ limit commands. text limit commands items.items) end
+      → AnswersLines source_at sink_at disk_at before after Says text end
   lines_whole before after items end read no_source no_line answers =
       record {
         asked = items.items;
         few = omega (arith, read.few, ap length read.has);
         reading = Ok tt;
-        read = λ bytes is. subst (λ (said : List X). AllZip Says (lines_in bytes) said × (unread after.source ≡ Some [])) (sym read.has) (read.read bytes is);
+        read = λ bytes is. subst (λ (said : List X). AllZip Says (lines_in bytes) said
+            × ((source_at after.source).left ≡ Some [])) (sym read.has) (read.read bytes is);
         came = inr (refl, (no_source, no_line), answers);
       }
 
 -- a word that read nothing more keeps the source's count
-pub source_kept : (end : Result (Unit {0}) Halt) (before after : ℕ) → after ≡ before → ReadCause end after after → ReadCause end before after
+pub source_kept : (end : Result (Unit {0}) Halt) (before after : ℕ) → after ≡ before → ReadCause end after after
+    → ReadCause end before after
 source_kept end before after same c = subst (λ (n : ℕ). ReadCause end n after) same c

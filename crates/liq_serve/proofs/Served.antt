@@ -2,6 +2,7 @@
 use Rattle.std.proofs.Common.{◌≡◌, ◌≢◌, ◌<◌, ℕ, zero, suc, List, [], ◌∷◌, map, length, append-nil, true, Option, Some, None, Ok, Err, Result, refl, sym, subst, ap, ◌∙◌, inl, inr, lit<, arith}
 use Rattle.std.specs.Prelude.{◌⊎◌, All, Contains, slice_index_or, IfOk, IsOkAnd, MatchResult}
 use Rattle.std.specs.List.{AllZip}
+use Rattle.liq_outside.specs.At.{DiskAt, SinkAt, SourceAt}
 use Rattle.liq_outside.specs.declared.showing.Showing.{Showing}
 use Rattle.liq_outside.specs.Showings.{Notes}
 use Rattle.liq_outside.proofs.Moments.{weaker}
@@ -57,8 +58,10 @@ use Rattle.liq_serve.specs.Top.{Answers, AreLeft, Keep, OpensNone}
 -- of the source, of the sink and of the disks
 pub causes_kept :
     (how : Finish) (source source_now sink sink_now : ℕ) (disks disks_now : Faults)
-    → scripts.ReadCause (reading_of how) source source_now → serving.WriteCause how sink sink_now → serving.DiskCause how disks disks_now
-    → ReadCause (end_of how) source source_now × WriteCause (end_of how) sink sink_now × DiskCause (end_of how) disks disks_now
+    → scripts.ReadCause (reading_of how) source source_now → serving.WriteCause how sink sink_now
+    → serving.DiskCause how disks disks_now
+    → ReadCause (end_of how) source source_now × WriteCause (end_of how) sink sink_now
+    × DiskCause (end_of how) disks disks_now
 causes_kept finish.All _ _ _ _ _ _ s k d = (s, k, d)
 causes_kept (finish.NotRead (stop.BadLine number)) _ _ _ _ _ _ s k d = (s, k, d)
 causes_kept (finish.NotRead stop.ReadFault) _ _ _ _ _ _ s k d = (s, k, d)
@@ -87,23 +90,31 @@ never_rotated finish.WriteFault generation = λ e. cc
 
 -- ---- what is written
 
+held_still : {K : Type 0} (sink_at : K → SinkAt) (before now : K) → now ≡ before
+    → (sink_at now).held ≡ (sink_at before).held
+held_still {K} sink_at before now same = ap (λ (k : K). (sink_at k).held) same
+
 -- before the last line
-pub all_served : {K : Type 0} (held : K → Option (List ℕ)) (history : List Entry) (before now : K) (how : Finish) → Written held how history before now → WritesAll (served history) (end_of how) (held before) (held now)
-all_served held history before now finish.All wrote = wrote
-all_served held history before now finish.WriteFault wrote = wrote
-all_served held history before now (finish.NotRead (stop.BadLine number)) wrote = ap held wrote
-all_served held history before now (finish.NotRead stop.ReadFault) wrote = ap held wrote
-all_served held history before now (finish.NotRead stop.NoMemory) wrote = ap held wrote
-all_served held history before now (finish.NotRead stop.Limit) wrote = ap held wrote
-all_served held history before now (finish.NotOpened why.DiskFault) wrote = ap held wrote
-all_served held history before now (finish.NotOpened (why.Damaged side damage)) wrote = ap held wrote
-all_served held history before now (finish.NotOpened why.NoMemory) wrote = ap held wrote
-all_served held history before now finish.NoMemory wrote = ap held wrote
-all_served held history before now finish.DiskFault wrote = ap held wrote
+pub all_served : {K : Type 0} (sink_at : K → SinkAt) (history : List Entry) (before now : K) (how : Finish)
+    → Written sink_at how history before now
+    → WritesAll (served history) (end_of how) (sink_at before).held (sink_at now).held
+all_served sink_at history before now finish.All wrote = wrote
+all_served sink_at history before now finish.WriteFault wrote = wrote
+all_served sink_at history before now (finish.NotRead (stop.BadLine number)) wrote = held_still sink_at before now wrote
+all_served sink_at history before now (finish.NotRead stop.ReadFault) wrote = held_still sink_at before now wrote
+all_served sink_at history before now (finish.NotRead stop.NoMemory) wrote = held_still sink_at before now wrote
+all_served sink_at history before now (finish.NotRead stop.Limit) wrote = held_still sink_at before now wrote
+all_served sink_at history before now (finish.NotOpened why.DiskFault) wrote = held_still sink_at before now wrote
+all_served sink_at history before now (finish.NotOpened (why.Damaged side damage)) wrote = held_still sink_at before now
+    wrote
+all_served sink_at history before now (finish.NotOpened why.NoMemory) wrote = held_still sink_at before now wrote
+all_served sink_at history before now finish.NoMemory wrote = held_still sink_at before now wrote
+all_served sink_at history before now finish.DiskFault wrote = held_still sink_at before now wrote
 
 -- ---- what the finish says
 
-found_in : {X Y : Type 0} (f : X → Y) (xs : List X) (k : ℕ) (y : Y) → k < length (map f xs) → slice_index_or (map f xs) k y ≡ y → (x : X) × Contains xs x × (y ≡ f x)
+found_in : {X Y : Type 0} (f : X → Y) (xs : List X) (k : ℕ) (y : Y) → k < length (map f xs)
+    → slice_index_or (map f xs) k y ≡ y → (x : X) × Contains xs x × (y ≡ f x)
 found_in f [] k y within is = absurd (omega arith)
 found_in f (x ∷ xs) zero y within is = (x, (0, omega arith, refl), sym is)
 found_in f (x ∷ xs) (suc k) y within is =
@@ -112,7 +123,8 @@ found_in f (x ∷ xs) (suc k) y within is =
 
 -- a script that lacks replies is that of a session
 lacking : (asked : List (ℕ × Request)) (history : List Entry) → LacksMemory (scripts_of asked) history
-    → (history ≡ []) ⊎ ((length history < LINES_MOST) × ((session : ℕ) × Contains sessions session × (AreLeft asked history session [] → ⊥)))
+    → (history ≡ []) ⊎ ((length history < LINES_MOST)
+    × ((session : ℕ) × Contains sessions session × (AreLeft asked history session [] → ⊥)))
 lacking asked history (inl none) = inl none
 lacking asked history (inr some) =
     let script = some.1.0 in
@@ -122,13 +134,15 @@ lacking asked history (inr some) =
     inr (some.0, (of_one.0, of_one.1, λ none. lacks (none ∙ append-nil (answered_of of_one.0 history))))
 
 -- nothing is left of what is answered whole
-none_left : (asked : List (ℕ × Request)) (history : List Entry) → AreServedWhole asked history → All (λ session. AreLeft asked history session []) sessions
+none_left : (asked : List (ℕ × Request)) (history : List Entry) → AreServedWhole asked history
+    → All (λ session. AreLeft asked history session []) sessions
 none_left asked history whole = λ k d there. whole k d there ∙ sym (append-nil _)
 
 -- ---- disks that stood for a state, or were damaged
 
 -- what is found, by cases
-pub by_found : {T A B : Type 0} (found : Result T (A × B)) (P : T → Type 0) (Q : A × B → Type 0) → ((x : T) → found ≡ Ok x → P x) → ((a : A) (b : B) → found ≡ Err (a, b) → Q (a, b)) → MatchResult found P Q
+pub by_found : {T A B : Type 0} (found : Result T (A × B)) (P : T → Type 0) (Q : A × B → Type 0)
+    → ((x : T) → found ≡ Ok x → P x) → ((a : A) (b : B) → found ≡ Err (a, b) → Q (a, b)) → MatchResult found P Q
 by_found (Ok x) P Q good bad = good x refl
 by_found (Err (a, b)) P Q good bad = bad a b refl
 
@@ -136,14 +150,16 @@ pub if_found : {T E : Type 0} (found : Result T E) (P : T → Type 0) → ((x : 
 if_found (Ok x) P good = good x refl
 if_found (Err e) P good = tt
 
-is_found : {T A B : Type 0} (found : Result T (A × B)) (P : T → Type 0) → ((x : T) → found ≡ Ok x → P x) → ((a : A) (b : B) → found ≡ Err (a, b) → ⊥) → IsOkAnd found P
+is_found : {T A B : Type 0} (found : Result T (A × B)) (P : T → Type 0) → ((x : T) → found ≡ Ok x → P x)
+    → ((a : A) (b : B) → found ≡ Err (a, b) → ⊥) → IsOkAnd found P
 is_found (Ok x) P good bad = good x refl
 is_found (Err (a, b)) P good bad = absurd (bad a b refl)
 
 -- ---- what was read
 
 -- of a word whose reading stopped
-pub read_so : {X : Type 0} (Says : List ℕ → X → Type 0) (why_not : Stop) (bytes : List ℕ) (left : Option (List ℕ)) (said : List X) → StopsAfter Says why_not bytes left said → ReadsTo Says bytes left said (Err (halt_at why_not))
+pub read_so : {X : Type 0} (Says : List ℕ → X → Type 0) (why_not : Stop) (bytes : List ℕ) (left : Option (List ℕ))
+    (said : List X) → StopsAfter Says why_not bytes left said → ReadsTo Says bytes left said (Err (halt_at why_not))
 read_so Says (stop.BadLine number) bytes left said h = h
 read_so Says stop.ReadFault bytes left said h = h
 read_so Says stop.NoMemory bytes left said h = h
@@ -167,12 +183,14 @@ neither n some other (suc zero, within, is) = other (sym is)
 neither n some other (suc (suc k), within, is) = omega (arith, within)
 
 -- it is so at 0 and 4
-all_answered : (how : Finish) → Contains (0 ∷ 4 ∷ []) (status_of (end_of how)) → (how ≡ finish.All) ⊎ (how ≡ finish.WriteFault)
+all_answered : (how : Finish) → Contains (0 ∷ 4 ∷ []) (status_of (end_of how)) → (how ≡ finish.All)
+    ⊎ (how ≡ finish.WriteFault)
 all_answered finish.All at = inl refl
 all_answered finish.WriteFault at = inr refl
 all_answered finish.NoMemory at = absurd (neither 7 (λ e. omega (arith, e)) (λ e. omega (arith, e)) at)
 all_answered finish.DiskFault at = absurd (neither 5 (λ e. omega (arith, e)) (λ e. omega (arith, e)) at)
-all_answered (finish.NotRead (stop.BadLine number)) at = absurd (neither 2 (λ e. omega (arith, e)) (λ e. omega (arith, e)) at)
+all_answered (finish.NotRead (stop.BadLine number)) at =
+    absurd (neither 2 (λ e. omega (arith, e)) (λ e. omega (arith, e)) at)
 all_answered (finish.NotRead stop.ReadFault) at = absurd (neither 3 (λ e. omega (arith, e)) (λ e. omega (arith, e)) at)
 all_answered (finish.NotRead stop.NoMemory) at = absurd (neither 7 (λ e. omega (arith, e)) (λ e. omega (arith, e)) at)
 all_answered (finish.NotRead stop.Limit) at = absurd (neither 8 (λ e. omega (arith, e)) (λ e. omega (arith, e)) at)
@@ -180,79 +198,97 @@ all_answered (finish.NotOpened why.DiskFault) at = absurd (neither 5 (λ e. omeg
 all_answered (finish.NotOpened why.NoMemory) at = absurd (neither 7 (λ e. omega (arith, e)) (λ e. omega (arith, e)) at)
 all_answered (finish.NotOpened (why.Damaged side damage)) at =
     let known = six side damage.index in
-    absurd (neither (status_of (Err (Damaged side damage.index))) (λ e. omega (arith, known, e)) (λ e. omega (arith, known, e)) at)
+    absurd (neither (status_of (Err (Damaged side damage.index))) (λ e. omega (arith, known, e))
+    (λ e. omega (arith, known, e)) at)
 
 -- what holds of both finishes of that kind
-of_answered : (P : Finish → Type 0) {Q : Type 0} → (P finish.All → Q) → (P finish.WriteFault → Q) → (how : Finish) → P how → Contains (0 ∷ 4 ∷ []) (status_of (end_of how)) → Q
-of_answered P {Q} all cut how so at = by (all_answered how at) where
+of_answered : (P : Finish → Type 0) {Q : Type 0} → (P finish.All → Q) → (P finish.WriteFault → Q) → (how : Finish)
+    → P how → Contains (0 ∷ 4 ∷ []) (status_of (end_of how)) → Q
+of_answered P {Q} all cut how so status = by (all_answered how status) where
   by : (how ≡ finish.All) ⊎ (how ≡ finish.WriteFault) → Q
   by (inl is) = all (subst P is so)
   by (inr is) = cut (subst P is so)
 
 module _
-    {K D : Type 0} (moment : D → ℕ) (held : K → Option (List ℕ)) (shown : K → Option (List Showing)) (left right : D) (before middle after : K)
-    (stays : shown after ≡ shown middle) where
+    {K D : Type 0} (disk_at : D → DiskAt) (sink_at : K → SinkAt) (left right : D) (before middle after : K)
+    (stays : (sink_at after).shown ≡ (sink_at middle).shown) where
   abbrev WasShown : Type 0
-  WasShown = Notes moment (held before) left right (shown before) (shown after)
+  WasShown = Notes disk_at (sink_at before).held left right (sink_at before).shown (sink_at after).shown
 
-  since : Notes moment (held before) left right (shown before) (shown middle) → WasShown
-  since notes = subst (λ (now : Option (List Showing)). Notes moment (held before) left right (shown before) now) (sym stays) notes
+  since : Notes disk_at (sink_at before).held left right (sink_at before).shown (sink_at middle).shown → WasShown
+  since notes =
+      subst (λ (now : Option (List Showing)). Notes disk_at (sink_at before).held left right (sink_at before).shown now)
+      (sym stays) notes
 
   -- what the sink was shown
-  pub safe_by : (how : Finish) → IsShown moment held shown left right before middle how → Contains (0 ∷ 4 ∷ []) (status_of (end_of how)) → WasShown
-  safe_by how is at = of_answered (IsShown moment held shown left right before middle) since since how is at
+  pub safe_by : (how : Finish) → IsShown disk_at sink_at left right before middle how
+      → Contains (0 ∷ 4 ∷ []) (status_of (end_of how)) → WasShown
+  safe_by how is status = of_answered (IsShown disk_at sink_at left right before middle) since since how is status
 
 -- nothing is pending
-pub rests_by : {D : Type 0} (seen : D → Option (List ℕ)) (moment : D → ℕ) (left_at : D → ℕ → List ℕ → Type 0) (left right : D) (how : Finish) → AreAtRest seen moment left_at left right how
-    → Contains (0 ∷ 4 ∷ []) (status_of (end_of how)) → IsAtRest seen moment left_at left × IsAtRest seen moment left_at right
-rests_by seen moment left_at left right how rest at = of_answered (AreAtRest seen moment left_at left right) (λ both. both) (λ both. both) how rest at
+pub rests_by : {D : Type 0} (disk_at : D → DiskAt) (left right : D) (how : Finish) → AreAtRest disk_at left right how
+    → Contains (0 ∷ 4 ∷ []) (status_of (end_of how)) → IsAtRest disk_at left × IsAtRest disk_at right
+rests_by disk_at left right how rest status =
+    of_answered (AreAtRest disk_at left right) (λ both. both) (λ both. both) how rest status
 
 -- ---- how it came to its end
 
 -- what is kept for the state after a command that was accepted is kept for the one after its request
-kept_around : (s : State) (c : Command) (a b : List ℕ) → ruling s c ≡ Allowed → IsKept a b s ⊎ IsKept a b (rule.after s c) → IsKeptAround s (Do c) a b
+kept_around : (s : State) (c : Command) (a b : List ℕ) → ruling s c ≡ Allowed → IsKept a b s
+    ⊎ IsKept a b (rule.after s c) → IsKeptAround s (Do c) a b
 kept_around s c a b allowed (inl kept) = inl kept
-kept_around s c a b allowed (inr kept) = inr (subst (λ (q : Ruling). IsKept a b (after_ruling s c q).0) (sym allowed) kept)
+kept_around s c a b allowed (inr kept) =
+    inr (subst (λ (q : Ruling). IsKept a b (after_ruling s c q).0) (sym allowed) kept)
 
 module _
-    {S K D : Type 0} (unread : S → Option (List ℕ)) (source_faults : S → ℕ) (held : K → Option (List ℕ)) (shown : K → Option (List Showing)) (sink_faults : K → ℕ) (seen : D → Option (List ℕ))
-    (disk_faults : D → ℕ) (moment : D → ℕ) (left_at : D → ℕ → List ℕ → Type 0) (before after : Outside S K D) (asked : List (ℕ × Request)) (history : List Entry) where
+    {S K D : Type 0} (source_at : S → SourceAt) (sink_at : K → SinkAt) (disk_at : D → DiskAt)
+    (before after : Outside S K D) (asked : List (ℕ × Request)) (history : List Entry) where
   abbrev AreWhole : Type 0
-  AreWhole = (l r : List ℕ) (side : Side) (damage : Damage) → seen before.left ≡ Some l → seen before.right ≡ Some r → state_on l r ≡ Err (side, damage) → ⊥
+  AreWhole = (l r : List ℕ) (side : Side) (damage : Damage) → (disk_at before.left).seen ≡ Some l
+      → (disk_at before.right).seen ≡ Some r → state_on l r ≡ Err (side, damage) → ⊥
 
   abbrev Unopened : Fault → Result (Unit {0}) Halt → Type 0
-  Unopened fault end = OpensNone unread source_faults held shown sink_faults seen disk_faults moment left_at before after history fault end
+  Unopened fault end = OpensNone source_at sink_at disk_at before after history fault end
 
   abbrev Answered : Fault → Result (Unit {0}) Halt → Type 0
-  Answered fault end = Answers unread source_faults held shown sink_faults seen disk_faults moment left_at before after asked history fault end
+  Answered fault end = Answers source_at sink_at disk_at before after asked history fault end
 
   -- disks that are not damaged stood for a state
   kept :
       (P : List ℕ → List ℕ → State → Type 0)
-      → ((l r : List ℕ) (start : State) → seen before.left ≡ Some l → seen before.right ≡ Some r → state_on l r ≡ Ok start → OfBoth seen after.left after.right (λ a b. P a b (state_after start history)))
-      → AreWhole → Keep unread source_faults held shown sink_faults seen disk_faults moment left_at before after history P
-  kept P disks whole = λ l r told_l told_r. is_found (state_on l r) _ (λ start is. disks l r start told_l told_r is) (λ side damage is. whole l r side damage told_l told_r is)
+      → ((l r : List ℕ) (start : State) → (disk_at before.left).seen ≡ Some l → (disk_at before.right).seen ≡ Some r
+      → state_on l r ≡ Ok start → OfBoth disk_at after.left after.right (λ a b. P a b (state_after start history)))
+      → AreWhole → Keep source_at sink_at disk_at before after history P
+  kept P disks whole = λ l r told_l told_r. is_found (state_on l r) _ (λ start is. disks l r start told_l told_r is)
+      (λ side damage is. whole l r side damage told_l told_r is)
 
   -- It came to this end, and where a disk met a fault it is this one.
   pub record Came (Meets : Fault → Type 0) (end : Result (Unit {0}) Halt) : Type 0 where
     pub reading : Result (Unit {0}) Halt
-    pub read : (bytes : List ℕ) → unread before.source ≡ Some bytes → ReadsTo Asks bytes (unread after.source) asked reading
+    pub read : (bytes : List ℕ) → (source_at before.source).left ≡ Some bytes
+        → ReadsTo Asks bytes (source_at after.source).left asked reading
     pub fault : Fault
     pub met : (other : Fault) → Meets other → other ≡ fault
     pub so :
-        ((reading ≡ end) × (history ≡ []) × (fault ≡ NoFault) × (after.left ≡ before.left) × (after.right ≡ before.right) × IsStopping end)
+        ((reading ≡ end) × (history ≡ []) × (fault ≡ NoFault) × (after.left ≡ before.left)
+        × (after.right ≡ before.right) × IsStopping end)
         ⊎ ((reading ≡ Ok tt) × (Unopened fault end ⊎ Answered fault end))
 
   abbrev IsWholeRead : Type 0
-  IsWholeRead = (bytes : List ℕ) → unread before.source ≡ Some bytes → AllZip Asks (lines_in bytes) asked × (unread after.source ≡ Some [])
+  IsWholeRead = (bytes : List ℕ) → (source_at before.source).left ≡ Some bytes
+      → AllZip Asks (lines_in bytes) asked × ((source_at after.source).left ≡ Some [])
 
   -- all lines were read
-  came_whole : (end : Result (Unit {0}) Halt) (fault : Fault) → IsWholeRead → Unopened fault end ⊎ Answered fault end → Came (λ other. other ≡ fault) end
-  came_whole end fault read so = record { reading = Ok tt; read = read; fault = fault; met = λ other is. is; so = inr (refl, so) }
+  came_whole : (end : Result (Unit {0}) Halt) (fault : Fault) → IsWholeRead → Unopened fault end ⊎ Answered fault end
+      → Came (λ other. other ≡ fault) end
+  came_whole end fault read so =
+      record { reading = Ok tt; read = read; fault = fault; met = λ other is. is; so = inr (refl, so) }
 
   -- a call met a disk's fault
   halted_by : (halted : Option (ℕ × Command)) → serving.Answers finish.DiskFault halted asked history
-      → ((l r : List ℕ) (start : State) → seen before.left ≡ Some l → seen before.right ≡ Some r → state_on l r ≡ Ok start → serving.HoldsAfter seen finish.DiskFault halted history l r start after.left after.right)
+      → ((l r : List ℕ) (start : State) → (disk_at before.left).seen ≡ Some l → (disk_at before.right).seen ≡ Some r
+      → state_on l r ≡ Ok start
+      → serving.HoldsAfter disk_at finish.DiskFault halted history l r start after.left after.right)
       → AreWhole → IsWholeRead → Came (λ other. serving.IsFaultAt finish.DiskFault halted other) (Err DiskFault)
   halted_by None h disks whole read = absurd h
   halted_by (Some (session, c)) h disks whole read =
@@ -264,57 +300,95 @@ module _
         h.0,
         h.1,
         h.2,
-        kept (λ a b s. (ruling s c ≡ Allowed) × IsKeptAround s (Do c) a b) (λ l r start told_l told_r is a b told_a told_b.
+        kept (λ a b s. (ruling s c ≡ Allowed) × IsKeptAround s (Do c) a b)
+            (λ l r start told_l told_r is a b told_a told_b.
             let holds = disks l r start told_l told_r is in
             (holds.0, kept_around (state_after start history) c a b holds.0 (holds.1 a b told_a told_b))) whole,
       ))
 
   -- No store was opened. Of damaged disks a stop leaves what an opening does.
   unopened_by : (end : Result (Unit {0}) Halt) (fault : Fault) (w : StoreWhy)
-      → (a : AnswersInput seen moment left_at (unread before.source) (unread after.source) before.left before.right (record { left = after.left; right = after.right; finish = finish.NotOpened w }) asked history)
-      → IsFaultOfTelling end fault → Contains (5 ∷ 6 ∷ 7 ∷ []) (status_of end) → ((number : ℕ) → end ≢ Err (DamagedInput number))
-      → ((l r : List ℕ) (start : State) → seen before.left ≡ Some l → seen before.right ≡ Some r → state_on l r ≡ Ok start → (status_of end ≢ 6) × DisksStay seen end l r start after.left after.right)
-      → ((l r : List ℕ) (side : Side) (damage : Damage) → seen before.left ≡ Some l → seen before.right ≡ Some r → state_on l r ≡ Err (side, damage) → EndsDamaged seen side damage end after.left after.right)
+      → (a : AnswersInput disk_at (source_at before.source).left (source_at after.source).left before.left before.right
+      (record { left = after.left; right = after.right; finish = finish.NotOpened w }) asked history)
+      → IsFaultOfTelling end fault → Contains (5 ∷ 6 ∷ 7 ∷ []) (status_of end)
+      → ((number : ℕ) → end ≢ Err (DamagedInput number))
+      → ((l r : List ℕ) (start : State) → (disk_at before.left).seen ≡ Some l → (disk_at before.right).seen ≡ Some r
+      → state_on l r ≡ Ok start → (status_of end ≢ 6) × DisksStay disk_at end l r start after.left after.right)
+      → ((l r : List ℕ) (side : Side) (damage : Damage) → (disk_at before.left).seen ≡ Some l
+      → (disk_at before.right).seen ≡ Some r → state_on l r ≡ Err (side, damage)
+      → EndsDamaged disk_at side damage end after.left after.right)
       → (end ≢ Err DiskFault → w ≢ why.DiskFault) → Came (λ other. other ≡ fault) end
   unopened_by end fault w a fault_is status no_input stay ends no_fault =
       came_whole end fault a.read (inl (
         a.answers,
         fault_is,
         status,
-        λ l r told_l told_r. by_found (state_on l r) _ _ (λ start is. stay l r start told_l told_r is) (λ side damage is.
+        λ l r told_l told_r. by_found (state_on l r) _ _ (λ start is. stay l r start told_l told_r is)
+            (λ side damage is.
             let leaves = a.damaged l r side damage told_l told_r is in
             record {
               ends = ends l r side damage told_l told_r is;
-              left_leaves = λ only. weaker moment left_at before.left after.left (LeftLeaves l r) (OpenLeaves true l) (leaves.left_leaves only) (λ image there. left_opened l r image (side, damage) there is);
+              left_leaves = λ only. weaker disk_at before.left after.left (LeftLeaves l r) (OpenLeaves true l)
+                  (leaves.left_leaves only) (λ image there. left_opened l r image (side, damage) there is);
               right_leaves = leaves.right_leaves;
               shut = λ other. leaves.shut (λ e. no_fault other (cc e));
             }),
         no_input,
       ))
 
-  pub came_by : (how : Finish) (a : AnswersInput seen moment left_at (unread before.source) (unread after.source) before.left before.right (record { left = after.left; right = after.right; finish = how }) asked history)
-      → ((why_not : Stop) → how ≡ finish.NotRead why_not → (after.left ≡ before.left) × (after.right ≡ before.right)) → Came (λ other. serving.IsFaultAt how a.halted other) (end_of how)
-  came_by finish.All a same = came_whole (Ok tt) NoFault a.read (inr (refl, kept IsKept a.disks (λ l r side damage told_l told_r is. (a.damaged l r side damage told_l told_r is).ends), (0, lit< tt, refl), none_left asked history a.answers))
+  pub came_by : (how : Finish)
+      (a : AnswersInput disk_at (source_at before.source).left (source_at after.source).left before.left before.right
+      (record { left = after.left; right = after.right; finish = how }) asked history)
+      → ((why_not : Stop) → how ≡ finish.NotRead why_not → (after.left ≡ before.left) × (after.right ≡ before.right))
+      → Came (λ other. serving.IsFaultAt how a.halted other) (end_of how)
+  came_by finish.All a same = came_whole (Ok tt) NoFault a.read
+      (inr (
+        refl,
+        kept IsKept a.disks
+            (λ l r side damage told_l told_r is. (a.damaged l r side damage told_l told_r is).ends),
+        (0, lit< tt, refl),
+        none_left asked history a.answers,
+      ))
   came_by finish.WriteFault a same =
-      came_whole (Err WriteFault) NoFault a.read (inr (refl, kept IsKept a.disks (λ l r side damage told_l told_r is. (a.damaged l r side damage told_l told_r is).ends), (1, lit< tt, refl), none_left asked history a.answers))
+      came_whole (Err WriteFault) NoFault a.read
+      (inr (
+        refl,
+        kept IsKept a.disks
+            (λ l r side damage told_l told_r is. (a.damaged l r side damage told_l told_r is).ends),
+        (1, lit< tt, refl),
+        none_left asked history a.answers,
+      ))
   came_by finish.NoMemory a same =
-      came_whole (Err NoMemory) NoFault a.read (inr (refl, kept IsKept a.disks (λ l r side damage told_l told_r is. (a.damaged l r side damage told_l told_r is).ends), lacking asked history a.answers))
-  came_by finish.DiskFault a same = halted_by a.halted a.answers a.disks (λ l r side damage told_l told_r is. (a.damaged l r side damage told_l told_r is).ends) a.read
+      came_whole (Err NoMemory) NoFault a.read
+      (inr (
+        refl,
+        kept IsKept a.disks
+            (λ l r side damage told_l told_r is. (a.damaged l r side damage told_l told_r is).ends),
+        lacking asked history
+            a.answers,
+      ))
+  came_by finish.DiskFault a same = halted_by a.halted a.answers a.disks
+      (λ l r side damage told_l told_r is. (a.damaged l r side damage told_l told_r is).ends) a.read
   came_by (finish.NotRead why_not) a same =
       record {
         reading = Err (halt_at why_not);
-        read = λ bytes told. read_so Asks why_not bytes (unread after.source) asked (a.read bytes told);
+        read = λ bytes told. read_so Asks why_not bytes (source_at after.source).left asked (a.read bytes told);
         fault = NoFault;
         met = λ other is. is;
         so = inl (refl, a.answers, refl, (same why_not refl).0, (same why_not refl).1, stopping why_not);
       }
   came_by (finish.NotOpened why.DiskFault) a same =
-      unopened_by (Err DiskFault) InOpening why.DiskFault a refl (0, lit< tt, refl) (λ n e. cc) (λ l r start told_l told_r is. ((λ e. omega (arith, e)), a.disks l r start told_l told_r is)) (λ l r side damage told_l told_r is. tt) (λ other. absurd (other refl))
+      unopened_by (Err DiskFault) InOpening why.DiskFault a refl (0, lit< tt, refl) (λ n e. cc)
+      (λ l r start told_l told_r is. ((λ e. omega (arith, e)), a.disks l r start told_l told_r is))
+      (λ l r side damage told_l told_r is. tt) (λ other. absurd (other refl))
   came_by (finish.NotOpened why.NoMemory) a same =
-      unopened_by (Err NoMemory) NoFault why.NoMemory a refl (2, lit< tt, refl) (λ n e. cc) (λ l r start told_l told_r is. ((λ e. omega (arith, e)), a.disks l r start told_l told_r is))
+      unopened_by (Err NoMemory) NoFault why.NoMemory a refl (2, lit< tt, refl) (λ n e. cc)
+      (λ l r start told_l told_r is. ((λ e. omega (arith, e)), a.disks l r start told_l told_r is))
       (λ l r side damage told_l told_r is. (a.damaged l r side damage told_l told_r is).ends) (λ other e. cc)
   came_by (finish.NotOpened (why.Damaged which met)) a same =
-      unopened_by (Err (Damaged which met.index)) NoFault (why.Damaged which met) a refl (1, lit< tt, six which met.index) (λ n e. cc) (λ l r start told_l told_r is. absurd (a.disks l r start told_l told_r is))
+      unopened_by (Err (Damaged which met.index)) NoFault (why.Damaged which met) a refl
+      (1, lit< tt, six which met.index) (λ n e. cc)
+      (λ l r start told_l told_r is. absurd (a.disks l r start told_l told_r is))
       (λ l r side damage told_l told_r is.
       let h = (a.damaged l r side damage told_l told_r is).ends in
       (h.0, ap (λ (d : Damage). d.index) h.1, h.2)) (λ other e. cc)

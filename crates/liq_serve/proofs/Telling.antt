@@ -5,6 +5,7 @@ use Rattle.liq_types.specs.declared.requests.Command.{Command}
 use Rattle.liq_types.specs.State.{State}
 use Rattle.liq_review.specs.Reviewed.{reviewed}
 use Rattle.liq_review.specs.declared.fault.ReviewFault.TheVariants as review
+use Rattle.liq_outside.specs.At.{DiskAt}
 use Rattle.liq_outside.proofs.Moments.{unmoved}
 use Rattle.liq_store.specs.Causes.{Faults, counts_of}
 use Rattle.liq_ends.specs.declared.halts.Halt.{Halt}
@@ -37,12 +38,15 @@ load_done n ends sink = by (load_list n ends) where
   by (inr (inr is)) = inr is
 
 -- neither the source nor a disk is asked
-pub source_unasked : (end : Result (Unit {0}) Halt) (n : ℕ) → Contains (0 ∷ 4 ∷ 7 ∷ []) (status_of end) → ReadCause end n n
-source_unasked end n ends = unread_causes end n (λ is. load_not (status_of end) 3 (load_list (status_of end) ends) (ap status_of is) (λ e. omega (arith, e)) (λ e. omega (arith, e)) (λ e. omega (arith, e)))
+pub source_unasked : (end : Result (Unit {0}) Halt) (n : ℕ) → Contains (0 ∷ 4 ∷ 7 ∷ []) (status_of end)
+    → ReadCause end n n
+source_unasked end n ends = unread_causes end n
+    (λ is. load_not (status_of end) 3 (load_list (status_of end) ends) (ap status_of is) (λ e. omega (arith, e))
+    (λ e. omega (arith, e)) (λ e. omega (arith, e)))
 
 untouched_causes : (end : Result (Unit {0}) Halt) (n : Faults) → end ≢ Err DiskFault → DiskCause end n n
 untouched_causes (Ok done) n other = refl
-untouched_causes (Err (BadLine at)) n other = refl
+untouched_causes (Err (BadLine number)) n other = refl
 untouched_causes (Err ReadFault) n other = refl
 untouched_causes (Err WriteFault) n other = refl
 untouched_causes (Err DiskFault) n other = absurd (other refl)
@@ -53,27 +57,33 @@ untouched_causes (Err (Rotated generation)) n other = refl
 untouched_causes (Err (DamagedInput number)) n other = refl
 
 -- disks that nobody asks
-pub same_go_on : {D : Type 0} (seen : D → Option (List ℕ)) (faults moment : D → ℕ) (left_at : D → ℕ → List ℕ → Type 0) (left right : D) (end : Result (Unit {0}) Halt)
-    → DiskCause end (counts_of faults left right) (counts_of faults left right) → DisksGoOn seen faults moment left_at left right end left right
-same_go_on seen faults moment left_at left right end cause = record {
+pub same_go_on : {D : Type 0} (at : D → DiskAt) (left right : D) (end : Result (Unit {0}) Halt)
+    → DiskCause end (counts_of at left right) (counts_of at left right) → DisksGoOn at left right end left right
+same_go_on at left right end cause = record {
   count = cause;
-  left_time = unmoved moment left_at left;
-  right_time = unmoved moment left_at right;
+  left_time = unmoved at left;
+  right_time = unmoved at right;
   left_telling = (λ told. told, λ told. told);
   right_telling = (λ told. told, λ told. told);
 }
 
-pub disks_unasked : (end : Result (Unit {0}) Halt) (n : Faults) → Contains (0 ∷ 4 ∷ 7 ∷ []) (status_of end) → DiskCause end n n
-disks_unasked end n ends = untouched_causes end n (λ is. load_not (status_of end) 5 (load_list (status_of end) ends) (ap status_of is) (λ e. omega (arith, e)) (λ e. omega (arith, e)) (λ e. omega (arith, e)))
+pub disks_unasked : (end : Result (Unit {0}) Halt) (n : Faults) → Contains (0 ∷ 4 ∷ 7 ∷ []) (status_of end)
+    → DiskCause end n n
+disks_unasked end n ends = untouched_causes end n
+    (λ is. load_not (status_of end) 5 (load_list (status_of end) ends) (ap status_of is) (λ e. omega (arith, e))
+    (λ e. omega (arith, e)) (λ e. omega (arith, e)))
 
 -- ---- of what is followed
 
 -- no disk is asked
-pub disks_unfollowed : (end : Result (Unit {0}) Halt) (read : List ℕ) (left : Option (List ℕ)) (text : List ℕ) → FollowsTo end read left text → (n : Faults) → DiskCause end n n
-disks_unfollowed end read left text h n = untouched_causes end n (λ is. absurd (subst (λ (e : Result (Unit {0}) Halt). FollowsTo e read left text) is h).1)
+pub disks_unfollowed : (end : Result (Unit {0}) Halt) (read : List ℕ) (left : Option (List ℕ)) (text : List ℕ)
+    → FollowsTo end read left text → (n : Faults) → DiskCause end n n
+disks_unfollowed end read left text h n = untouched_causes end n
+    (λ is. absurd (subst (λ (e : Result (Unit {0}) Halt). FollowsTo e read left text) is h).1)
 
 -- no more is taken than is followed, and one byte more
-pub taken_followed : (end : Result (Unit {0}) Halt) (read : List ℕ) (left : Option (List ℕ)) (text : List ℕ) → FollowsTo end read left text → length read ≤ FED_MOST + 1
+pub taken_followed : (end : Result (Unit {0}) Halt) (read : List ℕ) (left : Option (List ℕ)) (text : List ℕ)
+    → FollowsTo end read left text → length read ≤ FED_MOST + 1
 taken_followed (Ok done) read left text h = let few = h.few in omega arith
 taken_followed (Err WriteFault) read left text h = let few = h.few in omega arith
 taken_followed (Err (Limit number)) read left text h = omega (arith, h.1)
@@ -119,21 +129,25 @@ no_damage : (m : ℕ) → Contains (5 ∷ 7 ∷ []) m → m ≡ 6 → ⊥
 no_damage m ends is = neither_of m 6 ends is (λ e. omega (arith, e)) (λ e. omega (arith, e))
 
 -- of the first generation
-pub audit_done : (s : State) (commands : List Command) (end : Result (Unit {0}) Halt) (text : List ℕ) → s.generation ≡ 1 → IsAuditOf s commands end text → ((number : ℕ) → reviewed s.limit commands ≡ Err (review.Limit number) → ⊥)
+pub audit_done : (s : State) (commands : List Command) (end : Result (Unit {0}) Halt) (text : List ℕ) → s.generation ≡ 1
+    → IsAuditOf s commands end text → ((number : ℕ) → reviewed s.limit commands ≡ Err (review.Limit number) → ⊥)
     → status_of end ≢ 4 → status_of end ≢ 5 → (status_of end ≡ 0) ⊎ (status_of end ≡ 7)
 audit_done s commands (Ok done) text first h within_limits sink disk = inl refl
 audit_done s commands (Err (BadLine n)) text first h within_limits sink disk = absurd (no_bad_line _ h refl)
 audit_done s commands (Err ReadFault) text first h within_limits sink disk = absurd (no_read_fault _ h refl)
 audit_done s commands (Err WriteFault) text first h within_limits sink disk = absurd (sink refl)
 audit_done s commands (Err DiskFault) text first h within_limits sink disk = absurd (disk refl)
-audit_done s commands (Err (Damaged side number)) text first h within_limits sink disk = absurd (no_damage _ h (sym (six side number)))
+audit_done s commands (Err (Damaged side number)) text first h within_limits sink disk =
+    absurd (no_damage _ h (sym (six side number)))
 audit_done s commands (Err NoMemory) text first h within_limits sink disk = inr refl
 audit_done s commands (Err (Limit number)) text first h within_limits sink disk = absurd (within_limits number h.1)
-audit_done s commands (Err (Rotated generation)) text first h within_limits sink disk = absurd (omega (arith, first, h.0))
+audit_done s commands (Err (Rotated generation)) text first h within_limits sink disk =
+    absurd (omega (arith, first, h.0))
 audit_done s commands (Err (DamagedInput number)) text first h within_limits sink disk = absurd (no_damage _ h refl)
 
 -- of a later one
-pub rotated_done : (s : State) (commands : List Command) (end : Result (Unit {0}) Halt) (text : List ℕ) → 1 < s.generation → IsAuditOf s commands end text → status_of end ≢ 5 → (status_of end ≡ 9) ⊎ (status_of end ≡ 7)
+pub rotated_done : (s : State) (commands : List Command) (end : Result (Unit {0}) Halt) (text : List ℕ)
+    → 1 < s.generation → IsAuditOf s commands end text → status_of end ≢ 5 → (status_of end ≡ 9) ⊎ (status_of end ≡ 7)
 rotated_done s commands (Ok done) text later h disk = absurd (omega (arith, later, h.0))
 rotated_done s commands (Err (BadLine n)) text later h disk = absurd (no_bad_line _ h refl)
 rotated_done s commands (Err ReadFault) text later h disk = absurd (no_read_fault _ h refl)

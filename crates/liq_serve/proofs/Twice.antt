@@ -2,7 +2,7 @@
 use Rattle.std.proofs.Common.{◌≡◌, ◌≢◌, ℕ, List, [], ◌∷◌, Option, Some, is_some, Ok, Err, Result, refl, sym, ap, subst, ◌∙◌, inl, inr}
 use Rattle.std.specs.Prelude.{◌⊎◌, IfSome, IsSome, fold}
 use Rattle.std.proofs.lemmas.Result.{MatchResult-at_ok}
-use Rattle.liq_outside.specs.declared.showing.Showing.{Showing}
+use Rattle.liq_outside.specs.At.{DiskAt, SinkAt, SourceAt}
 use Rattle.liq_outside.specs.Disk.{LeftNow, Only}
 use Rattle.liq_types.specs.declared.requests.Command.{Command}
 use Rattle.liq_types.specs.declared.requests.Request.{Request}
@@ -33,44 +33,62 @@ module _ (bytes l r : List ℕ) (start : State) (requests : List Request) where
   here = (run start requests).0
 
   -- kept for the state after the requests
-  kept_here : (end : Result (Unit {0}) Halt) (a b : List ℕ) → IsKept a b here → BeginsBehind bytes l r start requests end a b
+  kept_here : (end : Result (Unit {0}) Halt) (a b : List ℕ) → IsKept a b here
+      → BeginsBehind bytes l r start requests end a b
   kept_here end a b kept = ([], tt, kept)
 
   -- or for it after one command more
-  kept_behind : (a b : List ℕ) (c : Command) → (IsNext bytes requests (Do c) × (ruling here c ≡ Allowed)) ⊎ ((requests ≡ []) × HoldsUnfinished l r start c) → IsKept a b (after here c) → BeginsBehind bytes l r start requests (Err DiskFault) a b
+  kept_behind : (a b : List ℕ) (c : Command) → (IsNext bytes requests (Do c) × (ruling here c ≡ Allowed))
+      ⊎ ((requests ≡ []) × HoldsUnfinished l r start c) → IsKept a b (after here c)
+      → BeginsBehind bytes l r start requests (Err DiskFault) a b
   kept_behind a b c why kept = (c ∷ [], (refl, why), kept)
 
   -- as an opening that failed left them
-  recovered : (a b : List ℕ) → requests ≡ [] → IsRecovered l r start a b → BeginsBehind bytes l r start requests (Err DiskFault) a b
-  recovered a b none (inl kept) = kept_here (Err DiskFault) a b (subst (λ (rs : List Request). IsKept a b (run start rs).0) (sym none) kept)
-  recovered a b none (inr (c, holds, kept)) = kept_behind a b c (inr (none, holds)) (subst (λ (rs : List Request). IsKept a b (after (run start rs).0 c)) (sym none) kept)
+  recovered : (a b : List ℕ) → requests ≡ [] → IsRecovered l r start a b
+      → BeginsBehind bytes l r start requests (Err DiskFault) a b
+  recovered a b none (inl kept) = kept_here (Err DiskFault) a b
+      (subst (λ (rs : List Request). IsKept a b (run start rs).0) (sym none) kept)
+  recovered a b none (inr (c, holds, kept)) = kept_behind a b c (inr (none, holds))
+      (subst (λ (rs : List Request). IsKept a b (after (run start rs).0 c)) (sym none) kept)
 
-  module _ {D : Type 0} (seen : D → Option (List ℕ)) (unread : Option (List ℕ)) (left right : D) where
+  module _ {D : Type 0} (disk_at : D → DiskAt) (unread : Option (List ℕ)) (left right : D) where
     -- as they are read at the end
-    pub read_behind : (end : Result (Unit {0}) Halt) → IsKept l r start → DisksHold seen end bytes unread l r start left right requests → (a b : List ℕ) → seen left ≡ Some a → seen right ≡ Some b
+    pub read_behind : (end : Result (Unit {0}) Halt) → IsKept l r start
+        → DisksHold disk_at end bytes unread l r start left right requests → (a b : List ℕ)
+        → (disk_at left).seen ≡ Some a → (disk_at right).seen ≡ Some b
         → BeginsBehind bytes l r start requests end a b
     read_behind (Err DiskFault) were holds a b told_a told_b = by (holds a b told_a told_b) where
       by : (IsUnread bytes unread requests × (IsKept l r start → IsRecovered l r start a b))
-          ⊎ (IsKept a b here ⊎ ((c : Command) × IsNext bytes requests (Do c) × (ruling here c ≡ Allowed) × IsKept a b (after here c))) → BeginsBehind bytes l r start requests (Err DiskFault) a b
+          ⊎ (IsKept a b here ⊎ ((c : Command) × IsNext bytes requests (Do c) × (ruling here c ≡ Allowed)
+          × IsKept a b (after here c))) → BeginsBehind bytes l r start requests (Err DiskFault) a b
       by (inl (none, gives)) = recovered a b none.0 (gives were)
       by (inr (inl kept)) = kept_here (Err DiskFault) a b kept
       by (inr (inr (c, next, allowed, kept))) = kept_behind a b c (inl (next, allowed)) kept
-    read_behind (Err NoMemory) were holds a b told_a told_b = kept_here (Err NoMemory) a b ((holds a b told_a told_b).1 (λ none. were))
+    read_behind (Err NoMemory) were holds a b told_a told_b = kept_here (Err NoMemory) a b
+        ((holds a b told_a told_b).1 (λ none. were))
     read_behind (Ok done) were holds a b told_a told_b = kept_here (Ok done) a b (holds a b told_a told_b)
-    read_behind (Err (BadLine n)) were holds a b told_a told_b = kept_here (Err (BadLine n)) a b (holds a b told_a told_b)
+    read_behind (Err (BadLine n)) were holds a b told_a told_b = kept_here (Err (BadLine n)) a b
+        (holds a b told_a told_b)
     read_behind (Err ReadFault) were holds a b told_a told_b = kept_here (Err ReadFault) a b (holds a b told_a told_b)
     read_behind (Err WriteFault) were holds a b told_a told_b = kept_here (Err WriteFault) a b (holds a b told_a told_b)
-    read_behind (Err (Damaged side number)) were holds a b told_a told_b = kept_here (Err (Damaged side number)) a b (holds a b told_a told_b)
-    read_behind (Err (Limit number)) were holds a b told_a told_b = kept_here (Err (Limit number)) a b (holds a b told_a told_b)
-    read_behind (Err (Rotated generation)) were holds a b told_a told_b = kept_here (Err (Rotated generation)) a b (holds a b told_a told_b)
-    read_behind (Err (DamagedInput number)) were holds a b told_a told_b = kept_here (Err (DamagedInput number)) a b (holds a b told_a told_b)
+    read_behind (Err (Damaged side number)) were holds a b told_a told_b = kept_here (Err (Damaged side number)) a b
+        (holds a b told_a told_b)
+    read_behind (Err (Limit number)) were holds a b told_a told_b = kept_here (Err (Limit number)) a b
+        (holds a b told_a told_b)
+    read_behind (Err (Rotated generation)) were holds a b told_a told_b = kept_here (Err (Rotated generation)) a b
+        (holds a b told_a told_b)
+    read_behind (Err (DamagedInput number)) were holds a b told_a told_b = kept_here (Err (DamagedInput number)) a b
+        (holds a b told_a told_b)
 
-    module _ (moment : D → ℕ) (left_at : D → ℕ → List ℕ → Type 0) (old_left old_right : D) where
-      only_one : (disk : D) (held image : List ℕ) → seen disk ≡ Some held → IsAtRest seen moment left_at disk → LeftNow moment left_at disk image → image ≡ held
-      only_one disk held image told rests left = subst (λ (o : Option (List ℕ)). IfSome o (λ bytes. Only bytes (LeftNow moment left_at disk))) told rests image left
+    module _ (old_left old_right : D) where
+      only_one : (disk : D) (held image : List ℕ) → (disk_at disk).seen ≡ Some held → IsAtRest disk_at disk
+          → LeftNow disk_at disk image → image ≡ held
+      only_one disk held image told rests left =
+          subst (λ (o : Option (List ℕ)). IfSome o (λ bytes. Only bytes (LeftNow disk_at disk))) told rests image left
 
       -- a fault is that of a disk
-      faulted : (end : Result (Unit {0}) Halt) (fault : Fault) → IsFaultOfRun start end bytes unread requests fault → fault ≢ NoFault → end ≡ Err DiskFault
+      faulted : (end : Result (Unit {0}) Halt) (fault : Fault) → IsFaultOfRun start end bytes unread requests fault
+          → fault ≢ NoFault → end ≡ Err DiskFault
       faulted (Err DiskFault) fault is some = refl
       faulted (Ok done) fault is some = absurd (some is)
       faulted (Err (BadLine n)) fault is some = absurd (some is)
@@ -82,14 +100,17 @@ module _ (bytes l r : List ℕ) (start : State) (requests : List Request) where
       faulted (Err (Rotated generation)) fault is some = absurd (some is)
       faulted (Err (DamagedInput number)) fault is some = absurd (some is)
 
-      next_at : (c : Command) → ((AtCommand c ≡ InOpening) × IsUnread bytes unread requests) ⊎ ((d : Command) × (AtCommand c ≡ AtCommand d) × IsNext bytes requests (Do d) × (ruling here d ≡ Allowed)) → IsNext bytes requests (Do c)
+      next_at : (c : Command) → ((AtCommand c ≡ InOpening) × IsUnread bytes unread requests)
+          ⊎ ((d : Command) × (AtCommand c ≡ AtCommand d) × IsNext bytes requests (Do d) × (ruling here d ≡ Allowed))
+          → IsNext bytes requests (Do c)
       next_at c (inl (is, none)) = absurd cc
       next_at c (inr (d, is, next, allowed)) =
           let same : d ≡ c = cc in
           subst (λ (e : Command). IsNext bytes requests (Do e)) same next
 
       -- it is met at the next line's command
-      next_of : (end : Result (Unit {0}) Halt) (c : Command) → IsFaultOfRun start end bytes unread requests (AtCommand c) → IsNext bytes requests (Do c)
+      next_of : (end : Result (Unit {0}) Halt) (c : Command)
+          → IsFaultOfRun start end bytes unread requests (AtCommand c) → IsNext bytes requests (Do c)
       next_of (Err DiskFault) c is = next_at c is
       next_of (Ok done) c is = absurd cc
       next_of (Err (BadLine n)) c is = absurd cc
@@ -102,58 +123,83 @@ module _ (bytes l r : List ℕ) (start : State) (requests : List Request) where
       next_of (Err (DamagedInput number)) c is = absurd cc
 
       -- or as a crash at the end leaves them
-      pub left_behind : (end : Result (Unit {0}) Halt) (x y a b : List ℕ) → seen left ≡ Some x → seen right ≡ Some y → IsKept l r start → DisksHold seen end bytes unread l r start left right requests
-          → (fault : Fault) → IsFaultOfRun start end bytes unread requests fault → RestAtEnd seen moment left_at l r start requests fault left right → LeftNow moment left_at left a → LeftNow moment left_at right b
+      pub left_behind : (end : Result (Unit {0}) Halt) (x y a b : List ℕ) → (disk_at left).seen ≡ Some x
+          → (disk_at right).seen ≡ Some y → IsKept l r start
+          → DisksHold disk_at end bytes unread l r start left right requests
+          → (fault : Fault) → IsFaultOfRun start end bytes unread requests fault
+          → RestAtEnd disk_at l r start requests fault left right → LeftNow disk_at left a → LeftNow disk_at right b
           → BeginsBehind bytes l r start requests end a b
       left_behind end x y a b told_x told_y were holds NoFault is rests at_a at_b =
-          read_behind end were holds a b (told_x ∙ ap Some (sym (only_one left x a told_x rests.0 at_a))) (told_y ∙ ap Some (sym (only_one right y b told_y rests.1 at_b)))
+          read_behind end were holds a b (told_x ∙ ap Some (sym (only_one left x a told_x rests.0 at_a)))
+          (told_y ∙ ap Some (sym (only_one right y b told_y rests.1 at_b)))
       left_behind end x y a b told_x told_y were holds InOpening is rests at_a at_b =
           let so = rests a b at_a at_b in
-          subst (λ (e : Result (Unit {0}) Halt). BeginsBehind bytes l r start requests e a b) (sym (faulted end InOpening is (λ e. cc))) (recovered a b so.0 so.1)
+          subst (λ (e : Result (Unit {0}) Halt). BeginsBehind bytes l r start requests e a b)
+          (sym (faulted end InOpening is (λ e. cc))) (recovered a b so.0 so.1)
       left_behind end x y a b told_x told_y were holds (AtCommand c) is rests at_a at_b =
-          subst (λ (e : Result (Unit {0}) Halt). BeginsBehind bytes l r start requests e a b) (sym (faulted end (AtCommand c) is (λ e. cc))) (by (rests a b at_a at_b)) where
-            by : IsKept a b here ⊎ ((ruling here c ≡ Allowed) × IsKept a b (after here c)) → BeginsBehind bytes l r start requests (Err DiskFault) a b
+          subst (λ (e : Result (Unit {0}) Halt). BeginsBehind bytes l r start requests e a b)
+          (sym (faulted end (AtCommand c) is (λ e. cc))) (by (rests a b at_a at_b)) where
+            by : IsKept a b here ⊎ ((ruling here c ≡ Allowed) × IsKept a b (after here c))
+                → BeginsBehind bytes l r start requests (Err DiskFault) a b
             by (inl kept) = kept_here (Err DiskFault) a b kept
             by (inr (allowed, kept)) = kept_behind a b c (inl (next_of end c is, allowed)) kept
 
 -- ---- two calls
 
 module _
-    {S K D : Type 0} (unread : S → Option (List ℕ)) (source_faults : S → ℕ) (held : K → Option (List ℕ)) (shown : K → Option (List Showing)) (sink_faults : K → ℕ) (seen : D → Option (List ℕ))
-    (disk_faults moment : D → ℕ) (left_at : D → ℕ → List ℕ → Type 0) (before middle again later : Outside S K D) where
+    {S K D : Type 0} (source_at : S → SourceAt) (sink_at : K → SinkAt) (disk_at : D → DiskAt)
+    (before middle again later : Outside S K D) where
   abbrev RunsFirst : Result (Unit {0}) Halt → List ℕ → List ℕ → State → List ℕ → Type 0
-  RunsFirst end l r start bytes = RunsTo unread source_faults held shown sink_faults seen disk_faults moment left_at before middle end l r start bytes
+  RunsFirst end l r start bytes = RunsTo source_at sink_at disk_at before middle end l r start bytes
 
   -- what a run left begins the next one
-  pub runs_behind : (end : Result (Unit {0}) Halt) (bytes l r a b : List ℕ) (start : State) → (ran : RunsFirst end l r start bytes) → IsSome (seen middle.left) → IsSome (seen middle.right) → IsKept l r start
-      → AreBehind unread source_faults held shown sink_faults seen disk_faults moment left_at before middle l r a b → BeginsBehind bytes l r start ran.requests end a b
-  runs_behind end bytes l r a b start ran left_tells right_tells were (inl (told_a, told_b)) = read_behind bytes l r start ran.requests seen (unread middle.source) middle.left middle.right end were ran.disks a b told_a told_b
+  pub runs_behind : (end : Result (Unit {0}) Halt) (bytes l r a b : List ℕ) (start : State)
+      → (ran : RunsFirst end l r start bytes) → IsSome (disk_at middle.left).seen → IsSome (disk_at middle.right).seen
+      → IsKept l r start
+      → AreBehind source_at sink_at disk_at before middle l r a b → BeginsBehind bytes l r start ran.requests end a b
+  runs_behind end bytes l r a b start ran left_tells right_tells were (inl (told_a, told_b)) = read_behind bytes l r
+      start ran.requests disk_at (source_at middle.source).left middle.left middle.right end were ran.disks a b told_a
+      told_b
   runs_behind end bytes l r a b start ran left_tells right_tells were (inr (only_l, only_r, at_a, at_b)) =
       let past = ran.past only_l only_r were in
-      let x = some_of (seen middle.left) left_tells in
-      let y = some_of (seen middle.right) right_tells in
-      let at = subst (λ (met : Fault). IsFaultOfRun start end bytes (unread middle.source) ran.requests met) (sym past.fault_is) ran.fault_is in
-      left_behind bytes l r start ran.requests seen (unread middle.source) middle.left middle.right moment left_at before.left before.right end x.0 y.0 a b x.1 y.1 were ran.disks past.fault at past.rests at_a at_b
+      let x = some_of (disk_at middle.left).seen left_tells in
+      let y = some_of (disk_at middle.right).seen right_tells in
+      let at = subst (λ (met : Fault). IsFaultOfRun start end bytes (source_at middle.source).left ran.requests met)
+      (sym past.fault_is) ran.fault_is in
+      left_behind bytes l r start ran.requests disk_at (source_at middle.source).left middle.left middle.right
+      before.left before.right end x.0 y.0 a b x.1 y.1 were ran.disks past.fault at past.rests at_a at_b
 
   pub follow_on :
       (status second_status : ℕ) (words others : List (List ℕ))
-      → Ends unread source_faults held shown sink_faults seen disk_faults moment left_at before middle status words
-      → Ends unread source_faults held shown sink_faults seen disk_faults moment left_at again later second_status others
+      → Ends source_at sink_at disk_at before middle status words
+      → Ends source_at sink_at disk_at again later second_status others
       → Ask words word.Run → Ask others word.Run → (bytes lines l r a b : List ℕ) (start : State)
-      → unread before.source ≡ Some bytes → unread again.source ≡ Some lines → seen before.left ≡ Some l → seen before.right ≡ Some r → state_on l r ≡ Ok start → IsKept l r start
-      → seen again.left ≡ Some a → seen again.right ≡ Some b → AreBehind unread source_faults held shown sink_faults seen disk_faults moment left_at before middle l r a b
-      → FollowOn unread source_faults held shown sink_faults seen disk_faults moment left_at before middle again later status second_status bytes lines l r a b start
-  follow_on status second_status words others one two asked asked_too bytes lines l r a b start told told_too told_l told_r is were told_a told_b behind =
+      → (source_at before.source).left ≡ Some bytes → (source_at again.source).left ≡ Some lines
+      → (disk_at before.left).seen ≡ Some l → (disk_at before.right).seen ≡ Some r → state_on l r ≡ Ok start
+      → IsKept l r start
+      → (disk_at again.left).seen ≡ Some a → (disk_at again.right).seen ≡ Some b
+      → AreBehind source_at sink_at disk_at before middle l r a b
+      → FollowOn source_at sink_at disk_at before middle again later status second_status bytes lines l r a b start
+  follow_on status second_status words others one two asked asked_too bytes lines l r a b start told told_too told_l
+      told_r is were told_a told_b behind =
       let e = one.ends word.Run asked in
       let ran = MatchResult-at_ok _ _ start is (e.2 l r told_l told_r) bytes told in
-      let begins = runs_behind e.0 bytes l r a b start ran (one.left_telling.1 (ap is_some told_l)) (one.right_telling.1 (ap is_some told_r)) were behind in
+      let begins = runs_behind e.0 bytes l r a b start ran (one.left_telling.1 (ap is_some told_l))
+      (one.right_telling.1 (ap is_some told_r)) were behind in
       let between = fold after (run start ran.requests).0 begins.0 in
       let t = begins.2.stands.state in
       let stands = begins.2.stands.is in
       let same = kept_again a b between t begins.2 stands in
       let f = two.ends word.Run asked_too in
       let second = MatchResult-at_ok _ _ t stands (f.2 a b told_a told_b) lines told_too in
-      let reached : Alike between t = record { image = same.0.image; records = same.0.records; left = begins.2.stands.formed; right = state_formed a b t stands } in
+      let reached : Alike between t =
+      record {
+        image = same.0.image;
+        records = same.0.records;
+        left = begins.2.stands.formed;
+        right = state_formed a b t
+            stands;
+      } in
       let then = run_alike second.requests reached in
       record {
         end = e.0;

@@ -2,6 +2,7 @@
 use Rattle.std.proofs.Common.{◌≡◌, ◌≢◌, ℕ, List, [], ◌∷◌, append-nil, Option, Some, Ok, Err, Result, refl, sym, subst, ◌∙◌, arith, lit<, inl, inr}
 use Rattle.std.specs.Prelude.{◌⊎◌, ◌↔◌, Contains, IfOk}
 use Rattle.std.proofs.lemmas.List.Elements.{All-nil}
+use Rattle.liq_outside.specs.At.{DiskAt, SinkAt, SourceAt}
 use Rattle.liq_outside.specs.declared.showing.Showing.{Showing}
 use Rattle.liq_outside.specs.Disk.{LeftBetween, LeftNow, Only}
 use Rattle.liq_outside.specs.Faults.{Rose}
@@ -54,9 +55,15 @@ pub record IsRead (words : List (List ℕ)) (read : Word) : Type 0 where
   pub only : (other : Word) → Ask words other → read ≡ other
 
 -- what is read of the words
-pub is_read : (words : List (List ℕ)) (found : Result Word WordsFault) (read : Word) → found ≡ Ok read → IfOk found (Ask words) → ((other : Word) → Ask words other → (found ≡ Ok other) ⊎ (found ≡ Err fault.NoMemory)) → IsRead words read
+pub is_read : (words : List (List ℕ)) (found : Result Word WordsFault) (read : Word) → found ≡ Ok read
+    → IfOk found (Ask words) → ((other : Word) → Ask words other → (found ≡ Ok other) ⊎ (found ≡ Err fault.NoMemory))
+    → IsRead words read
 is_read words found read is asks only =
-    record { asks = subst (λ (r : Result Word WordsFault). IfOk r (Ask words)) is asks; only = λ other asked. by other (only other asked) } where
+    record {
+      asks = subst (λ (r : Result Word WordsFault). IfOk r (Ask words)) is asks;
+      only = λ other asked. by other
+          (only other asked);
+    } where
       by : (other : Word) → (found ≡ Ok other) ⊎ (found ≡ Err fault.NoMemory) → read ≡ other
       by other (inl same) = cc
       by other (inr none) = absurd cc
@@ -79,26 +86,33 @@ not_usage (Err (Rotated generation)) is = omega (arith, is)
 not_usage (Err (DamagedInput number)) is = omega (arith, is)
 
 module _
-    {S K D : Type 0} (unread : S → Option (List ℕ)) (source_faults : S → ℕ) (held : K → Option (List ℕ)) (shown : K → Option (List Showing)) (sink_faults : K → ℕ) (seen : D → Option (List ℕ))
-    (disk_faults : D → ℕ) (moment : D → ℕ) (left_at : D → ℕ → List ℕ → Type 0) (before after : Outside S K D) where
+    {S K D : Type 0} (source_at : S → SourceAt) (sink_at : K → SinkAt) (disk_at : D → DiskAt)
+    (before after : Outside S K D) where
   -- a word that was read, and came to this end
   pub word_ends :
       (words : List (List ℕ)) (read : Word) (end : Result (Unit {0}) Halt) → IsRead words read
-      → Leaves unread source_faults held shown sink_faults seen disk_faults moment left_at before after read end
-      → Contains (statuses_of read) (status_of end) → HasCauses source_faults sink_faults seen disk_faults moment left_at before after end
-      → ReadsAtMost (most_taken read) (unread before.source) (unread after.source)
-      → Ends unread source_faults held shown sink_faults seen disk_faults moment left_at before after (status_of end) words
+      → Leaves source_at sink_at disk_at before after read end
+      → Contains (statuses_of read) (status_of end) → HasCauses source_at sink_at disk_at before after end
+      → ReadsAtMost (most_taken read) (source_at before.source).left (source_at after.source).left
+      → Ends source_at sink_at disk_at before after (status_of end) words
   word_ends words read end is leaves status causes few =
-      let source = source_causes end (source_faults before.source) (source_faults after.source) causes.source in
-      let sink = sink_causes end (sink_faults before.sink) (sink_faults after.sink) causes.sink in
-      let disks = disk_causes end (counts_of disk_faults before.left before.right) (counts_of disk_faults after.left after.right) causes.disks.count in
+      let source = source_causes end (source_at before.source).faults (source_at after.source).faults causes.source in
+      let sink = sink_causes end (sink_at before.sink).faults (sink_at after.sink).faults causes.sink in
+      let disks = disk_causes end (counts_of disk_at before.left before.right)
+      (counts_of disk_at after.left after.right) causes.disks.count in
       record {
         understood = (λ e. absurd (not_usage end e), λ none. absurd (none read is.asks));
         usage = λ e. absurd (not_usage end e);
-        ends = λ other asked. (end, refl, subst (λ (w : Word). Leaves unread source_faults held shown sink_faults seen disk_faults moment left_at before after w end) (is.only other asked) leaves);
-        takes = λ other asked. subst (λ (w : Word). ReadsAtMost (most_taken w) (unread before.source) (unread after.source)) (is.only other asked) few;
+        ends = λ other asked. (
+          end,
+          refl,
+          subst (λ (w : Word). Leaves source_at sink_at disk_at before after w end) (is.only other asked) leaves,
+        );
+        takes = λ other asked. subst (λ (w : Word). ReadsAtMost (most_taken w) (source_at before.source).left
+            (source_at after.source).left) (is.only other asked) few;
         known = status_known end;
-        status_is = λ other asked. subst (λ (w : Word). Contains (statuses_of w) (status_of end)) (is.only other asked) status;
+        status_is = λ other asked. subst (λ (w : Word). Contains (statuses_of w) (status_of end)) (is.only other asked)
+            status;
         source_fault = source.0;
         source_same = source.1;
         sink_fault = sink.0;
@@ -112,9 +126,11 @@ module _
       }
 
   -- the last line of a word over damaged disks
-  pub last_told : (side : Side) (damage : Damage) (halt : Halt) → EndsDamaged seen side damage (Err halt) after.left after.right
-      → Adds [] (last halt) (Rose (sink_faults before.sink) (sink_faults after.sink)) (held before.sink) (held after.sink)
-      → Tells unread source_faults held shown sink_faults seen disk_faults moment left_at before after [] [] (Err halt)
+  pub last_told : (side : Side) (damage : Damage) (halt : Halt)
+      → EndsDamaged disk_at side damage (Err halt) after.left after.right
+      → Adds [] (last halt) (Rose (sink_at before.sink).faults (sink_at after.sink).faults)
+      (sink_at before.sink).held (sink_at after.sink).held
+      → Tells source_at sink_at disk_at before after [] [] (Err halt)
   last_told side damage (BadLine n) ends told = absurd ends
   last_told side damage ReadFault ends told = absurd ends
   last_told side damage WriteFault ends told = absurd ends
@@ -128,49 +144,67 @@ module _
   -- over damaged disks it stopped, and wrote its last line alone
   abbrev TellsDamage : Result (Unit {0}) Halt → List ℕ → List ℕ → Side → Damage → Type 0
   TellsDamage end l r side damage =
-      StopsDamaged seen moment left_at before.left before.right l r side damage end (Rose (sink_faults before.sink) (sink_faults after.sink)) (held before.sink) (held after.sink) after.left after.right
+      StopsDamaged disk_at before.left before.right l r side damage end
+      (Rose (sink_at before.sink).faults (sink_at after.sink).faults)
+      (sink_at before.sink).held (sink_at after.sink).held after.left after.right
 
   -- a word that opens the disks before it reads
   pub opens_first :
-      (end : Result (Unit {0}) Halt) (P : List ℕ → List ℕ → State → Type 0) → OfState seen before.left before.right P
-      → OfDamage seen before.left before.right (λ l r side damage. (after.source ≡ before.source) × TellsDamage end l r side damage)
-      → OpensFirst unread source_faults held shown sink_faults seen disk_faults moment left_at before after end P
+      (end : Result (Unit {0}) Halt) (P : List ℕ → List ℕ → State → Type 0)
+      → OfState disk_at before.left before.right P
+      → OfDamage disk_at before.left before.right (λ l r side damage.
+      (after.source ≡ before.source) × TellsDamage end l r side damage)
+      → OpensFirst source_at sink_at disk_at before after end P
   opens_first end P stood damaged l r told_l told_r =
       by_found (state_on l r) _ _ (λ start is. stood l r told_l told_r start is) (λ side damage is.
       let found = damaged l r told_l told_r side damage is in
       let so = found.1 in
-      let ends = subst (λ (e : Result (Unit {0}) Halt). LeavesDamaged seen moment left_at before.left before.right l r side damage e after.left after.right × Tells unread source_faults held shown sink_faults seen disk_faults moment left_at before after [] [] e)
+      let ends = subst (λ (e : Result (Unit {0}) Halt). LeavesDamaged disk_at before.left before.right l r side damage e
+      after.left after.right × Tells source_at sink_at disk_at before after [] [] e)
       (sym so.1) (so.2, last_told side damage so.0 so.2.ends so.3) in
       (found.0, ends.0, ends.1))
 
   -- a word that reads nothing, and tells of the disks
   pub telling_ends :
-      (words : List (List ℕ)) (read : Word) (end : Result (Unit {0}) Halt) (P : List ℕ → List ℕ → State → Type 0) → IsRead words read
-      → ((after.source ≡ before.source) × OpensFirst unread source_faults held shown sink_faults seen disk_faults moment left_at before after end P
-      → Leaves unread source_faults held shown sink_faults seen disk_faults moment left_at before after read end)
-      → after.source ≡ before.source → OfState seen before.left before.right P → OfDamage seen before.left before.right (TellsDamage end)
-      → Contains (statuses_of read) (status_of end) → end ≢ Err ReadFault → LastCause end (sink_faults before.sink) (sink_faults after.sink)
-      → DisksGoOn seen disk_faults moment left_at before.left before.right end after.left after.right
-      → Ends unread source_faults held shown sink_faults seen disk_faults moment left_at before after (status_of end) words
+      (words : List (List ℕ)) (read : Word) (end : Result (Unit {0}) Halt) (P : List ℕ → List ℕ → State → Type 0)
+      → IsRead words read
+      → ((after.source ≡ before.source) × OpensFirst source_at sink_at disk_at before after end P
+      → Leaves source_at sink_at disk_at before after read end)
+      → after.source ≡ before.source → OfState disk_at before.left before.right P
+      → OfDamage disk_at before.left before.right (TellsDamage end)
+      → Contains (statuses_of read) (status_of end) → end ≢ Err ReadFault
+      → LastCause end (sink_at before.sink).faults (sink_at after.sink).faults
+      → DisksGoOn disk_at before.left before.right end after.left after.right
+      → Ends source_at sink_at disk_at before after (status_of end) words
   telling_ends words read end P is leaves same told damaged status no_source sink disks =
-      word_ends words read end is (leaves (same, opens_first end P told (λ l r told_l told_r side damage at. (same, damaged l r told_l told_r side damage at))))
+      word_ends words read end is
+      (leaves (
+        same,
+        opens_first end P told (λ l r told_l told_r side damage found.
+            (same, damaged l r told_l told_r side damage found)),
+      ))
       status
       (record {
-        source = subst (λ (s : S). ReadCause end (source_faults before.source) (source_faults s)) (sym same) (unread_causes end (source_faults before.source) no_source);
+        source = subst (λ (s : S). ReadCause end (source_at before.source).faults (source_at s).faults) (sym same)
+            (unread_causes end (source_at before.source).faults no_source);
         sink = sink;
         disks = disks;
       })
-      (subst (λ (s : S). ReadsAtMost (most_taken read) (unread before.source) (unread s)) (sym same) (none_taken (most_taken read) (unread before.source)))
+      (subst (λ (s : S). ReadsAtMost (most_taken read) (source_at before.source).left (source_at s).left) (sym same)
+      (none_taken (most_taken read) (source_at before.source).left))
 
 -- ---- words that were not read
 
 -- ---- nothing was answered, and nobody touched the disks
 
-module _ {D : Type 0} (moment : D → ℕ) (left_at : D → ℕ → List ℕ → Type 0) (left right : D) (l r : List ℕ) (start : State) where
-  left_then : (disk : D) (held image : List ℕ) → Only held (LeftNow moment left_at disk) → LeftBetween left_at disk (moment disk) (moment disk) image → image ≡ held
-  left_then disk held image only at = only image (subst (λ (k : ℕ). left_at disk k image) (omega (arith, at.1, at.2)) at.3)
+module _ {D : Type 0} (disk_at : D → DiskAt) (left right : D) (l r : List ℕ) (start : State) where
+  left_then : (disk : D) (held image : List ℕ) → Only held (LeftNow disk_at disk)
+      → LeftBetween disk_at disk (disk_at disk).moment (disk_at disk).moment image → image ≡ held
+  left_then disk held image only so =
+      only image (subst (λ (k : ℕ). (disk_at disk).left_at k image) (omega (arith, so.1, so.2)) so.3)
 
-  stands_still : (was now : List ℕ) (earlier all : List Showing) → all ≡ earlier → KeepsAnswered moment left_at l r start [] NoFault left right was earlier left right now all
+  stands_still : (was now : List ℕ) (earlier all : List Showing) → all ≡ earlier
+      → KeepsAnswered disk_at l r start [] NoFault left right was earlier left right now all
   stands_still was now earlier all same = record {
     since = [];
     are = same ∙ sym (append-nil earlier);
@@ -181,27 +215,30 @@ module _ {D : Type 0} (moment : D → ℕ) (left_at : D → ℕ → List ℕ →
       leaves = λ a b at_a at_b.
           let left_is = left_then left l a only_l at_a in
           let right_is = left_then right r b only_r at_b in
-          inl (subst (λ (y : List ℕ). IsKept a y start) (sym right_is) (subst (λ (x : List ℕ). IsKept x r start) (sym left_is) kept));
+          inl (subst (λ (y : List ℕ). IsKept a y start) (sym right_is)
+          (subst (λ (x : List ℕ). IsKept x r start) (sym left_is) kept));
     };
     each = tt;
     rested = λ first later is. absurd cc;
   }
 
 module _
-    {S K D : Type 0} (unread : S → Option (List ℕ)) (source_faults : S → ℕ) (held : K → Option (List ℕ)) (shown : K → Option (List Showing)) (sink_faults : K → ℕ) (seen : D → Option (List ℕ))
-    (disk_faults : D → ℕ) (moment : D → ℕ) (left_at : D → ℕ → List ℕ → Type 0)
-    (stays : (disk : D) (bytes : List ℕ) → seen disk ≡ Some bytes → LeftNow moment left_at disk bytes) (before : Outside S K D) (now : K) where
+    {S K D : Type 0} (source_at : S → SourceAt) (sink_at : K → SinkAt) (disk_at : D → DiskAt)
+    (stays : (disk : D) (bytes : List ℕ) → (disk_at disk).seen ≡ Some bytes → LeftNow disk_at disk bytes)
+    (before : Outside S K D) (now : K) where
   -- nothing but the sink changes
   abbrev after : Outside S K D
   after = record before { sink = now }
 
   abbrev EndsWriting : ℕ → List (List ℕ) → Type 0
-  EndsWriting status words = Ends unread source_faults held shown sink_faults seen disk_faults moment left_at before after status words
+  EndsWriting status words = Ends source_at sink_at disk_at before after status words
 
   abbrev Writes : List ℕ → Type 0
-  Writes line = Adds [] line (Rose (sink_faults before.sink) (sink_faults now)) (held before.sink) (held now)
+  Writes line =
+      Adds [] line (Rose (sink_at before.sink).faults (sink_at now).faults) (sink_at before.sink).held
+      (sink_at now).held
 
-  serves_nothing : Writes (last NoMemory) → ServesTo unread source_faults held shown sink_faults seen disk_faults moment left_at before after (Err NoMemory)
+  serves_nothing : Writes (last NoMemory) → ServesTo source_at sink_at disk_at before after (Err NoMemory)
   serves_nothing written =
       record {
         asked = [];
@@ -216,12 +253,17 @@ module _
         written = written;
         safe = λ at. absurd (neither 7 (λ e. omega (arith, e)) (λ e. omega (arith, e)) at);
         rests = λ at. absurd (neither 7 (λ e. omega (arith, e)) (λ e. omega (arith, e)) at);
-        lawful = λ l r told_l told_r. if_found (state_on l r) _ (λ start is. (record { replies = refl; indices = λ session. refl }, all_shares start [] (state_formed l r start is)));
-        past = λ l r told_l told_r. if_found (state_on l r) _ (λ start is. untouched_past seen moment left_at stays before.left before.right l r start _ refl told_l told_r);
+        lawful = λ l r told_l told_r. if_found (state_on l r) _ (λ start is. (
+          record { replies = refl; indices = λ session. refl },
+          all_shares start [] (state_formed l r start is),
+        ));
+        past = λ l r told_l told_r. if_found (state_on l r) _
+            (λ start is. untouched_past disk_at stays before.left before.right l r start _ refl told_l told_r);
       }
 
-  lines_nothing : {X : Type 0} (Says : List ℕ → X → Type 0) (text : ℕ → List Command → List X → List ℕ) → Writes (last NoMemory)
-      → AnswersLines unread held sink_faults seen moment left_at before after Says text (Err NoMemory)
+  lines_nothing : {X : Type 0} (Says : List ℕ → X → Type 0) (text : ℕ → List Command → List X → List ℕ)
+      → Writes (last NoMemory)
+      → AnswersLines source_at sink_at disk_at before after Says text (Err NoMemory)
   lines_nothing Says text written =
       record {
         asked = [];
@@ -234,26 +276,32 @@ module _
   -- the disks stay for the state for which they stood, whatever a stop leaves of them
   abbrev Stays : List ℕ → List ℕ → State → Type 0
   Stays l r start =
-      DisksStay seen (Err NoMemory) l r start before.left before.right
-      × LeavesOfRun seen moment left_at before.left before.right (IsFaultOfTelling (Err NoMemory)) l r start [] before.left before.right
+      DisksStay disk_at (Err NoMemory) l r start before.left before.right
+      × LeavesOfRun disk_at before.left before.right (IsFaultOfTelling (Err NoMemory)) l r start []
+      before.left before.right
 
   -- a word that opens the disks before it reads
   opens_nothing :
       (P : List ℕ → List ℕ → State → Type 0) → Writes (last NoMemory)
       → ((l r : List ℕ) (start : State) → state_on l r ≡ Ok start → Stays l r start → P l r start)
-      → (after.source ≡ before.source) × OpensFirst unread source_faults held shown sink_faults seen disk_faults moment left_at before after (Err NoMemory) P
+      → (after.source ≡ before.source) × OpensFirst source_at sink_at disk_at before after (Err NoMemory) P
   opens_nothing P written stood = (
     refl,
     λ l r told_l told_r. by_found (state_on l r) _ _
         (λ start is. stood l r start is (
-          untouched seen before.left before.right l r start told_l told_r is,
-          untouched_past seen moment left_at stays before.left before.right l r start _ refl told_l told_r,
+          untouched disk_at before.left before.right l r start told_l told_r is,
+          untouched_past disk_at stays before.left before.right l r start _ refl told_l told_r,
         ))
-        (λ side damage is. (refl, untouched_damaged seen moment left_at before.left before.right l r side damage told_l told_r is, written)),
+        (λ side damage is. (
+          refl,
+          untouched_damaged disk_at before.left before.right l r side damage told_l told_r is,
+          written,
+        )),
   )
 
   -- whatever the words ask for
-  nothing_done : Writes (last NoMemory) → shown now ≡ shown before.sink → (read : Word) → Leaves unread source_faults held shown sink_faults seen disk_faults moment left_at before after read (Err NoMemory)
+  nothing_done : Writes (last NoMemory) → (sink_at now).shown ≡ (sink_at before.sink).shown → (read : Word)
+      → Leaves source_at sink_at disk_at before after read (Err NoMemory)
   nothing_done written unshown word.Run =
       (opens_nothing _ written
       (λ l r start is stay bytes told. record {
@@ -264,35 +312,43 @@ module _
         memory = λ is. inl (refl, told);
         written = written;
         cut = λ is. absurd cc;
-        disks = standing_still seen before.left before.right bytes l r (unread before.source) start told is stay.0;
+        disks = standing_still disk_at before.left before.right bytes l r (source_at before.source).left start told is
+            stay.0;
         fault = NoFault;
         fault_is = refl;
         past = stay.1;
         answered = λ was earlier held_now all told_was told_earlier told_now told_all.
             let same : all ≡ earlier = cc (told_all, told_earlier, unshown) in
-            stands_still moment left_at before.left before.right l r start was held_now earlier all same;
+            stands_still disk_at before.left before.right l r start was held_now earlier all same;
         shares = all_shares start [] (state_formed l r start is);
       })).1
   nothing_done written unshown word.Serve = serves_nothing written
   nothing_done written unshown word.Staking = lines_nothing stakes.Spells staked_text written
   nothing_done written unshown word.Rewards = lines_nothing tags.Spells rewarded_text written
-  nothing_done written unshown word.State = opens_nothing _ written (λ l r start is stay. ((3, lit< tt, refl), written, stay.0, stay.1))
-  nothing_done written unshown word.Report = opens_nothing _ written (λ l r start is stay. ((3, lit< tt, refl), written, stay.0, stay.1))
-  nothing_done written unshown word.Audit = opens_nothing _ written (λ l r start is stay. (([], (1, lit< tt, refl), written), stay.0, stay.1))
-  nothing_done written unshown word.Follow = (refl, ([], reads_nothing (unread before.source), ([], (omega arith, inl none_goes_on), written)))
+  nothing_done written unshown word.State = opens_nothing _ written
+      (λ l r start is stay. ((3, lit< tt, refl), written, stay.0, stay.1))
+  nothing_done written unshown word.Report = opens_nothing _ written
+      (λ l r start is stay. ((3, lit< tt, refl), written, stay.0, stay.1))
+  nothing_done written unshown word.Audit = opens_nothing _ written
+      (λ l r start is stay. (([], (1, lit< tt, refl), written), stay.0, stay.1))
+  nothing_done written unshown word.Follow =
+      (refl, ([], reads_nothing (source_at before.source).left, ([], (omega arith, inl none_goes_on), written)))
   nothing_done written unshown (word.Gen seed count) = (refl, (2, lit< tt, refl), written)
 
   -- the status is that of neither a fault nor an end
   writes_alone :
-      (status : ℕ) (words : List (List ℕ)) → Contains (0 ∷ 1 ∷ 2 ∷ 3 ∷ 4 ∷ 5 ∷ 6 ∷ 7 ∷ 8 ∷ 9 ∷ []) status → status ≢ 0 → status ≢ 3 → status ≢ 4 → status ≢ 5
+      (status : ℕ) (words : List (List ℕ)) → Contains (0 ∷ 1 ∷ 2 ∷ 3 ∷ 4 ∷ 5 ∷ 6 ∷ 7 ∷ 8 ∷ 9 ∷ []) status → status ≢ 0
+      → status ≢ 3 → status ≢ 4 → status ≢ 5
       → ((status ≡ 1) ↔ ((word : Word) → Ask words word → ⊥)) → (status ≡ 1 → Writes usage)
-      → ((word : Word) → Ask words word → (status ≡ 7) × Writes (last NoMemory) × (shown now ≡ shown before.sink)) → EndsWriting status words
+      → ((word : Word) → Ask words word
+      → (status ≡ 7) × Writes (last NoMemory) × ((sink_at now).shown ≡ (sink_at before.sink).shown))
+      → EndsWriting status words
   writes_alone status words known no_end no_source no_sink no_disk understood misused wordless =
       record {
         understood = understood;
         usage = λ one. (refl, misused one);
         ends = λ word asked. let none = wordless word asked in (Err NoMemory, none.0, nothing_done none.1 none.2 word);
-        takes = λ one asked. none_taken (most_taken one) (unread before.source);
+        takes = λ one asked. none_taken (most_taken one) (source_at before.source).left;
         known = known;
         status_is = λ one asked. subst (Contains (statuses_of one)) (sym (wordless one asked).0) (no_memory_known one);
         source_fault = λ is. absurd (no_source is);
@@ -303,24 +359,27 @@ module _
         disk_same = λ other. refl;
         left_telling = (λ told. told, λ told. told);
         right_telling = (λ told. told, λ told. told);
-        left_time = unmoved moment left_at before.left;
-        right_time = unmoved moment left_at before.right;
+        left_time = unmoved disk_at before.left;
+        right_time = unmoved disk_at before.right;
       }
 
   pub unread_ends :
       (words : List (List ℕ)) (why : WordsFault) (status : ℕ)
       → (why ≡ fault.NoMemory → (status ≡ 7) × Writes (last NoMemory))
-      → (why ≡ fault.NoMemory → shown now ≡ shown before.sink)
+      → (why ≡ fault.NoMemory → (sink_at now).shown ≡ (sink_at before.sink).shown)
       → (why ≡ fault.Usage → (status ≡ 1) × Writes usage)
       → (let r : Result Word WordsFault = Err why in (r ≡ Err fault.Usage) ↔ ((word : Word) → Ask words word → ⊥))
       → EndsWriting status words
   unread_ends words fault.Usage status memory unshown usage only =
       let ended = usage refl in
       subst (λ (n : ℕ). EndsWriting n words) (sym ended.0)
-      (writes_alone 1 words (1, lit< tt, refl) (λ is. omega (arith, is)) (λ is. omega (arith, is)) (λ is. omega (arith, is)) (λ is. omega (arith, is))
+      (writes_alone 1 words (1, lit< tt, refl) (λ is. omega (arith, is)) (λ is. omega (arith, is))
+      (λ is. omega (arith, is)) (λ is. omega (arith, is))
       ((λ is. only.0 refl), (λ none. refl)) (λ is. ended.1) (λ word asked. absurd (only.0 refl word asked)))
   unread_ends words fault.NoMemory status memory unshown usage only =
       let ended = memory refl in
       subst (λ (n : ℕ). EndsWriting n words) (sym ended.0)
-      (writes_alone 7 words (7, lit< tt, refl) (λ is. omega (arith, is)) (λ is. omega (arith, is)) (λ is. omega (arith, is)) (λ is. omega (arith, is))
-      ((λ is. absurd (omega (arith, is))), (λ none. absurd (cc (only.1 none)))) (λ is. absurd (omega (arith, is))) (λ word asked. (refl, ended.1, unshown refl)))
+      (writes_alone 7 words (7, lit< tt, refl) (λ is. omega (arith, is)) (λ is. omega (arith, is))
+      (λ is. omega (arith, is)) (λ is. omega (arith, is))
+      ((λ is. absurd (omega (arith, is))), (λ none. absurd (cc (only.1 none)))) (λ is. absurd (omega (arith, is)))
+      (λ word asked. (refl, ended.1, unshown refl)))

@@ -1,7 +1,7 @@
 -- What the top call leaves, word by word, and which counts rise.
 use Rattle.std.specs.Prelude.{ℕ, ◌≡◌, ◌≢◌, ◌+◌, ◌≤◌, ◌<◌, ◌==◌, ◌⊎◌, ◌↔◌, List, [], ◌∷◌, ◌++◌, length, map, filter}
 use Rattle.std.specs.Prelude.{All, Contains, Option, Some, IsSome, Result, Ok, Err, IfOk, IsOkAnd, MatchResult}
-use Rattle.liq_outside.specs.declared.showing.Showing.{Showing}
+use Rattle.liq_outside.specs.At.{DiskAt, SinkAt, SourceAt}
 use Rattle.liq_outside.specs.Disk.{GoesOn}
 use Rattle.liq_outside.specs.Faults.{Rose}
 use Rattle.liq_outside.specs.Showings.{Notes}
@@ -72,109 +72,112 @@ statuses_of word.Audit = 0 ∷ 4 ∷ 5 ∷ 6 ∷ 7 ∷ 8 ∷ 9 ∷ []
 statuses_of word.Follow = 0 ∷ 3 ∷ 4 ∷ 6 ∷ 7 ∷ 8 ∷ 9 ∷ []
 statuses_of (word.Gen seed count) = 0 ∷ 4 ∷ 7 ∷ []
 
--- The most bytes that a word takes of the source: those that are followed, and one more; or the lines that one run
--- answers, each with its line end, and what one read asks for.
+-- The most bytes that a word takes of the source: those that are followed, and one more; or the
+-- lines that one run answers, each with its line end, and what one read asks for.
 abbrev pub most_taken : Word → ℕ
 most_taken word.Follow = FED_MOST + 1
 most_taken _ = taken_most LINES_MOST
 
--- The first seven functions say what the source has left, what the sink holds and was shown, what a disk holds, and
--- their counts of faults; the last two at which moment a disk is, and what a crash at a moment may have left of it.
-module _
-    {S K D : Type 0} (unread : S → Option (List ℕ)) (source_faults : S → ℕ) (held : K → Option (List ℕ))
-    (shown : K → Option (List Showing)) (sink_faults : K → ℕ) (seen : D → Option (List ℕ))
-    (disk_faults moment : D → ℕ) (left_at : D → ℕ → List ℕ → Type 0) (before after : Outside S K D) where
+-- The functions say what is told of a source, of a sink and of a disk.
+module _ {S K D : Type 0} (source_at : S → SourceAt) (sink_at : K → SinkAt) (disk_at : D → DiskAt)
+    (before after : Outside S K D) where
   -- the sink met a fault
   abbrev pub SinkFails : Type 0
-  SinkFails = Rose (sink_faults before.sink) (sink_faults after.sink)
+  SinkFails = Rose (sink_at before.sink).faults (sink_at after.sink).faults
 
   abbrev pub disk_counts : Outside S K D → Faults
-  disk_counts outside = counts_of disk_faults outside.left outside.right
+  disk_counts outside = counts_of disk_at outside.left outside.right
 
-  -- The text was written, as far as the end says. Where the word stopped, this was said of it, and then the last line.
+  -- The text was written, as far as the end says. Where the word stopped, this was said of it, and
+  -- then the last line.
   abbrev pub Tells : List ℕ → List ℕ → Result (Unit {0}) Halt → Type 0
-  Tells said text end = TellsBehind said text end SinkFails (held before.sink) (held after.sink)
+  Tells said text end = TellsBehind said text end SinkFails (sink_at before.sink).held (sink_at after.sink).held
 
   -- What both disks leave of a run of these requests, with a fault where P says.
   abbrev pub Leave : (Fault → Type 0) → List ℕ → List ℕ → State → List Request → Type 0
-  Leave P l r start requests =
-      LeavesOfRun seen moment left_at before.left before.right P l r start requests after.left after.right
+  Leave P l r start requests = LeavesOfRun disk_at before.left before.right P l r start requests after.left after.right
 
   -- what this word leaves of both, of which one is damaged, where it came to this end
   abbrev pub LeaveDamaged : List ℕ → List ℕ → Side → Damage → Result (Unit {0}) Halt → Type 0
   LeaveDamaged l r side damage end =
-      LeavesDamaged seen moment left_at before.left before.right l r side damage end after.left after.right
+      LeavesDamaged disk_at before.left before.right l r side damage end after.left after.right
 
-  -- A word that opens the disks before it reads. Of what both tell and of the state for which they stand it leaves P.
-  -- Over disks of which one has a first damage nothing is read, and a last line alone is written.
+  -- A word that opens the disks before it reads. Of what both tell and of the state for which they
+  -- stand it leaves P. Over disks of which one has a first damage nothing is read, and a last line
+  -- alone is written.
   abbrev pub OpensFirst : Result (Unit {0}) Halt → (List ℕ → List ℕ → State → Type 0) → Type 0
-  OpensFirst end P = OfBoth seen before.left before.right (λ l r. MatchResult (state_on l r) (P l r) (λ first.
+  OpensFirst end P = OfBoth disk_at before.left before.right (λ l r. MatchResult (state_on l r) (P l r) (λ first.
       (after.source ≡ before.source) × LeaveDamaged l r first.0 first.1 end × Tells [] [] end))
 
   -- ---- `run`
 
-  -- The lines of these bytes were answered from this state on, with l and r on the disks, as far as the end says.
+  -- The lines of these bytes were answered from this state on, with l and r on the disks, as far as
+  -- the end says.
   pub record RunsTo (end : Result (Unit {0}) Halt) (l r : List ℕ) (start : State) (bytes : List ℕ) : Type 0 where
     pub requests : List Request
     -- they are no more than one run answers
     pub few : length requests ≤ LINES_MOST
     -- it goes on in whatever generation
     pub statuses : Contains (0 ∷ 2 ∷ 3 ∷ 4 ∷ 5 ∷ 7 ∷ 8 ∷ []) (status_of end)
-    pub read : ReadsTo Spells bytes (unread after.source) requests end
-    -- memory is asked for before a line is read, and then only for a command that is allowed or plans a list
-    pub memory : end ≡ Err NoMemory → IsUnread bytes (unread after.source) requests
+    pub read : ReadsTo Spells bytes (source_at after.source).left requests end
+    -- memory is asked for before a line is read, and then only for a command that is allowed or
+    -- plans a list
+    pub memory : end ≡ Err NoMemory → IsUnread bytes (source_at after.source).left requests
         ⊎ ((request : Request) × IsNext bytes requests request × TakesMemory (run start requests).0 request)
     -- all replies, and the last line where it stopped
     pub written : Tells (lines start requests) (lines start requests) end
     -- where the sink met a fault at a reply, that is the last one
     pub cut : end ≡ Err WriteFault → (earlier : List Request) × (final : Request) × (requests ≡ earlier ++ final ∷ [])
-        × ((part : List ℕ) × Writes (held before.sink) (lines start earlier ++ part) (held after.sink))
-    pub disks : DisksHold seen end bytes (unread after.source) l r start after.left after.right requests
+        × ((part : List ℕ) × Writes (sink_at before.sink).held (lines start earlier ++ part) (sink_at after.sink).held)
+    pub disks : DisksHold disk_at end bytes (source_at after.source).left l r start after.left after.right requests
     -- where a disk met a fault
     pub fault : Fault
-    pub fault_is : IsFaultOfRun start end bytes (unread after.source) requests fault
+    pub fault_is : IsFaultOfRun start end bytes (source_at after.source).left requests fault
     -- all that a crash at some moment may have left of the disks
     pub past : Leave (λ met. met ≡ fault) l r start requests
     -- and at every moment they have all that was answered by then
-    pub answered : Told (held before.sink) (shown before.sink) (held after.sink) (shown after.sink) (λ was earlier now all.
-        KeepsAnswered moment left_at l r start requests fault before.left before.right was earlier
+    pub answered : Told (sink_at before.sink).held (sink_at before.sink).shown
+        (sink_at after.sink).held (sink_at after.sink).shown (λ was earlier now all.
+        KeepsAnswered disk_at l r start requests fault before.left before.right was earlier
         after.left after.right now all)
     -- no depositor has more than its share then, or less by more than is allowed
     pub shares : HaveTheirShares start requests
 
   -- ---- `serve`
 
-  -- the disks stood for a state, and this holds of what they hold then and of the state after the history
+  -- the disks stood for a state, and this holds of what they hold then and of the state after the
+  -- history
   abbrev pub Keep : List Entry → (List ℕ → List ℕ → State → Type 0) → Type 0
-  Keep history P = OfBoth seen before.left before.right (λ l r. IsOkAnd (state_on l r) (λ start.
-      OfBoth seen after.left after.right (λ a b. P a b (state_after start history))))
+  Keep history P = OfBoth disk_at before.left before.right (λ l r. IsOkAnd (state_on l r) (λ start.
+      OfBoth disk_at after.left after.right (λ a b. P a b (state_after start history))))
 
-  -- No store was opened: for a disk's fault, the disks' damage or want of memory. The input is no journal.
+  -- No store was opened: for a disk's fault, the disks' damage or want of memory. The input is no
+  -- journal.
   abbrev pub OpensNone : List Entry → Fault → Result (Unit {0}) Halt → Type 0
   OpensNone history fault end = (history ≡ []) × IsFaultOfTelling end fault × Contains (5 ∷ 6 ∷ 7 ∷ []) (status_of end)
-      × OfBoth seen before.left before.right (λ l r. MatchResult (state_on l r)
-      (λ start. (status_of end ≢ 6) × DisksStay seen end l r start after.left after.right)
+      × OfBoth disk_at before.left before.right (λ l r. MatchResult (state_on l r)
+      (λ start. (status_of end ≢ 6) × DisksStay disk_at end l r start after.left after.right)
       -- a side and its first damage
-      (λ first. LeaveDamaged l r first.0 first.1 end))
-      × ((number : ℕ) → end ≢ Err (DamagedInput number))
+      (λ first. LeaveDamaged l r first.0 first.1 end)) × ((number : ℕ) → end ≢ Err (DamagedInput number))
 
   -- What was answered once a store was open, whose disks are not damaged, and what they hold then.
   abbrev pub Answers : List (ℕ × Request) → List Entry → Fault → Result (Unit {0}) Halt → Type 0
-  -- A call met the fault. Its command is the next request of its session, and is accepted after the history: they are
-  -- kept for the state then, or for the one after this command.
+  -- A call met the fault. Its command is the next request of its session, and is accepted after the
+  -- history: they are kept for the state then, or for the one after this command.
   Answers asked history fault (Err DiskFault) =
       (session : ℕ) × (c : Command) × (fault ≡ AtCommand c) × (1 ≤ session) × (session ≤ SESSIONS)
       × ((later : List Request) × AreLeft asked history session (Do c ∷ later))
       × Keep history (λ a b s. (ruling s c ≡ Allowed) × IsKeptAround s (Do c) a b)
   -- nothing; or not all of some session, and the book had room for it
-  Answers asked history fault (Err NoMemory) = (fault ≡ NoFault) × Keep history IsKept × ((history ≡ [])
-      ⊎ ((length history < LINES_MOST)
+  Answers asked history fault (Err NoMemory) = (fault ≡ NoFault) × Keep history IsKept
+      × ((history ≡ []) ⊎ ((length history < LINES_MOST)
       × ((session : ℕ) × Contains sessions session × (AreLeft asked history session [] → ⊥))))
   -- all, session by session, and they are kept for the state after the history
   Answers asked history fault end = (fault ≡ NoFault) × Keep history IsKept × Contains (0 ∷ 4 ∷ []) (status_of end)
       × All (λ session. AreLeft asked history session []) sessions
 
-  -- Along one history a part of what the lines asked was answered, and it was written, as far as the end says.
+  -- Along one history a part of what the lines asked was answered, and it was written, as far as
+  -- the end says.
   pub record ServesTo (end : Result (Unit {0}) Halt) : Type 0 where
     pub asked : List (ℕ × Request)
     pub history : List Entry
@@ -184,71 +187,68 @@ module _
     pub sessions : All (λ (e : Entry). (1 ≤ e.session) × (e.session ≤ SESSIONS)) history
     -- how reading ended
     pub reading : Result (Unit {0}) Halt
-    pub read :
-        (bytes : List ℕ) → unread before.source ≡ Some bytes → ReadsTo Asks bytes (unread after.source) asked reading
+    pub read : (bytes : List ℕ) → (source_at before.source).left ≡ Some bytes
+        → ReadsTo Asks bytes (source_at after.source).left asked reading
     -- where a disk met a fault: in the opening, or at the call that `came` tells
     pub fault : Fault
     -- It stopped, nothing was opened, and the disks are as they were. Or all lines ask this.
-    pub came :
-        ((reading ≡ end) × (history ≡ []) × (fault ≡ NoFault)
-        × (after.left ≡ before.left) × (after.right ≡ before.right)
-        × ((n : ℕ) × Contains (Err (BadLine n) ∷ Err ReadFault ∷ Err NoMemory ∷ Err (Limit LINES_MOST) ∷ []) end))
+    pub came : ((reading ≡ end) × (history ≡ []) × (fault ≡ NoFault)
+        × (after.left ≡ before.left) × (after.right ≡ before.right) × ((n : ℕ) × Contains
+        (Err (BadLine n) ∷ Err ReadFault ∷ Err NoMemory ∷ Err (Limit LINES_MOST) ∷ []) end))
         ⊎ ((reading ≡ Ok tt) × (OpensNone history fault end ⊎ Answers asked history fault end))
     pub written : Tells [] (served history) end
-    -- where all was answered the sink was shown the disks once, as they are left, before a byte went out
-    pub safe : Contains (0 ∷ 4 ∷ []) (status_of end)
-        → Notes moment (held before.sink) after.left after.right (shown before.sink) (shown after.sink)
+    -- where all was answered the sink was shown the disks once, as they are left, before a byte
+    -- went out
+    pub safe : Contains (0 ∷ 4 ∷ []) (status_of end) → Notes disk_at (sink_at before.sink).held after.left after.right
+        (sink_at before.sink).shown (sink_at after.sink).shown
     -- and nothing is pending on either then
-    pub rests : Contains (0 ∷ 4 ∷ []) (status_of end)
-        → IsAtRest seen moment left_at after.left × IsAtRest seen moment left_at after.right
-    -- its replies are those of the rules from where the disks stood, and after it no depositor has more than its share,
-    -- or less by more than is allowed
-    pub lawful : OfBoth seen before.left before.right (λ l r. IfOk (state_on l r) (λ start.
+    pub rests : Contains (0 ∷ 4 ∷ []) (status_of end) → IsAtRest disk_at after.left × IsAtRest disk_at after.right
+    -- its replies are those of the rules from where the disks stood, and after it no depositor has
+    -- more than its share, or less by more than is allowed
+    pub lawful : OfBoth disk_at before.left before.right (λ l r. IfOk (state_on l r) (λ start.
         IsLegal start history × HaveTheirShares start (requests_of history)))
     -- all that a crash at some moment may have left of the disks is of one run of these requests
-    pub past : OfBoth seen before.left before.right (λ l r. IfOk (state_on l r) (λ start.
+    pub past : OfBoth disk_at before.left before.right (λ l r. IfOk (state_on l r) (λ start.
         Leave (λ met. met ≡ fault) l r start (requests_of history)))
 
   -- ---- each word
 
   -- what a word leaves that came to this end
   abbrev pub Leaves : Word → Result (Unit {0}) Halt → Type 0
-  -- where the source tells its bytes, what the end says of what came in, what went out, and what the disks hold
-  Leaves word.Run end =
-      OpensFirst end (λ l r start. (bytes : List ℕ) → unread before.source ≡ Some bytes → RunsTo end l r start bytes)
+  -- where the source tells its bytes, what the end says of what came in, what went out, and what
+  -- the disks hold
+  Leaves word.Run end = OpensFirst end (λ l r start.
+      (bytes : List ℕ) → (source_at before.source).left ≡ Some bytes → RunsTo end l r start bytes)
   -- each session's lines are answered in order, all sessions' at once, along one history
   Leaves word.Serve end = ServesTo end
   -- stakers are answered beside the commands that lead to the state, and the disks stay so
-  Leaves word.Staking end =
-      AnswersLines unread held sink_faults seen moment left_at before after stakes.Spells staked_text end
+  Leaves word.Staking end = AnswersLines source_at sink_at disk_at before after stakes.Spells staked_text end
   -- so are those who name front ends
-  Leaves word.Rewards end =
-      AnswersLines unread held sink_faults seen moment left_at before after tags.Spells rewarded_text end
+  Leaves word.Rewards end = AnswersLines source_at sink_at disk_at before after tags.Spells rewarded_text end
   -- nothing is read; it is told what stands, and the disks stay so
-  Leaves word.State end =
-      (after.source ≡ before.source) × OpensFirst end (λ l r start. Contains (0 ∷ 4 ∷ 5 ∷ 7 ∷ []) (status_of end)
-      × Tells [] (standing start) end × DisksStay seen end l r start after.left after.right
+  Leaves word.State end = (after.source ≡ before.source) × OpensFirst end (λ l r start.
+      Contains (0 ∷ 4 ∷ 5 ∷ 7 ∷ []) (status_of end)
+      × Tells [] (standing start) end × DisksStay disk_at end l r start after.left after.right
       × Leave (IsFaultOfTelling end) l r start [])
   -- nothing is read; each trove and deposit is told as it stands, and the disks stay so
-  Leaves word.Report end =
-      (after.source ≡ before.source) × OpensFirst end (λ l r start. Contains (0 ∷ 4 ∷ 5 ∷ 7 ∷ []) (status_of end)
-      × Tells [] (reported start) end × DisksStay seen end l r start after.left after.right
+  Leaves word.Report end = (after.source ≡ before.source) × OpensFirst end (λ l r start.
+      Contains (0 ∷ 4 ∷ 5 ∷ 7 ∷ []) (status_of end)
+      × Tells [] (reported start) end × DisksStay disk_at end l r start after.left after.right
       × Leave (IsFaultOfTelling end) l r start [])
-  -- Nothing is read, the review is told of the commands that lead to the state, and the disks stay so. At 0 each row of
-  -- the review encloses the exact share of its account, and what the protocol gives it in that state is within the row.
-  -- Where the state is of a generation above the first, the last line tells this generation, and nothing else is told.
-  Leaves word.Audit end =
-      (after.source ≡ before.source) × OpensFirst end (λ l r start.
+  -- Nothing is read, the review is told of the commands that lead to the state, and the disks stay
+  -- so. At 0 each row of the review encloses the exact share of its account, and what the protocol
+  -- gives it in that state is within the row. Where the state is of a generation above the first,
+  -- the last line tells this generation, and nothing else is told.
+  Leaves word.Audit end = (after.source ≡ before.source) × OpensFirst end (λ l r start.
       ((text : List ℕ) × IsAuditOf start (commands_on l r) end text × Tells [] text end)
-      × DisksStay seen end l r start after.left after.right
-      × Leave (IsFaultOfTelling end) l r start [])
-  -- The disks are not asked. The bytes that come in are followed, and at their end the state is told to which they
-  -- lead.
-  Leaves word.Follow end =
-      (after ≡ record before { source = after.source; sink = after.sink })
-      × ((read : List ℕ) × Reads (unread before.source) read (unread after.source)
-      × ((text : List ℕ) × FollowsTo end read (unread after.source) text × Tells [] text end))
-  -- nothing but the sink changes, and the seed's load is told by the rules' steps along its requests from the opening
+      × DisksStay disk_at end l r start after.left after.right × Leave (IsFaultOfTelling end) l r start [])
+  -- The disks are not asked. The bytes that come in are followed, and at their end the state is
+  -- told to which they lead.
+  Leaves word.Follow end = (after ≡ record before { source = after.source; sink = after.sink })
+      × ((read : List ℕ) × Reads (source_at before.source).left read (source_at after.source).left
+      × ((text : List ℕ) × FollowsTo end read (source_at after.source).left text × Tells [] text end))
+  -- nothing but the sink changes, and the seed's load is told by the rules' steps along its
+  -- requests from the opening
   Leaves (word.Gen seed count) end =
       (after ≡ record before { sink = after.sink }) × Contains (0 ∷ 4 ∷ 7 ∷ []) (status_of end)
       × Tells [] (summary (load opening (generated seed count))) end
@@ -257,21 +257,23 @@ module _
   pub record Ends (status : ℕ) (words : List (List ℕ)) : Type 0 where
     pub understood : (status ≡ 1) ↔ ((word : Word) → Ask words word → ⊥)
     pub usage : status ≡ 1 → (after ≡ record before { sink = after.sink })
-        × Adds [] usage SinkFails (held before.sink) (held after.sink)
+        × Adds [] usage SinkFails (sink_at before.sink).held (sink_at after.sink).held
     pub ends : (one : Word) → Ask words one → (end : Result (Unit {0}) Halt) × (status ≡ status_of end) × Leaves one end
-    pub takes : (one : Word) → Ask words one → ReadsAtMost (most_taken one) (unread before.source) (unread after.source)
+    pub takes : (one : Word) → Ask words one
+        → ReadsAtMost (most_taken one) (source_at before.source).left (source_at after.source).left
     pub known : Contains (0 ∷ 1 ∷ 2 ∷ 3 ∷ 4 ∷ 5 ∷ 6 ∷ 7 ∷ 8 ∷ 9 ∷ []) status
     pub status_is : (one : Word) → Ask words one → Contains (statuses_of one) status
     -- a fault has its cause, and none is passed over
-    pub source_fault : status ≡ 3 → Rose (source_faults before.source) (source_faults after.source)
-    pub source_same : status ≢ 3 → source_faults after.source ≡ source_faults before.source
+    pub source_fault : status ≡ 3 → Rose (source_at before.source).faults (source_at after.source).faults
+    pub source_same : status ≢ 3 → (source_at after.source).faults ≡ (source_at before.source).faults
     pub sink_fault : status ≡ 4 → SinkFails
-    pub sink_same : status ≡ 0 → sink_faults after.sink ≡ sink_faults before.sink
+    pub sink_same : status ≡ 0 → (sink_at after.sink).faults ≡ (sink_at before.sink).faults
     pub disk_fault : status ≡ 5 → OneRose (disk_counts before) (disk_counts after)
     pub disk_same : status ≢ 5 → disk_counts after ≡ disk_counts before
     -- a disk that told its bytes tells them afterwards, and one that told none tells none
-    pub left_telling : IsSome (seen after.left) ↔ IsSome (seen before.left)
-    pub right_telling : IsSome (seen after.right) ↔ IsSome (seen before.right)
-    -- Whatever a disk holds, time goes on for it, and what a crash may have left at a past moment stays what it was.
-    pub left_time : GoesOn moment left_at before.left after.left
-    pub right_time : GoesOn moment left_at before.right after.right
+    pub left_telling : IsSome (disk_at after.left).seen ↔ IsSome (disk_at before.left).seen
+    pub right_telling : IsSome (disk_at after.right).seen ↔ IsSome (disk_at before.right).seen
+    -- Whatever a disk holds, time goes on for it, and what a crash may have left at a past moment
+    -- stays what it was.
+    pub left_time : GoesOn disk_at before.left after.left
+    pub right_time : GoesOn disk_at before.right after.right

@@ -1,6 +1,6 @@
 -- Two runs, one after the other. What is said here follows from the top call's clause (`laws`).
 use Rattle.std.specs.Prelude.{ℕ, ◌≡◌, ◌⊎◌, List, [], ◌∷◌, Option, Some, Result, Ok, Err, fold}
-use Rattle.liq_outside.specs.declared.showing.Showing.{Showing}
+use Rattle.liq_outside.specs.At.{DiskAt, SinkAt, SourceAt}
 use Rattle.liq_outside.specs.Disk.{LeftNow, Only}
 use Rattle.liq_types.specs.declared.requests.Command.{Command}
 use Rattle.liq_types.specs.declared.requests.Request.{Request}
@@ -19,45 +19,46 @@ use Rattle.liq_ends.specs.Statuses.{status_of}
 use Rattle.liq_ends.specs.Outside.{Outside}
 use Rattle.liq_serve.specs.Top.{RunsTo}
 
--- What disks hold behind the requests that a run answered: nothing; or, where a disk met a fault, one command more. It
--- is the next line's, which is accepted there, or, where nothing was read, the one that they held unfinished before.
-abbrev pub AreMore : List ℕ → List ℕ → List ℕ → State → List Request → Result (Unit {0}) Halt → List Command → Type 0
+-- What disks hold behind the requests that a run answered: nothing; or, where a disk met a fault,
+-- one command more. It is the next line's, which is accepted there, or, where nothing was read, the
+-- one that they held unfinished before.
+abbrev pub AreMore :
+    List ℕ → List ℕ → List ℕ → State → List Request → Result (Unit {0}) Halt → List Command
+    → Type 0
 AreMore bytes l r start requests end [] = Unit {0}
 AreMore bytes l r start requests end (c ∷ []) = (end ≡ Err DiskFault)
     × ((IsNext bytes requests (Do c) × (ruling (run start requests).0 c ≡ Allowed))
     ⊎ ((requests ≡ []) × HoldsUnfinished l r start c))
 AreMore bytes l r start requests end (c ∷ more) = ⊥
 
--- Two disks of this content are kept for the state after the requests and after these: so the next run begins there,
--- and what was acknowledged is in it.
+-- Two disks of this content are kept for the state after the requests and after these: so the next
+-- run begins there, and what was acknowledged is in it.
 abbrev pub BeginsBehind :
-    List ℕ → List ℕ → List ℕ → State → List Request → Result (Unit {0}) Halt → List ℕ → List ℕ → Type 0
+    List ℕ → List ℕ → List ℕ → State → List Request → Result (Unit {0}) Halt → List ℕ → List ℕ
+    → Type 0
 BeginsBehind bytes l r start requests end a b =
     (more : List Command) × AreMore bytes l r start requests end more
     × IsKept a b (fold rule.after (run start requests).0 more)
 
 -- The functions are those of `Ends`.
 module _
-    {S K D : Type 0} (unread : S → Option (List ℕ)) (source_faults : S → ℕ) (held : K → Option (List ℕ))
-    (shown : K → Option (List Showing)) (sink_faults : K → ℕ) (seen : D → Option (List ℕ))
-    (disk_faults moment : D → ℕ) (left_at : D → ℕ → List ℕ → Type 0) where
-  -- They are what is read of the disks that a call left; or, if nothing was pending before it, what a crash then may
-  -- leave of the one and of the other.
+    {S K D : Type 0} (source_at : S → SourceAt) (sink_at : K → SinkAt) (disk_at : D → DiskAt) where
+  -- They are what is read of the disks that a call left; or, if nothing was pending before it, what
+  -- a crash then may leave of the one and of the other.
   abbrev pub AreBehind : Outside S K D → Outside S K D → List ℕ → List ℕ → List ℕ → List ℕ → Type 0
   AreBehind before after l r a b =
-      ((seen after.left ≡ Some a) × (seen after.right ≡ Some b))
-      ⊎ (Only l (LeftNow moment left_at before.left) × Only r (LeftNow moment left_at before.right)
-      × LeftNow moment left_at after.left a × LeftNow moment left_at after.right b)
+      (((disk_at after.left).seen ≡ Some a) × ((disk_at after.right).seen ≡ Some b))
+      ⊎ (Only l (LeftNow disk_at before.left) × Only r (LeftNow disk_at before.right)
+      × LeftNow disk_at after.left a × LeftNow disk_at after.right b)
 
-  -- Two calls, both of `run`. The second begins where the first one's requests lead, and what it may have left behind
-  -- them; and from there its own lead on.
+  -- Two calls, both of `run`. The second begins where the first one's requests lead, and what it
+  -- may have left behind them; and from there its own lead on.
   pub record FollowOn
       (before middle again after : Outside S K D) (status later : ℕ) (bytes lines l r a b : List ℕ)
       (start : State) : Type 0 where
     pub end : Result (Unit {0}) Halt
     pub status_is : status ≡ status_of end
-    pub first : RunsTo unread source_faults held shown sink_faults seen disk_faults moment left_at before middle end l r start
-        bytes
+    pub first : RunsTo source_at sink_at disk_at before middle end l r start bytes
     pub more : List Command
     pub are : AreMore bytes l r start first.requests end more
     pub state : State
@@ -66,8 +67,7 @@ module _
     pub begins : IsSameState (fold rule.after (run start first.requests).0 more) state
     pub ending : Result (Unit {0}) Halt
     pub later_is : later ≡ status_of ending
-    pub second : RunsTo unread source_faults held shown sink_faults seen disk_faults moment left_at again after ending a b
-        state lines
+    pub second : RunsTo source_at sink_at disk_at again after ending a b state lines
     pub ends :
         IsSameState (run (fold rule.after (run start first.requests).0 more) second.requests).0
         (run state second.requests).0

@@ -34,8 +34,8 @@ pub(crate) trait Asking: Form {
         ensures few { length lines.items ≤ LINES_MOST → AreFew result };
 }
 
-/// Answers the lines of the input, each of this form. It is read to its end before a disk is touched, and the last line
-/// is written where that stops.
+/// Answers the lines of the input, each of this form. It is read to its end before a disk is
+/// touched, and the last line is written where that stops.
 pub(crate) fn answer_on<F: Asking, S: Source, K: Sink, D: Disk>(
     alloc: Global,
     input: &mut S,
@@ -45,14 +45,16 @@ pub(crate) fn answer_on<F: Asking, S: Source, K: Sink, D: Disk>(
 ) -> Ending<D>
 where
     F::Item: Drop,
-    ensures answered { AnswersLines S.left K.held K.faults D.seen D.moment D.left_at
+    ensures answered { AnswersLines S.at K.at D.at
         (record { source = input.old; sink = out.old; left = left; right = right })
         (record { source = input.new; sink = out.new; left = result.left; right = result.right })
         F.says F.text result.end }
-    ensures takes { ReadsAtMost (taken_most LINES_MOST) (S.left input.old) (S.left input.new) }
-    ensures causes { HasCauses S.faults K.faults D.seen D.faults D.moment D.left_at
+    ensures takes { ReadsAtMost (taken_most LINES_MOST)
+        (S.at input.old).left (S.at input.new).left }
+    ensures causes { HasCauses S.at K.at D.at
         (record { source = input.old; sink = out.old; left = left; right = right })
-        (record { source = input.new; sink = out.new; left = result.left; right = result.right }) result.end }
+        (record { source = input.new; sink = out.new; left = result.left; right = result.right })
+        result.end }
 {
     match gather::<F, S>(alloc, input) {
         Ok(lines) => tell_on(alloc, Told::Answers(F::asked(lines)), out, left, right),
@@ -126,13 +128,14 @@ impl Asking for TagForm {
     }
 }
 
-/// Ends a word whose input was not read to its end: its last line is written, and the disks are as they were.
+/// Ends a word whose input was not read to its end: its last line is written, and the disks are as
+/// they were.
 fn stopped<K: Sink, D: Disk>(stop: Stop, out: &mut K, left: D, right: D) -> Ending<D>
     ensures ending { result ≡ record { end = Err (halt_at stop); left = left; right = right } }
-    ensures written { Adds [] (last (halt_at stop)) (Rose (K.faults out.old) (K.faults out.new))
-        (K.held out.old) (K.held out.new) }
-    ensures sink { LastCause result.end (K.faults out.old) (K.faults out.new) }
-    ensures disks { DisksGoOn D.seen D.faults D.moment D.left_at left right result.end result.left result.right }
+    ensures written { Adds [] (last (halt_at stop))
+        (Rose (K.at out.old).faults (K.at out.new).faults) (K.at out.old).held (K.at out.new).held }
+    ensures sink { LastCause result.end (K.at out.old).faults (K.at out.new).faults }
+    ensures disks { DisksGoOn D.at left right result.end result.left result.right }
 {
     let halt = halt_at(stop);
     write_last(out, halt);

@@ -1,4 +1,5 @@
-//! Laws of the top call. The functions here do nothing: they are the place where the facts of their contracts are proved.
+//! Laws of the top call. The functions here do nothing: they are the place where the facts of their
+//! contracts are proved.
 
 ghost use Rattle.std.specs.Prelude.{◌≡◌, List, ℕ, Ok, Some};
 ghost use Rattle.liq_types.specs.State.{State};
@@ -15,32 +16,37 @@ use liq_follower::laws::faults_stay;
 use liq_outside::{Disk, Sink, Source};
 use liq_pairs::laws::{commands_lead_to_the_state, journals_keep_their_limit};
 
-/// Where nothing is wrong with lines, streams and disks a word is done, unless there was no memory; and what is wrong with a
-/// journal that is followed is told. It follows from the clause of the top call.
+/// Where nothing is wrong with lines, streams and disks a word is done, unless there was no memory;
+/// and what is wrong with a journal that is followed is told. It follows from the clause of the top
+/// call.
 pub fn calm_ends_are_done<S: Source, K: Sink, D: Disk>()
     ensures { (before after : Outside S K D) (status : ℕ) (words : List (List ℕ))
-        → Ends S.left S.faults K.held K.shown K.faults D.seen D.faults D.moment D.left_at before after status words
-        → IsComplete S.left S.faults K.held K.faults D.seen D.faults D.moment D.left_at before after status words }
+        → Ends S.at K.at D.at before after status words
+        → IsComplete S.at K.at D.at before after status words }
 {
     commands_lead_to_the_state();
     journals_keep_their_limit();
     faults_stay();
 }
 
-/// Two runs, one after the other, over disks that were kept before the first: whatever its status, the second begins with the state
-/// after the requests that the first answered, or, where a disk met a fault, after one command more, and its own requests lead on from
-/// there. So what either acknowledged is in the state. It may begin with what is read of the first one's disks; or, if nothing was
-/// pending before that, with two disks that hold any images which a crash at its end may leave.
+/// Two runs, one after the other, over disks that were kept before the first: whatever its status,
+/// the second begins with the state after the requests that the first answered, or, where a disk
+/// met a fault, after one command more, and its own requests lead on from there. So what either
+/// acknowledged is in the state. It may begin with what is read of the first one's disks; or, if
+/// nothing was pending before that, with two disks that hold any images which a crash at its end
+/// may leave.
 pub fn runs_follow_on<S: Source, K: Sink, D: Disk>()
-    ensures { (before middle again after : Outside S K D) (status later : ℕ) (words others : List (List ℕ))
-        → Ends S.left S.faults K.held K.shown K.faults D.seen D.faults D.moment D.left_at before middle status words
-        → Ends S.left S.faults K.held K.shown K.faults D.seen D.faults D.moment D.left_at again after later others
+    ensures { (before middle again after : Outside S K D) (status later : ℕ)
+        (words others : List (List ℕ))
+        → Ends S.at K.at D.at before middle status words
+        → Ends S.at K.at D.at again after later others
         → Ask words Word.Run → Ask others Word.Run
         → (bytes lines l r a b : List ℕ) (start : State)
-        → S.left before.source ≡ Some bytes → S.left again.source ≡ Some lines
-        → D.seen before.left ≡ Some l → D.seen before.right ≡ Some r → state_on l r ≡ Ok start → IsKept l r start
-        → D.seen again.left ≡ Some a → D.seen again.right ≡ Some b
-        → AreBehind S.left S.faults K.held K.shown K.faults D.seen D.faults D.moment D.left_at before middle l r a b
-        → FollowOn S.left S.faults K.held K.shown K.faults D.seen D.faults D.moment D.left_at before middle again after status later
+        → (S.at before.source).left ≡ Some bytes → (S.at again.source).left ≡ Some lines
+        → (D.at before.left).seen ≡ Some l → (D.at before.right).seen ≡ Some r
+        → state_on l r ≡ Ok start → IsKept l r start
+        → (D.at again.left).seen ≡ Some a → (D.at again.right).seen ≡ Some b
+        → AreBehind S.at K.at D.at before middle l r a b
+        → FollowOn S.at K.at D.at before middle again after status later
         bytes lines l r a b start }
 {}

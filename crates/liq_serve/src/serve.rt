@@ -28,13 +28,16 @@ pub fn serve_on<S: Source, K: Sink, D: Disk + Send, G: Gate + Sync, R: Threads +
     left: D,
     right: D,
 ) -> Ending<D>
-    ensures served { ServesTo S.left S.faults K.held K.shown K.faults D.seen D.faults D.moment D.left_at
+    ensures served { ServesTo S.at K.at D.at
         (record { source = input.old; sink = out.old; left = left; right = right })
-        (record { source = input.new; sink = out.new; left = result.left; right = result.right }) result.end }
-    ensures takes { ReadsAtMost (taken_most LINES_MOST) (S.left input.old) (S.left input.new) }
-    ensures causes { HasCauses S.faults K.faults D.seen D.faults D.moment D.left_at
+        (record { source = input.new; sink = out.new; left = result.left; right = result.right })
+        result.end }
+    ensures takes { ReadsAtMost (taken_most LINES_MOST)
+        (S.at input.old).left (S.at input.new).left }
+    ensures causes { HasCauses S.at K.at D.at
         (record { source = input.old; sink = out.old; left = left; right = right })
-        (record { source = input.new; sink = out.new; left = result.left; right = result.right }) result.end }
+        (record { source = input.new; sink = out.new; left = result.left; right = result.right })
+        result.end }
     // It goes on in whatever generation.
     ensures goes_on { (generation : ℕ) → result.end ≢ Err (Halt.Rotated generation) }
 {

@@ -37,13 +37,15 @@ pub struct Ended<D> {
     pub right: D,
 }
 
-/// Does what the words ask for, and waits for nobody but the sessions of `serve`. It is [`without_threads`] for all other words.
-/// Of the input no more is taken than 1,000,000 lines of 201 bytes, and what one read asks for; for `follow`, than 2^28 bytes
-/// and one.
+/// Does what the words ask for, and waits for nobody but the sessions of `serve`. It is
+/// [`without_threads`] for all other words. Of the input no more is taken than 1,000,000 lines of
+/// 201 bytes, and what one read asks for; for `follow`, than 2^28 bytes and one.
 ///
-/// For `serve` each line of the input has a session from 1 to 8 in front of its request. The input is read to its end before a disk is touched;
-/// then each session's lines are answered in order, all sessions' at once, and `gate` is told of each call. The replies are written
-/// session by session, and behind them the one history along which they are those of the protocol for one thread.
+/// For `serve` each line of the input has a session from 1 to 8 in front of its request. The input
+/// is read to its end before a disk is touched; then each session's lines are answered in order,
+/// all sessions' at once, and `gate` is told of each call. The replies are written session by
+/// session, and behind them the one history along which they are those of the protocol for one
+/// thread.
 pub fn protocol<S: Source, K: Sink, D: Disk + Send, G: Gate + Sync, R: Threads + Wait + Sync>(
     rt: &R,
     alloc: Global,
@@ -54,7 +56,7 @@ pub fn protocol<S: Source, K: Sink, D: Disk + Send, G: Gate + Sync, R: Threads +
     left: D,
     right: D,
 ) -> Ended<D>
-    ensures { Ends S.left S.faults K.held K.shown K.faults D.seen D.faults D.moment D.left_at
+    ensures { Ends S.at K.at D.at
         (record { source = input.old; sink = out.old; left = left; right = right })
         (record { source = input.new; sink = out.new; left = result.left; right = result.right })
         result.status (map string_bytes words.now) }
@@ -78,26 +80,30 @@ fn is_serve(read: &Result<Word, WordsFault>) -> bool
 ///
 /// - 0: all is done and written;
 /// - 1: the words are not understood; nothing was read;
-/// - 2: a line is no request, or, for `staking`, none on which a staker asks, or, for `rewards`, none that names a front
-///   end;
+/// - 2: a line is no request, or, for `staking`, none on which a staker asks, or, for `rewards`,
+///   none that names a front end;
 /// - 3: the source met a fault;
-/// - 4: the sink met a fault at a reply, or at what a load, `state`, `report`, `audit`, `staking`, `rewards` or `follow`
-///   tells;
+/// - 4: the sink met a fault at a reply, or at what a load, `state`, `report`, `audit`, `staking`,
+///   `rewards` or `follow` tells;
 /// - 5: a disk met a fault;
 /// - 6: a disk is damaged, or the journal that comes in;
 /// - 7: there was no memory;
-/// - 8: there are more than 1,000,000 lines, or more bytes than are followed, or a limit of the audit is passed;
-/// - 9: the journal was rotated, so that there is no audit, lines have no answer, and it can't be followed.
+/// - 8: there are more than 1,000,000 lines, or more bytes than are followed, or a limit of the
+///   audit is passed;
+/// - 9: the journal was rotated, so that there is no audit, lines have no answer, and it can't be
+///   followed.
 ///
-/// For `run` each line of the input is a request, and its reply is written once its call has answered; what is accepted is on
-/// the disks by then. For `gen` a seed's calls are carried out on a protocol of their own, and a line tells where they lead;
-/// nothing is read, and the disks stay. For `state` what stands on the disks is told, for `report` each trove and deposit as it
-/// stands, and for `audit` what each depositor has beside its exact share, if the journal is of the first generation; nothing is
-/// read. For `follow` the input is a journal of the first generation, and what stands at its end is told; the disks stay.
+/// For `run` each line of the input is a request, and its reply is written once its call has
+/// answered; what is accepted is on the disks by then. For `gen` a seed's calls are carried out on
+/// a protocol of their own, and a line tells where they lead; nothing is read, and the disks stay.
+/// For `state` what stands on the disks is told, for `report` each trove and deposit as it stands,
+/// and for `audit` what each depositor has beside its exact share, if the journal is of the first
+/// generation; nothing is read. For `follow` the input is a journal of the first generation, and
+/// what stands at its end is told; the disks stay.
 ///
-/// For `staking` the whole input is read first, each line a staker's; then stakers are answered beside the commands on the
-/// disks, if the journal is of the first generation. For `rewards` each line names a depositor's front end, and all
-/// rewards are told. The disks stay.
+/// For `staking` the whole input is read first, each line a staker's; then stakers are answered
+/// beside the commands on the disks, if the journal is of the first generation. For `rewards` each
+/// line names a depositor's front end, and all rewards are told. The disks stay.
 ///
 /// At a status other than 0 and 4 a last line says so behind what was written.
 pub fn without_threads<S: Source, K: Sink, D: Disk>(
@@ -110,7 +116,7 @@ pub fn without_threads<S: Source, K: Sink, D: Disk>(
 ) -> Ended<D>
     // The words are not just `serve`.
     requires { Ask (map string_bytes words.now) Word.Serve → ⊥ }
-    ensures { Ends S.left S.faults K.held K.shown K.faults D.seen D.faults D.moment D.left_at
+    ensures { Ends S.at K.at D.at
         (record { source = input.old; sink = out.old; left = left; right = right })
         (record { source = input.new; sink = out.new; left = result.left; right = result.right })
         result.status (map string_bytes words.now) }
@@ -134,8 +140,9 @@ fn answered<S: Source, K: Sink, D: Disk>(
     requires word { IfOk read (Ask (map string_bytes _words.now)) }
     requires only { (word : Word) → Ask (map string_bytes _words.now) word
         → (read ≡ Ok word) ⊎ (read ≡ Err WordsFault.NoMemory) }
-    requires usage { (read ≡ Err WordsFault.Usage) ↔ ((word : Word) → Ask (map string_bytes _words.now) word → ⊥) }
-    ensures { Ends S.left S.faults K.held K.shown K.faults D.seen D.faults D.moment D.left_at
+    requires usage { (read ≡ Err WordsFault.Usage)
+        ↔ ((word : Word) → Ask (map string_bytes _words.now) word → ⊥) }
+    ensures { Ends S.at K.at D.at
         (record { source = input.old; sink = out.old; left = left; right = right })
         (record { source = input.new; sink = out.new; left = result.left; right = result.right })
         result.status (map string_bytes _words.now) }
@@ -164,8 +171,9 @@ fn carry_out<S: Source, K: Sink, D: Disk>(
 ) -> Ending<D>
     requires range { IsInRange word }
     requires other { word ≢ Word.Serve }
-    ensures { (words : List (List ℕ)) → Ask words word → ((other : Word) → Ask words other → word ≡ other)
-        → Ends S.left S.faults K.held K.shown K.faults D.seen D.faults D.moment D.left_at
+    ensures { (words : List (List ℕ)) → Ask words word
+        → ((other : Word) → Ask words other → word ≡ other)
+        → Ends S.at K.at D.at
         (record { source = input.old; sink = out.old; left = left; right = right })
         (record { source = input.new; sink = out.new; left = result.left; right = result.right })
         (status_of result.end) words }
@@ -191,7 +199,8 @@ fn carry_out<S: Source, K: Sink, D: Disk>(
 
 /// The status of a word that ended, and the disks as it leaves them.
 fn with_status<D>(ending: Ending<D>) -> Ended<D>
-    ensures { result ≡ record { status = status_of ending.end; left = ending.left; right = ending.right } }
+    ensures { result
+        ≡ record { status = status_of ending.end; left = ending.left; right = ending.right } }
 {
     let Ending { end, left, right } = ending;
     let status = status(&end);
@@ -202,13 +211,16 @@ fn with_status<D>(ending: Ending<D>) -> Ended<D>
     }
 }
 
-/// Ends a run whose words the system did not give. Where there was no memory for them, the status is 7; else one of them is no
-/// text, so that they are not understood, and it is 1. The line of that status is written.
+/// Ends a run whose words the system did not give. Where there was no memory for them, the status
+/// is 7; else one of them is no text, so that they are not understood, and it is 1. The line of
+/// that status is written.
 pub fn without_words<K: Sink>(fault: ErrorKind, out: &mut K) -> u8
     ensures no_memory { fault ≡ ErrorKind.OutOfMemory → (result ≡ 7)
-        × Adds [] (last Halt.NoMemory) (Rose (K.faults out.old) (K.faults out.new)) (K.held out.old) (K.held out.new) }
+        × Adds [] (last Halt.NoMemory) (Rose (K.at out.old).faults (K.at out.new).faults)
+        (K.at out.old).held (K.at out.new).held }
     ensures usage { fault ≢ ErrorKind.OutOfMemory → (result ≡ 1)
-        × Adds [] usage (Rose (K.faults out.old) (K.faults out.new)) (K.held out.old) (K.held out.new) }
+        × Adds [] usage (Rose (K.at out.old).faults (K.at out.new).faults)
+        (K.at out.old).held (K.at out.new).held }
 {
     match fault {
         ErrorKind::OutOfMemory => end_unread(WordsFault::NoMemory, out),
@@ -219,10 +231,12 @@ pub fn without_words<K: Sink>(fault: ErrorKind, out: &mut K) -> u8
 /// Ends a run whose words were not read, and writes the line of its status.
 fn end_unread<K: Sink>(fault: WordsFault, out: &mut K) -> u8
     ensures no_memory { fault ≡ WordsFault.NoMemory → (result ≡ 7)
-        × Adds [] (last Halt.NoMemory) (Rose (K.faults out.old) (K.faults out.new)) (K.held out.old) (K.held out.new) }
-    ensures unshown { fault ≡ WordsFault.NoMemory → K.shown out.new ≡ K.shown out.old }
+        × Adds [] (last Halt.NoMemory) (Rose (K.at out.old).faults (K.at out.new).faults)
+        (K.at out.old).held (K.at out.new).held }
+    ensures unshown { fault ≡ WordsFault.NoMemory → (K.at out.new).shown ≡ (K.at out.old).shown }
     ensures usage { fault ≡ WordsFault.Usage → (result ≡ 1)
-        × Adds [] usage (Rose (K.faults out.old) (K.faults out.new)) (K.held out.old) (K.held out.new) }
+        × Adds [] usage (Rose (K.at out.old).faults (K.at out.new).faults)
+        (K.at out.old).held (K.at out.new).held }
 {
     match fault {
         WordsFault::Usage => {

@@ -5,6 +5,7 @@ use Rattle.std.specs.List.{AllByRecursion, AllZip}
 use Rattle.std.proofs.lemmas.List.{length-map}
 use Rattle.std.proofs.lemmas.Slice.Zip.{AllZip-long}
 use Rattle.std.proofs.lemmas.List.Elements.{Contains-append_left, Contains-append_right}
+use Rattle.liq_outside.specs.At.{DiskAt}
 use Rattle.liq_outside.specs.Disk.{LeftNow}
 use Rattle.liq_types.specs.State.{State}
 use Rattle.liq_rules.specs.History as history
@@ -32,7 +33,7 @@ use Rattle.liq_book.specs.declared.seat.BookSeat.{BookSeat}
 use Rattle.liq_book.specs.declared.items.TheConstants.{ENTRIES_MOST}
 use Rattle.liq_rules.specs.Recorded.{recorded}
 use Rattle.liq_book.specs.Items.{calls_of, chronicle, entries_of, faulted_in, session_of}
-use Rattle.liq_book.specs.Origin.{DiskAt, IsAtOrigin}
+use Rattle.liq_book.specs.Origin.{IsAtOrigin}
 use Rattle.liq_book.specs.Seats.{AreSeated, IsNewSeat, items_seen, session_at}
 use Rattle.liq_book.proofs.Chronicles.{entries_of-chronicle}
 use Rattle.liq_book.proofs.Pasts.{begins_past, past_left}
@@ -197,12 +198,13 @@ lacks scripts numbered total entries within fronts (inr one) =
     let front = all_at (IsServedFrom (map recorded entries)) scripts one.0 (all_to (IsServedFrom (map recorded entries)) scripts fronts) one.1 in
     inr (has_room scripts numbered total entries within fronts one.0 one.1 front one.2, one)
 
-module _ {D : Type 0} (seen : D → Option (List ℕ)) (faults : D → ℕ) (moment : D → ℕ) (left_at : D → ℕ → List ℕ → Type 0) (base : State) (left_origin right_origin : DiskAt) (scripts : List Script) where
+module _ {D : Type 0} (at : D → DiskAt) (base : State) (left_origin right_origin : DiskAt) (scripts : List Script) where
   disks_by : {O : Type 0} {o : Ghosts O} (all : Bool) (seats : List (BookSeat O o)) (served : Served D)
-      → AreNumbered scripts → Leaves seen faults moment left_at base left_origin right_origin (length scripts) all seats served
+      → AreNumbered scripts → Leaves at base left_origin right_origin (length scripts) all seats served
       → All (IsTold (chronicle_of served)) scripts
       → (e : End) → served.end ≡ e
-      → LeavesDisks seen moment left_at scripts (map recorded served.history) (state_after base (map recorded served.history)) e served.left served.right
+      → LeavesDisks at scripts (map recorded served.history)
+      (state_after base (map recorded served.history)) e served.left served.right
   disks_by all seats served numbered l told end.All is = rw is at l.disks
   disks_by all seats served numbered l told end.NoMemory is = rw is at l.disks
   disks_by all seats served numbered l told (end.DiskFault halt) is =
@@ -217,12 +219,12 @@ module _ {D : Type 0} (seen : D → Option (List ℕ)) (faults : D → ℕ) (mom
       ((script.0, script.1, script.2, rw entries at next), kept.0, kept.1)
 
   serves : {O : Type 0} {o : Ghosts O} (all : Bool) (seats : List (BookSeat O o)) (served : Served D)
-      → AreNumbered scripts → Leaves seen faults moment left_at base left_origin right_origin (length scripts) all seats served
+      → AreNumbered scripts → Leaves at base left_origin right_origin (length scripts) all seats served
       → AllByRecursion (IsTold (chronicle_of served)) scripts
       → (IsTrue all → AllByRecursion (IsServedWhole (entries_of (chronicle_of served))) scripts)
       → sum_by (λ (script : Script). length script.requests) scripts ≤ ENTRIES_MOST
       → ((IsTrue all → ⊥) → LacksReply scripts (entries_of (chronicle_of served)))
-      → Serves seen faults moment left_at base left_origin right_origin scripts served
+      → Serves at base left_origin right_origin scripts served
   serves all seats served numbered l told whole total short =
       let items : List Item = chronicle_of served in
       let entries : entries_of items ≡ map recorded served.history = entries_of-chronicle served.history (halt_of served.end) in
@@ -239,23 +241,27 @@ module _ {D : Type 0} (seen : D → Option (List ℕ)) (faults : D → ℕ) (mom
       }
 
   -- where there was no memory for a book
-  pub serves_none : (may_stay : (disk : D) (held : List ℕ) → seen disk ≡ Some held → LeftNow moment left_at disk held) (store : Stored D) (served : Served D) → served.left ≡ store.left → served.right ≡ store.right → served.history ≡ [] → served.end ≡ end.NoMemory
-      → store.stopped ≡ None → IsInOrder seen moment left_at store → IsAtOrigin seen faults moment left_at base left_origin right_origin store
-      → Serves seen faults moment left_at base left_origin right_origin scripts served
-  serves_none may_stay store served left_is right_is history_is end_is going order at = record {
+  pub serves_none :
+      (may_stay : (disk : D) (held : List ℕ) → (at disk).seen ≡ Some held → LeftNow at disk held)
+      (store : Stored D) (served : Served D) → served.left ≡ store.left → served.right ≡ store.right
+      → served.history ≡ [] → served.end ≡ end.NoMemory
+      → store.stopped ≡ None → IsInOrder at store → IsAtOrigin at base left_origin right_origin store
+      → Serves at base left_origin right_origin scripts served
+  serves_none may_stay store served left_is right_is history_is end_is going order origin = record {
     legal = rw history_is (legal-empty base);
     fronts = rw history_is (λ k d within. ((slice_index_or scripts k d).requests, refl));
     whole = λ is. absurd (let e : end.NoMemory ≡ end.All = sym end_is ∙ is in cc);
     memory = λ is. inl (ap (map recorded) history_is);
     sessions = rw history_is (λ k d within. absurd (omega arith));
-    disks = rw (end_is, history_is, left_is, right_is) (settles seen faults moment left_at store base order going at.state);
+    disks = rw (end_is, history_is, left_is, right_is) (settles at store base order going origin.state);
     since = record {
-      cause = rw (end_is, left_is, right_is, at.left.faults, at.right.faults) refl;
-      left_time = rw left_is at.left.time;
-      right_time = rw right_is at.right.time;
+      cause = rw (end_is, left_is, right_is, origin.left.faults, origin.right.faults) refl;
+      left_time = rw left_is origin.left.time;
+      right_time = rw right_is origin.right.time;
       past =
-          rw (end_is, history_is, left_is, right_is) (past_left seen moment left_at left_origin right_origin base [] None store order going
-          (begins_past seen moment left_at left_origin right_origin may_stay faults base store going at order));
+          rw (end_is, history_is, left_is, right_is)
+          (past_left at left_origin right_origin base [] None store order going
+          (begins_past at left_origin right_origin may_stay base store going origin order));
     };
   }
 
@@ -283,7 +289,7 @@ module _ {K H O : Type 0} {o : Ghosts O} (Belongs KnowsEnd : BookSeat O o → Ty
   done_belong works done seats ran seats_are =
       rw seats_are (all_to Belongs (map (λ (d : SessionDone K H (BookSeat O o)). d.seat) done) (all_mapped Belongs (λ (d : SessionDone K H (BookSeat O o)). d.seat) done (done_back works done ran)))
 
-module _ {D : Type 0} (seen : D → Option (List ℕ)) (faults : D → ℕ) (moment : D → ℕ) (left_at : D → ℕ → List ℕ → Type 0) (base : State) (left_origin right_origin : DiskAt) (scripts : List Script) where
+module _ {D : Type 0} (at : D → DiskAt) (base : State) (left_origin right_origin : DiskAt) (scripts : List Script) where
   -- all sessions have ended
   pub serves_done : {T K H O : Type 0} {o : Ghosts O} (lock : Lock T Item) (Belongs KnowsEnd : BookSeat O o → Type 0)
       (works : List (Work K H (BookSeat O o))) (done : List (SessionDone K H (BookSeat O o))) (seats : List (BookSeat O o)) (most : ℕ) (all : Bool) (served : Served D)
@@ -292,14 +298,14 @@ module _ {D : Type 0} (seen : D → Option (List ℕ)) (faults : D → ℕ) (mom
       → (IsTrue all ↔ AllByRecursion (λ (d : SessionDone K H (BookSeat O o)). d.end ≡ session_end.All) done)
       → sum_by (λ (script : Script). length script.requests) scripts ≤ ENTRIES_MOST
       → most ≡ length scripts
-      → Leaves seen faults moment left_at base left_origin right_origin most all seats served
-      → Serves seen faults moment left_at base left_origin right_origin scripts served
+      → Leaves at base left_origin right_origin most all seats served
+      → Serves at base left_origin right_origin scripts served
   serves_done {K = K} {H = H} {O = O} {o = o} lock Belongs KnowsEnd works done seats most all served scripts_are numbered set ran seats_are ends total most_is l =
       let left : List Item = chronicle_of served in
       let back : AllByRecursion (λ (d : SessionDone K H (BookSeat O o)). IsBackIn left d.seat) done =
       all_unmap (IsBackIn left) (λ (d : SessionDone K H (BookSeat O o)). d.seat) done (all_from (IsBackIn left) (map (λ (d : SessionDone K H (BookSeat O o)). d.seat) done) (subst (All (IsBackIn left)) seats_are l.back)) in
-      serves seen faults moment left_at base left_origin right_origin scripts all seats served numbered
-      (subst (λ n. Leaves seen faults moment left_at base left_origin right_origin n all seats served) most_is l)
+      serves at base left_origin right_origin scripts all seats served numbered
+      (subst (λ n. Leaves at base left_origin right_origin n all seats served) most_is l)
       (subst (AllByRecursion (IsTold left)) scripts_are (all_mapped (IsTold left) (λ (w : Work K H (BookSeat O o)). w.script) works (all_told left lock Belongs KnowsEnd works done set ran back)))
       (λ whole. subst (AllByRecursion (IsServedWhole (entries_of left))) scripts_are (all_mapped (IsServedWhole (entries_of left)) (λ (w : Work K H (BookSeat O o)). w.script) works (all_whole left lock Belongs KnowsEnd works done set ran back (ends.0 whole))))
       total
@@ -312,14 +318,14 @@ module _ {D : Type 0} (seen : D → Option (List ℕ)) (faults : D → ℕ) (mom
       → seats ≡ map (λ (w : Work K H (BookSeat O o)). w.seat) works
       → sum_by (λ (script : Script). length script.requests) scripts ≤ ENTRIES_MOST
       → most ≡ length scripts
-      → Leaves seen faults moment left_at base left_origin right_origin most false seats served
-      → Serves seen faults moment left_at base left_origin right_origin scripts served
+      → Leaves at base left_origin right_origin most false seats served
+      → Serves at base left_origin right_origin scripts served
   serves_works {K = K} {H = H} {O = O} {o = o} lock works seats most served scripts_are numbered set seats_are total most_is l =
       let left : List Item = chronicle_of served in
       let back : AllByRecursion (λ (w : Work K H (BookSeat O o)). IsBackIn left w.seat) works =
       all_unmap (IsBackIn left) (λ (w : Work K H (BookSeat O o)). w.seat) works (all_from (IsBackIn left) (map (λ (w : Work K H (BookSeat O o)). w.seat) works) (subst (All (IsBackIn left)) seats_are l.back)) in
-      serves seen faults moment left_at base left_origin right_origin scripts false seats served numbered
-      (subst (λ n. Leaves seen faults moment left_at base left_origin right_origin n false seats served) most_is l)
+      serves at base left_origin right_origin scripts false seats served numbered
+      (subst (λ n. Leaves at base left_origin right_origin n false seats served) most_is l)
       (subst (AllByRecursion (IsTold left)) scripts_are (all_mapped (IsTold left) (λ (w : Work K H (BookSeat O o)). w.script) works (none_told left lock works set back)))
       (λ whole. absurd (let e : false ≡ true = whole in cc))
       total
@@ -355,19 +361,19 @@ module _ {K H O : Type 0} {o : Ghosts O} (Belongs KnowsEnd : BookSeat O o → Ty
       omega (arith, works, done, seats_are)
   came_many (inr none) same = ap length none.0 ∙ same
 
-  module _ {D : Type 0} (seen : D → Option (List ℕ)) (faults : D → ℕ) (moment : D → ℕ) (left_at : D → ℕ → List ℕ → Type 0) (base : State) (left_origin right_origin : DiskAt) where
+  module _ {D : Type 0} (at : D → DiskAt) (base : State) (left_origin right_origin : DiskAt) where
     pub serves_came : {T : Type 0} (lock : Lock T Item) (most : ℕ) (served : Served D)
         → AreNumbered scripts → AreSeated lock seats → length seats ≡ length scripts
         → sum_by (λ (script : Script). length script.requests) scripts ≤ ENTRIES_MOST
         → most ≡ length scripts
-        → Leaves seen faults moment left_at base left_origin right_origin most whole back served
+        → Leaves at base left_origin right_origin most whole back served
         → Came K H Belongs KnowsEnd scripts seats back whole
-        → Serves seen faults moment left_at base left_origin right_origin scripts served
+        → Serves at base left_origin right_origin scripts served
     serves_came lock most served numbered new same total most_is l (inl run) =
-        serves_done seen faults moment left_at base left_origin right_origin scripts lock Belongs KnowsEnd run.works run.done back most whole served
+        serves_done at base left_origin right_origin scripts lock Belongs KnowsEnd run.works run.done back most whole served
         run.scripts_are numbered (set_of lock run.works seats scripts run.seats_are run.scripts_are new numbered) run.ran run.back_are run.ends total most_is l
     serves_came lock most served numbered new same total most_is l (inr none) =
         let set = set_up scripts seats same in
-        serves_works seen faults moment left_at base left_origin right_origin scripts lock set.0 back most served
+        serves_works at base left_origin right_origin scripts lock set.0 back most served
         set.1 numbered (set_of lock set.0 seats scripts set.2 set.1 new numbered) (none.0 ∙ sym set.2) total most_is
-        (subst (λ b. Leaves seen faults moment left_at base left_origin right_origin most b back served) none.1 l)
+        (subst (λ b. Leaves at base left_origin right_origin most b back served) none.1 l)

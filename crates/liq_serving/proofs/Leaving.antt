@@ -7,6 +7,7 @@ use Rattle.liq_lock.specs.History.{Behind, Within}
 use Rattle.liq_store.specs.Keeping.{IsInOrder, IsInOrderWith}
 use Rattle.liq_store.specs.Stored.{Stored}
 use Rattle.liq_types.specs.declared.entries.Entry.{Entry}
+use Rattle.liq_outside.specs.At.{DiskAt}
 use Rattle.liq_book.specs.declared.items.Halt.{Halt}
 use Rattle.liq_book.specs.declared.items.Item.{Item}
 use Rattle.liq_book.specs.declared.origin.Origin.{Ghosts}
@@ -14,7 +15,6 @@ use Rattle.liq_book.specs.declared.seat.BookSeat.{BookSeat}
 use Rattle.liq_book.specs.Booked.{IsBook}
 use Rattle.liq_rules.specs.Recorded.{recorded}
 use Rattle.liq_book.specs.Items.{chronicle, session_of}
-use Rattle.liq_book.specs.Origin.{DiskAt}
 use Rattle.liq_book.specs.Seats.{items_seen, session_at}
 use Rattle.liq_book.proofs.Pasts.{past_left}
 use Rattle.liq_core.specs.Core.{StandsFor}
@@ -29,11 +29,12 @@ halt_of-end_of None false = refl
 halt_of-end_of (Some halt) true = refl
 halt_of-end_of (Some halt) false = refl
 
-module _ {D : Type 0} (seen : D → Option (List ℕ)) (faults : D → ℕ) (moment : D → ℕ) (left_at : D → ℕ → List ℕ → Type 0) where
+module _ {D : Type 0} (at : D → DiskAt) where
   -- a store that goes on leaves its disks settled for its state
-  pub settles : (store : Stored D) (s : State) → IsInOrder seen moment left_at store → store.stopped ≡ None → StandsFor store.core s → AreSettled seen moment left_at s store.left store.right
+  pub settles : (store : Stored D) (s : State) → IsInOrder at store → store.stopped ≡ None → StandsFor store.core s
+      → AreSettled at s store.left store.right
   settles store s order going stands =
-      let P : Option ℕ → Type 0 = λ o. IsInOrderWith seen moment left_at o store in
+      let P : Option ℕ → Type 0 = λ o. IsInOrderWith at o store in
       let keeps = subst P going order in
       record {
         left_rests = keeps.left;
@@ -43,19 +44,19 @@ module _ {D : Type 0} (seen : D → Option (List ℕ)) (faults : D → ℕ) (mom
       }
 
   module _ (base : State) (left_origin right_origin : DiskAt) where
-    keeps : (store : Stored D) (history : List Entry) (halt : Option Halt) → IsInOrder seen moment left_at store
-        → IsBook seen faults moment left_at base left_origin right_origin (record { store = store; entries = history; halt = halt })
-        → KeepsBehind seen moment left_at halt (state_after base (map recorded history)) store.left store.right
+    keeps : (store : Stored D) (history : List Entry) (halt : Option Halt) → IsInOrder at store
+        → IsBook at base left_origin right_origin (record { store = store; entries = history; halt = halt })
+        → KeepsBehind at halt (state_after base (map recorded history)) store.left store.right
     keeps store history None order book = settles store (state_after base (map recorded history)) order book.halt book.state
     keeps store history (Some halt) order book = book.keeps
 
     pub leaves : {O : Type 0} {o : Ghosts O} (most : ℕ) (all : Bool) (seats : List (BookSeat O o)) (served : Served D) (store : Stored D) (history : List Entry) (halt : Option Halt)
         → served.left ≡ store.left → served.right ≡ store.right → served.history ≡ history → served.end ≡ end_of halt all
-        → IsInOrder seen moment left_at store
-        → IsBook seen faults moment left_at base left_origin right_origin (record { store = store; entries = history; halt = halt })
+        → IsInOrder at store
+        → IsBook at base left_origin right_origin (record { store = store; entries = history; halt = halt })
         → All (λ seat. Behind session_of (chronicle history halt) (session_at seat ∷ []) (items_seen seat)) seats
         → Within session_of most (chronicle history halt)
-        → Leaves seen faults moment left_at base left_origin right_origin most all seats served
+        → Leaves at base left_origin right_origin most all seats served
     leaves most all seats served store history halt left_is right_is history_is end_is order book back within =
         let halt_is : halt_of served.end ≡ halt = ap halt_of end_is ∙ halt_of-end_of halt all in
         let items_are : chronicle_of served ≡ chronicle history halt = ap (λ entries. chronicle entries (halt_of served.end)) history_is ∙ ap (chronicle history) halt_is in
@@ -69,6 +70,9 @@ module _ {D : Type 0} (seen : D → Option (List ℕ)) (faults : D → ℕ) (mom
             cause = rw (halt_is, left_is, right_is) book.cause;
             left_time = rw left_is book.left;
             right_time = rw right_is book.right;
-            past = rw (halt_is, history_is, left_is, right_is) (past_left seen moment left_at left_origin right_origin base (requests_of (map recorded history)) halt store order book.halt book.past);
+            past =
+                rw (halt_is, history_is, left_is, right_is)
+                (past_left at left_origin right_origin base
+                (requests_of (map recorded history)) halt store order book.halt book.past);
           };
         }

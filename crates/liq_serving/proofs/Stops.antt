@@ -1,6 +1,7 @@
 -- What a stop leaves of the disks, at any moment of serving an input.
 use Rattle.std.proofs.Common.{ℕ, ◌≡◌, ◌≢◌, ◌≤◌, inl, inr, List, [], map, Option, Some, None, Ok, refl, sym, subst, arith}
 use Rattle.std.specs.Prelude.{IfSome, IsSome, ◌↔◌, false}
+use Rattle.liq_outside.specs.At.{DiskAt}
 use Rattle.liq_outside.specs.Disk.{GoesOn, LeavesOnly, LeftNow, Only}
 use Rattle.liq_outside.proofs.Moments.{started}
 use Rattle.liq_types.specs.declared.requests.Command.{Command}
@@ -37,7 +38,7 @@ use Rattle.liq_serving.specs.declared.served.End.TheVariants as end
 use Rattle.liq_serving.specs.declared.served.Served.{Served}
 use Rattle.liq_serving.specs.Ends.{halt_of}
 use Rattle.liq_serving.specs.Input.{IsFaultAt, IsFinishOf}
-use Rattle.liq_serving.specs.Serves.{Serves, disk_at}
+use Rattle.liq_serving.specs.Serves.{Serves}
 
 -- a session and its command
 abbrev pub called : ℕ → Request → Option (ℕ × Command)
@@ -50,32 +51,36 @@ halted_in (end.DiskFault halt) = called halt.session halt.request
 halted_in end.All = None
 halted_in end.NoMemory = None
 
-module _ {D : Type 0} (seen : D → Option (List ℕ)) (moment : D → ℕ) (left_at : D → ℕ → List ℕ → Type 0) (left right : D) where
+module _ {D : Type 0} (at : D → DiskAt) (left right : D) where
   -- what a stop leaves of these disks, when serving them finished so
   abbrev pub LeavesAt : Finish → Option (ℕ × Command) → List history.Entry → D → D → Type 0
   LeavesAt how halted entries now_left now_right =
-      (l r : List ℕ) (start : State) → seen left ≡ Some l → seen right ≡ Some r
-      → Only l (LeftNow moment left_at left) → Only r (LeftNow moment left_at right)
+      (l r : List ℕ) (start : State) → (at left).seen ≡ Some l → (at right).seen ≡ Some r
+      → Only l (LeftNow at left) → Only r (LeftNow at right)
       → state_on l r ≡ Ok start → IsKept l r start
-      → LeavesBoth seen moment left_at left right (IsFaultAt how halted) l r start (requests_of entries) now_left now_right
+      → LeavesBoth at left right (IsFaultAt how halted) l r start (requests_of entries) now_left now_right
 
   -- what an opening says of each disk, and of both
   pub record LeavesOpening (now_left now_right : D) : Type 0 where
-    pub left_leaves : (l r : List ℕ) → seen left ≡ Some l → seen right ≡ Some r → Only l (LeftNow moment left_at left) → LeavesOnly moment left_at left now_left (LeftLeaves l r)
-    pub right_leaves : (r : List ℕ) → seen right ≡ Some r → Only r (LeftNow moment left_at right) → LeavesOnly moment left_at right now_right (OpenLeaves false r)
-    pub recovers : (l r : List ℕ) (s : State) → seen left ≡ Some l → seen right ≡ Some r → Only l (LeftNow moment left_at left) → Only r (LeftNow moment left_at right) → IsKept l r s
-        → LeavesPairs moment left_at left right now_left now_right (IsRecovered l r s)
+    pub left_leaves : (l r : List ℕ) → (at left).seen ≡ Some l → (at right).seen ≡ Some r → Only l (LeftNow at left)
+        → LeavesOnly at left now_left (LeftLeaves l r)
+    pub right_leaves : (r : List ℕ) → (at right).seen ≡ Some r → Only r (LeftNow at right)
+        → LeavesOnly at right now_right (OpenLeaves false r)
+    pub recovers : (l r : List ℕ) (s : State) → (at left).seen ≡ Some l → (at right).seen ≡ Some r
+        → Only l (LeftNow at left) → Only r (LeftNow at right) → IsKept l r s
+        → LeavesPairs at left right now_left now_right (IsRecovered l r s)
 
-module _ {D : Type 0} (seen : D → Option (List ℕ)) (moment : D → ℕ) (left_at : D → ℕ → List ℕ → Type 0)
-    (may_stay : (disk : D) (held : List ℕ) → seen disk ≡ Some held → LeftNow moment left_at disk held) (left right : D) where
+module _ {D : Type 0} (at : D → DiskAt)
+    (may_stay : (disk : D) (held : List ℕ) → (at disk).seen ≡ Some held → LeftNow at disk held) (left right : D) where
   abbrev At : Finish → Option (ℕ × Command) → List history.Entry → D → D → Type 0
-  At = LeavesAt seen moment left_at left right
+  At = LeavesAt at left right
 
   -- ---- nothing was opened
 
   -- nothing is pending on a disk of which a crash leaves what it tells
-  rests_as : (disk : D) (held : List ℕ) → seen disk ≡ Some held → Only held (LeftNow moment left_at disk) → IsAtRest seen moment left_at disk
-  rests_as disk held told only = subst (λ (o : Option (List ℕ)). IfSome o (λ h. Only h (LeftNow moment left_at disk))) (sym told) only
+  rests_as : (disk : D) (held : List ℕ) → (at disk).seen ≡ Some held → Only held (LeftNow at disk) → IsAtRest at disk
+  rests_as disk held told only =
+      subst (λ (o : Option (List ℕ)). IfSome o (λ h. Only h (LeftNow at disk))) (sym told) only
 
   -- the input was not read to its end, and nobody touched the disks
   pub leaves_unread : (stop : Stop) → At (finish.NotRead stop) None [] left right
@@ -83,26 +88,27 @@ module _ {D : Type 0} (seen : D → Option (List ℕ)) (moment : D → ℕ) (lef
     fault = NoFault;
     fault_is = refl;
     images =
-        opening_leaves seen moment left_at may_stay l r start left right left right kept
-        (started moment left_at left (LeftLeaves l r) (λ image there. inl (inl (only_l image there))))
-        (started moment left_at right (OpenLeaves false r) (λ image there. inl (only_r image there)))
+        opening_leaves at may_stay l r start left right left right kept
+        (started at left (LeftLeaves l r) (λ image there. inl (inl (only_l image there))))
+        (started at right (OpenLeaves false r) (λ image there. inl (only_r image there)))
         NoFault;
     rests = (rests_as left l told_l only_l, rests_as right r told_r only_r);
   }
 
   -- no store was opened
-  pub leaves_unopened : (why_not : StoreWhy) (now_left now_right : D) → LeavesOpening seen moment left_at left right now_left now_right
-      → GoesOn moment left_at left now_left → GoesOn moment left_at right now_right
-      → (why_not ≢ why.DiskFault → IsAtRest seen moment left_at now_left × IsAtRest seen moment left_at now_right)
+  pub leaves_unopened : (why_not : StoreWhy) (now_left now_right : D) → LeavesOpening at left right now_left now_right
+      → GoesOn at left now_left → GoesOn at right now_right
+      → (why_not ≢ why.DiskFault → IsAtRest at now_left × IsAtRest at now_right)
       → At (finish.NotOpened why_not) None [] now_left now_right
   leaves_unopened why_not now_left now_right opening left_time right_time rest l r start told_l told_r only_l only_r is kept = by why_not rest where
-    images : (fault : Fault) → LeavesPast moment left_at (λ side. moment (on side left right)) l r start [] fault now_left now_right
+    images : (fault : Fault) → LeavesPast at (λ side. (at (on side left right)).moment) l r start
+        [] fault now_left now_right
     images fault =
-        opening_leaves seen moment left_at may_stay l r start left right now_left now_right kept
+        opening_leaves at may_stay l r start left right now_left now_right kept
         (opening.left_leaves l r told_l told_r only_l) (opening.right_leaves r told_r only_r) fault
 
-    by : (w : StoreWhy) → (w ≢ why.DiskFault → IsAtRest seen moment left_at now_left × IsAtRest seen moment left_at now_right)
-        → LeavesBoth seen moment left_at left right (IsFaultAt (finish.NotOpened w) None) l r start [] now_left now_right
+    by : (w : StoreWhy) → (w ≢ why.DiskFault → IsAtRest at now_left × IsAtRest at now_right)
+        → LeavesBoth at left right (IsFaultAt (finish.NotOpened w) None) l r start [] now_left now_right
     by why.DiskFault rest = record {
       fault = InOpening;
       fault_is = refl;
@@ -110,7 +116,8 @@ module _ {D : Type 0} (seen : D → Option (List ℕ)) (moment : D → ℕ) (lef
       rests = λ a b in_left in_right. (
         refl,
         opening.recovers l r start told_l told_r only_l only_r kept a b
-            (moment now_left, left_time.later, omega arith, in_left) (moment now_right, right_time.later, omega arith, in_right),
+            ((at now_left).moment, left_time.later, omega arith, in_left)
+            ((at now_right).moment, right_time.later, omega arith, in_right),
       );
     }
     by (why.Damaged side damage) rest = record { fault = NoFault; fault_is = refl; images = images NoFault; rests = rest (λ e. cc) }
@@ -118,56 +125,66 @@ module _ {D : Type 0} (seen : D → Option (List ℕ)) (moment : D → ℕ) (lef
 
   -- ---- the sessions were served
 
-  module _ (faults : D → ℕ) (store : Stored D) (scripts : List Script) (served : Served D) where
+  module _ (store : Stored D) (scripts : List Script) (served : Served D) where
     abbrev entries : List history.Entry
     entries = map recorded served.history
 
     -- what was left by the book, whose disks told a and b at its origin
     abbrev LeftBy : List ℕ → List ℕ → State → Fault → Type 0
     LeftBy a b start fault =
-        LeavesPast moment left_at (since_origin (disk_at seen faults moment left_at store.left) (disk_at seen faults moment left_at store.right)) a b start (requests_of entries) fault served.left served.right
-        × RestAtEnd seen moment left_at a b start (requests_of entries) fault served.left served.right
+        LeavesPast at (since_origin (at store.left) (at store.right)) a b start
+        (requests_of entries) fault served.left served.right
+        × RestAtEnd at a b start (requests_of entries) fault served.left served.right
 
     -- what is left at the finish, by the disks that there were at first
     abbrev Finishes : List ℕ → List ℕ → State → Finish → Option (ℕ × Command) → Type 0
-    Finishes l r start h halted = LeavesBoth seen moment left_at left right (IsFaultAt h halted) l r start (requests_of entries) served.left served.right
+    Finishes l r start h halted =
+        LeavesBoth at left right (IsFaultAt h halted) l r start (requests_of entries) served.left served.right
 
     -- images are counted from the same moments
     leaves_since : (l r : List ℕ) (start : State) (requests : List Request) (fault : Fault)
-        → LeavesPast moment left_at (since_origin (disk_at seen faults moment left_at store.left) (disk_at seen faults moment left_at store.right)) l r start requests fault served.left served.right
-        → LeavesPast moment left_at (λ side. moment (on side store.left store.right)) l r start requests fault served.left served.right
+        → LeavesPast at (since_origin (at store.left) (at store.right)) l r start requests fault
+        served.left served.right
+        → LeavesPast at (λ side. (at (on side store.left store.right)).moment) l r start requests fault
+        served.left served.right
     leaves_since l r start requests fault leaves = record {
       images = λ side image there. leaves.images side image (there.0, subst (λ k. k ≤ there.0) (same side) there.1, there.2, there.3);
       whole = λ side first few image there. leaves.whole side first few image (there.0, subst (λ k. k ≤ there.0) (same side) there.1, there.2, there.3);
     } where
-      same : (side : Side) → moment (on side store.left store.right) ≡ on side (moment store.left) (moment store.right)
+      same : (side : Side) → (at (on side store.left store.right)).moment
+          ≡ on side (at store.left).moment (at store.right).moment
       same Left = refl
       same Right = refl
 
-    pub leaves_served : LeavesOpening seen moment left_at left right store.left store.right → OpensOn seen faults left right store → IsInOrder seen moment left_at store
-        → (IsSome (seen store.left) ↔ IsSome (seen left)) → (IsSome (seen store.right) ↔ IsSome (seen right))
-        → GoesOn moment left_at store.left served.left → GoesOn moment left_at store.right served.right
-        → ((l r : List ℕ) (start : State) → seen left ≡ Some l → seen right ≡ Some r → state_on l r ≡ Ok start
-        → Serves seen faults moment left_at start (disk_at seen faults moment left_at store.left) (disk_at seen faults moment left_at store.right) scripts served)
+    pub leaves_served : LeavesOpening at left right store.left store.right → OpensOn at left right store
+        → IsInOrder at store
+        → (IsSome (at store.left).seen ↔ IsSome (at left).seen)
+        → (IsSome (at store.right).seen ↔ IsSome (at right).seen)
+        → GoesOn at store.left served.left → GoesOn at store.right served.right
+        → ((l r : List ℕ) (start : State) → (at left).seen ≡ Some l → (at right).seen ≡ Some r → state_on l r ≡ Ok start
+        → Serves at start (at store.left) (at store.right) scripts served)
         → (how : Finish) → IsFinishOf served.end how → At how (halted_in served.end) entries served.left served.right
     leaves_served opening opened order left_telling right_telling left_time right_time serves how how_is l r start told_l told_r only_l only_r is kept =
         let from = (serves l r start told_l told_r is).since.past a.0 b.0 a.1 b.1 in
         by_end served.end (from.0, from.1, (from.2, from.3)) how how_is where
-          past : Past seen moment left_at (λ side. moment (on side left right)) l r start [] store
+          past : Past at (λ side. (at (on side left right)).moment) l r start [] store
           past =
-              begins seen moment left_at may_stay l r start faults left right store told_l told_r kept
+              begins at may_stay l r start left right store told_l told_r kept
               (opening.left_leaves l r told_l told_r only_l) (opening.right_leaves r told_r only_r) left_telling right_telling opened order
 
-          a : (held : List ℕ) × (seen store.left ≡ Some held)
-          a = value_of (seen store.left) past.left_tells
+          a : (held : List ℕ) × ((at store.left).seen ≡ Some held)
+          a = value_of (at store.left).seen past.left_tells
 
-          b : (held : List ℕ) × (seen store.right ≡ Some held)
-          b = value_of (seen store.right) past.right_tells
+          b : (held : List ℕ) × ((at store.right).seen ≡ Some held)
+          b = value_of (at store.right).seen past.right_tells
 
-          along : (fault : Fault) → LeavesPast moment left_at (since_origin (disk_at seen faults moment left_at store.left) (disk_at seen faults moment left_at store.right)) a.0 b.0 start (requests_of entries) fault served.left served.right
-              → LeavesPast moment left_at (λ side. moment (on side left right)) l r start (requests_of entries) fault served.left served.right
+          along : (fault : Fault) → LeavesPast at (since_origin (at store.left) (at store.right)) a.0 b.0 start
+              (requests_of entries) fault served.left served.right
+              → LeavesPast at (λ side. (at (on side left right)).moment) l r start
+              (requests_of entries) fault served.left served.right
           along fault leaves =
-              joins seen moment left_at may_stay (λ side. moment (on side left right)) l r start (requests_of entries) fault store served.left served.right a.0 b.0
+              joins at may_stay (λ side. (at (on side left right)).moment) l r start
+              (requests_of entries) fault store served.left served.right a.0 b.0
               past order a.1 b.1 left_time right_time (leaves_since a.0 b.0 start (requests_of entries) fault leaves)
 
           calm : LeftBy a.0 b.0 start NoFault → (h : Finish) → IsFaultAt h None NoFault → Finishes l r start h None
@@ -180,7 +197,7 @@ module _ {D : Type 0} (seen : D → Option (List ℕ)) (moment : D → ℕ) (lef
           by_end (end.DiskFault halt) from h h_is =
               let c : Command = from.1.0 in
               let at_c : LeftBy a.0 b.0 start (AtCommand c) = subst (LeftBy a.0 b.0 start) from.1.2 from.2 in
-              let at : IsFaultAt finish.DiskFault (called halt.session halt.request) (AtCommand c) =
+              let here : IsFaultAt finish.DiskFault (called halt.session halt.request) (AtCommand c) =
               subst (λ (q : Request). IsFaultAt finish.DiskFault (called halt.session q) (AtCommand c)) (sym from.1.1) refl in
               subst (λ (h : Finish). Finishes l r start h (called halt.session halt.request)) (sym h_is)
-              (record { fault = AtCommand c; fault_is = at; images = along (AtCommand c) at_c.0; rests = at_c.1 })
+              (record { fault = AtCommand c; fault_is = here; images = along (AtCommand c) at_c.0; rests = at_c.1 })

@@ -13,7 +13,8 @@ answered_of session entries = requests_of (own_entries session entries)
 
 -- they are the first ones of its script
 abbrev pub IsServedFrom : List Entry → Script → Type 0
-IsServedFrom entries script = (rest : List Request) × (script.requests ≡ answered_of script.session entries ++ rest)
+IsServedFrom entries script =
+    (rest : List Request) × (script.requests ≡ answered_of script.session entries ++ rest)
 
 -- they are all of them
 abbrev pub IsServedWhole : List Entry → Script → Type 0
@@ -22,10 +23,11 @@ IsServedWhole entries script = script.requests ≡ answered_of script.session en
 -- this one is the next
 abbrev pub IsNextOf : List Entry → Request → Script → Type 0
 IsNextOf entries request script =
-    (later : List Request) × (script.requests ≡ answered_of script.session entries ++ request ∷ later)
+    (later : List Request)
+    × (script.requests ≡ answered_of script.session entries ++ request ∷ later)
 
--- Memory is wanted where nothing was answered at all, or where a script has a request without a reply, and the book had
--- room for it.
+-- Memory is wanted where nothing was answered at all, or where a script has a request without a
+-- reply, and the book had room for it.
 abbrev pub LacksMemory : List Script → List Entry → Type 0
 LacksMemory scripts entries =
     (entries ≡ [])
@@ -36,8 +38,10 @@ LacksMemory scripts entries =
 
 -- the first requests of each session, in order
 abbrev pub AreServedFrom : List (ℕ × Request) → List Entry → Type 0
-AreServedFrom asked history = All (λ session. IsServedFrom history (script_of asked session)) sessions
+AreServedFrom asked history =
+    All (λ session. IsServedFrom history (script_of asked session)) sessions
 
 -- all requests of each session
 abbrev pub AreServedWhole : List (ℕ × Request) → List Entry → Type 0
-AreServedWhole asked history = All (λ session. IsServedWhole history (script_of asked session)) sessions
+AreServedWhole asked history =
+    All (λ session. IsServedWhole history (script_of asked session)) sessions

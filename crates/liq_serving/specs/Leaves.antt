@@ -1,6 +1,7 @@
 -- What a book leaves that is closed when its sessions have ended.
 use Rattle.std.specs.Prelude.{ℕ, ◌≡◌, List, [], ◌∷◌, map, All, Bool, Option, Some, None}
 use Rattle.liq_types.specs.State.{State}
+use Rattle.liq_outside.specs.At.{DiskAt}
 use Rattle.liq_rules.specs.History.{IsLegal, state_after}
 use Rattle.liq_rules.specs.Memory.{IsAccepted}
 use Rattle.liq_lock.specs.History.{Behind, Within}
@@ -10,7 +11,6 @@ use Rattle.liq_book.specs.declared.origin.Origin.{Ghosts}
 use Rattle.liq_book.specs.declared.seat.BookSeat.{BookSeat}
 use Rattle.liq_rules.specs.Recorded.{recorded}
 use Rattle.liq_book.specs.Items.{chronicle, session_of}
-use Rattle.liq_book.specs.Origin.{DiskAt}
 use Rattle.liq_book.specs.Seats.{items_seen, session_at}
 use Rattle.liq_serving.specs.declared.served.Served.{Served}
 use Rattle.liq_serving.specs.Ends.{end_of, halt_of}
@@ -20,24 +20,24 @@ use Rattle.liq_serving.specs.Serves.{AreKeptAround, AreSettled, HasGoneOn}
 abbrev pub chronicle_of : {D : Type 0} → Served D → List Item
 chronicle_of served = chronicle served.history (halt_of served.end)
 
-module _
-    {D : Type 0} (seen : D → Option (List ℕ)) (moment : D → ℕ)
-    (left_at : D → ℕ → List ℕ → Type 0) where
+module _ {D : Type 0} (at : D → DiskAt) where
   abbrev pub KeepsBehind : Option Halt → State → D → D → Type 0
-  KeepsBehind None s left right = AreSettled seen moment left_at s left right
+  KeepsBehind None s left right = AreSettled at s left right
   KeepsBehind (Some halt) s left right =
-      IsAccepted s halt.request × AreKeptAround seen moment left_at s halt.request left right
+      IsAccepted s halt.request × AreKeptAround at s halt.request left right
 
 -- The seats are those with which it was closed.
 pub record Leaves
-    {D O : Type 0} {o : Ghosts O} (seen : D → Option (List ℕ)) (faults : D → ℕ) (moment : D → ℕ)
-    (left_at : D → ℕ → List ℕ → Type 0) (base : State) (left_origin right_origin : DiskAt) (most : ℕ)
-    (all : Bool) (seats : List (BookSeat O o)) (served : Served D) : Type 0 where
+    {D O : Type 0} {o : Ghosts O} (at : D → DiskAt) (base : State)
+    (left_origin right_origin : DiskAt) (most : ℕ) (all : Bool) (seats : List (BookSeat O o))
+    (served : Served D) : Type 0 where
   pub legal : IsLegal base (map recorded served.history)
   pub end : served.end ≡ end_of (halt_of served.end) all
   pub within : Within session_of most (chronicle_of served)
-  pub back : All (λ seat. Behind session_of (chronicle_of served) (session_at seat ∷ []) (items_seen seat)) seats
+  pub back :
+      All (λ seat.
+      Behind session_of (chronicle_of served) (session_at seat ∷ []) (items_seen seat)) seats
   pub disks :
-      KeepsBehind seen moment left_at (halt_of served.end) (state_after base (map recorded served.history)) served.left
-      served.right
-  pub since : HasGoneOn seen faults moment left_at base left_origin right_origin served
+      KeepsBehind at (halt_of served.end) (state_after base (map recorded served.history))
+      served.left served.right
+  pub since : HasGoneOn at base left_origin right_origin served

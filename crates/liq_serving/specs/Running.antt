@@ -9,8 +9,8 @@ use Rattle.liq_sessions.specs.declared.done.Work.{Work}
 use Rattle.liq_sessions.specs.declared.script.Script.{Script}
 use Rattle.liq_sessions.specs.Sessions.{HasRun}
 
--- Each script has run at the seat of its place, these are the seats back, and it is told whether each got replies to
--- all its requests. The first five arguments say what a seat of the desk means.
+-- Each script has run at the seat of its place, these are the seats back, and it is told whether
+-- each got replies to all its requests. The first five arguments say what a seat of the desk means.
 pub record HaveRun
     (K H : Type 0) {S : Type 0} (Belongs : S → Type 0) (number_of : S → ℕ)
     (own_of : S → List (Request × Reply)) (KnowsEnd : S → Type 0) (faulted_of : S → Option Request)

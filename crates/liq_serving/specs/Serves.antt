@@ -1,6 +1,7 @@
 -- What serving scripts leaves.
 use Rattle.std.specs.Prelude.{ℕ, ◌≡◌, ◌≤◌, ◌<◌, ◌+◌, List, map, length, slice_index_or}
-use Rattle.std.specs.Prelude.{All, Contains, Option, Some, None, sum_by}
+use Rattle.std.specs.Prelude.{All, Contains, Some, None, sum_by}
+use Rattle.liq_outside.specs.At.{DiskAt}
 use Rattle.liq_outside.specs.Disk.{LeftNow}
 use Rattle.liq_types.specs.declared.requests.Request.{Request}
 use Rattle.liq_types.specs.State.{State}
@@ -15,7 +16,7 @@ use Rattle.liq_sessions.specs.declared.script.Script.{Script}
 use Rattle.liq_book.specs.Booked.{CausesHalt}
 use Rattle.liq_rules.specs.Recorded.{recorded}
 use Rattle.liq_book.specs.declared.items.TheConstants.{ENTRIES_MOST}
-use Rattle.liq_book.specs.Origin.{DiskAt, GoesOnFrom, TellsList, faults_at}
+use Rattle.liq_book.specs.Origin.{GoesOnFrom, TellsList, faults_at}
 use Rattle.liq_book.specs.Past.{LeavesFrom}
 use Rattle.liq_serving.specs.declared.served.End.{End}
 use Rattle.liq_serving.specs.declared.served.End.TheVariants as end
@@ -25,10 +26,11 @@ use Rattle.liq_serving.specs.Ends.{halt_of}
 
 -- scripts of the sessions from 1 on
 abbrev pub AreNumbered : List Script → Type 0
-AreNumbered scripts = (k : ℕ) (d : Script) → k < length scripts → (slice_index_or scripts k d).session ≡ k + 1
+AreNumbered scripts =
+    (k : ℕ) (d : Script) → k < length scripts → (slice_index_or scripts k d).session ≡ k + 1
 
--- Scripts that are served over a store: one to eight, of the sessions from 1 on, whose requests all have room in the
--- book. The store goes on, and tells its list.
+-- Scripts that are served over a store: one to eight, of the sessions from 1 on, whose requests all
+-- have room in the book. The store goes on, and tells its list.
 pub record IsServable {D : Type 0} (scripts : List Script) (store : Stored D) : Type 0 where
   pub some : 1 ≤ length scripts
   pub few : length scripts ≤ 8
@@ -39,27 +41,26 @@ pub record IsServable {D : Type 0} (scripts : List Script) (store : Stored D) : 
 
 -- ---- disks at the end
 
-module _
-    {D : Type 0} (seen : D → Option (List ℕ)) (moment : D → ℕ)
-    (left_at : D → ℕ → List ℕ → Type 0) where
+module _ {D : Type 0} (at : D → DiskAt) where
   -- Nothing is pending, and what both disks tell is settled for the state.
   pub record AreSettled (s : State) (left right : D) : Type 0 where
-    pub left_rests : IsAtRest seen moment left_at left
-    pub right_rests : IsAtRest seen moment left_at right
+    pub left_rests : IsAtRest at left
+    pub right_rests : IsAtRest at right
     pub side : Side
-    pub settled : (l r : List ℕ) → seen left ≡ Some l → seen right ≡ Some r → IsSettledFor side l r s
+    pub settled :
+        (l r : List ℕ) → (at left).seen ≡ Some l → (at right).seen ≡ Some r
+        → IsSettledFor side l r s
 
-  -- What both disks tell, and all that a crash may now leave of the one beside all of the other, is kept for the state
-  -- or for the one after this request.
+  -- What both disks tell, and all that a crash may now leave of the one beside all of the other, is
+  -- kept for the state or for the one after this request.
   abbrev pub AreKeptAround : State → Request → D → D → Type 0
   AreKeptAround s request left right =
-      (l r : List ℕ) → seen left ≡ Some l → seen right ≡ Some r
+      (l r : List ℕ) → (at left).seen ≡ Some l → (at right).seen ≡ Some r
       → IsKeptAround s request l r
-      × ((a b : List ℕ) → LeftNow moment left_at left a → LeftNow moment left_at right b
-      → IsKeptAround s request a b)
+      × ((a b : List ℕ) → LeftNow at left a → LeftNow at right b → IsKeptAround s request a b)
 
-  -- Settled; or, after a fault, kept with one request more, which is the next one of the session whose call met it, and
-  -- a command that the rules accept there.
+  -- Settled; or, after a fault, kept with one request more, which is the next one of the session
+  -- whose call met it, and a command that the rules accept there.
   abbrev pub LeavesDisks : List Script → List history.Entry → State → End → D → D → Type 0
   LeavesDisks scripts entries s end.All left right = AreSettled s left right
   LeavesDisks scripts entries s end.NoMemory left right = AreSettled s left right
@@ -68,28 +69,26 @@ module _
       × IsNextOf entries halt.request script)
       × IsAccepted s halt.request × AreKeptAround s halt.request left right
 
--- What became of the disks since the service began. A count of faults rose exactly where a call met the fault; each tells
--- its bytes exactly if it told them then, time went on, and what a stop may have left of them is of a run of the
--- history's requests.
+-- What became of the disks since the service began. A count of faults rose exactly where a call met
+-- the fault; each tells its bytes exactly if it told them then, time went on, and what a stop may
+-- have left of them is of a run of the history's requests.
 pub record HasGoneOn
-    {D : Type 0} (seen : D → Option (List ℕ)) (faults : D → ℕ) (moment : D → ℕ)
-    (left_at : D → ℕ → List ℕ → Type 0) (base : State) (left_origin right_origin : DiskAt)
+    {D : Type 0} (at : D → DiskAt) (base : State) (left_origin right_origin : DiskAt)
     (served : Served D) : Type 0 where
   pub cause :
       CausesHalt (halt_of served.end) (faults_at left_origin right_origin)
-      (record { left = faults served.left; right = faults served.right })
-  pub left_time : GoesOnFrom left_origin seen moment left_at served.left
-  pub right_time : GoesOnFrom right_origin seen moment left_at served.right
+      (record { left = (at served.left).faults; right = (at served.right).faults })
+  pub left_time : GoesOnFrom left_origin (at served.left)
+  pub right_time : GoesOnFrom right_origin (at served.right)
   pub past :
-      LeavesFrom seen moment left_at left_origin right_origin base (requests_of (map recorded served.history))
+      LeavesFrom at left_origin right_origin base (requests_of (map recorded served.history))
       (halt_of served.end) served.left served.right
 
--- The history is legal from the state with which the service began. Each session's entries in it are the first requests
--- of its script, in order, and all of them where the service ended with all; no other session is in it. It ended so, or
--- by a fault, unless memory was wanted.
+-- The history is legal from the state with which the service began. Each session's entries in it
+-- are the first requests of its script, in order, and all of them where the service ended with all;
+-- no other session is in it. It ended so, or by a fault, unless memory was wanted.
 pub record Serves
-    {D : Type 0} (seen : D → Option (List ℕ)) (faults : D → ℕ) (moment : D → ℕ)
-    (left_at : D → ℕ → List ℕ → Type 0) (base : State) (left_origin right_origin : DiskAt)
+    {D : Type 0} (at : D → DiskAt) (base : State) (left_origin right_origin : DiskAt)
     (scripts : List Script) (served : Served D) : Type 0 where
   pub legal : IsLegal base (map recorded served.history)
   pub fronts : All (IsServedFrom (map recorded served.history)) scripts
@@ -97,13 +96,6 @@ pub record Serves
   pub memory : served.end ≡ end.NoMemory → LacksMemory scripts (map recorded served.history)
   pub sessions : All (λ e. (1 ≤ e.session) × (e.session ≤ length scripts)) served.history
   pub disks :
-      LeavesDisks seen moment left_at scripts (map recorded served.history)
+      LeavesDisks at scripts (map recorded served.history)
       (state_after base (map recorded served.history)) served.end served.left served.right
-  pub since : HasGoneOn seen faults moment left_at base left_origin right_origin served
-
--- a disk as it is
-abbrev pub disk_at :
-    {D : Type 0} → (D → Option (List ℕ)) → (D → ℕ) → (D → ℕ) → (D → ℕ → List ℕ → Type 0)
-    → D → DiskAt
-disk_at seen faults moment left_at disk =
-    record { seen = seen disk; faults = faults disk; moment = moment disk; left_at = left_at disk }
+  pub since : HasGoneOn at base left_origin right_origin served

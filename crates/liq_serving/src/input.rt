@@ -63,29 +63,31 @@ pub fn serve_input<S: Source, K: Sink, D: Disk + Send, G: Gate + Sync, R: Thread
     left: D,
     right: D,
 ) -> Finished<D>
-    ensures served { ServesInput K.held D.seen D.moment D.left_at (S.left input.old) (S.left input.new)
+    ensures served { ServesInput K.at D.at (S.at input.old).left (S.at input.new).left
         out.old out.new left right result }
-    ensures shown { IsShown D.moment K.held K.shown result.left result.right out.old out.new result.finish }
-    ensures rests { AreAtRest D.seen D.moment D.left_at result.left result.right result.finish }
+    ensures shown { IsShown D.at K.at result.left result.right out.old out.new result.finish }
+    ensures rests { AreAtRest D.at result.left result.right result.finish }
     ensures unread { (stop : Stop) → result.finish ≡ Finish.NotRead stop
         → (result.left ≡ left) × (result.right ≡ right) }
 
     // At most as many lines are taken from the source as are read, and what one read asks for.
-    ensures takes { ReadsAtMost (taken_most LINES_MOST) (S.left input.old) (S.left input.new) }
+    ensures takes { ReadsAtMost (taken_most LINES_MOST)
+        (S.at input.old).left (S.at input.new).left }
 
     // A fault has its cause, and none is passed over.
-    ensures source { ReadCause (reading_of result.finish) (S.faults input.old) (S.faults input.new) }
-    ensures sink { WriteCause result.finish (K.faults out.old) (K.faults out.new) }
+    ensures source { ReadCause (reading_of result.finish)
+        (S.at input.old).faults (S.at input.new).faults }
+    ensures sink { WriteCause result.finish (K.at out.old).faults (K.at out.new).faults }
     ensures disks { DiskCause result.finish
-        (counts_of D.faults left right) (counts_of D.faults result.left result.right) }
+        (counts_of D.at left right) (counts_of D.at result.left result.right) }
 
     // A disk that told its bytes tells them afterwards, and one that told none tells none.
-    ensures left_telling { IsSome (D.seen result.left) ↔ IsSome (D.seen left) }
-    ensures right_telling { IsSome (D.seen result.right) ↔ IsSome (D.seen right) }
+    ensures left_telling { IsSome (D.at result.left).seen ↔ IsSome (D.at left).seen }
+    ensures right_telling { IsSome (D.at result.right).seen ↔ IsSome (D.at right).seen }
 
     // Time goes on at both disks, and what a crash may have left of them before stays what it was.
-    ensures left_time { GoesOn D.moment D.left_at left result.left }
-    ensures right_time { GoesOn D.moment D.left_at right result.right }
+    ensures left_time { GoesOn D.at left result.left }
+    ensures right_time { GoesOn D.at right result.right }
 {
     let Ok(mut outbox) = Outbox::new(alloc) else {
         let finish = Finish::NotRead(Stop::NoMemory);
@@ -144,9 +146,9 @@ fn write_end<K: Sink, D: Disk>(
 ) -> Finish
     requires { outbox.old ≡ [] }
     ensures finish { IsFinishOf end result }
-    ensures written { Written K.held result (map recorded history.now) out.old out.new }
-    ensures shown { IsShown D.moment K.held K.shown left.now right.now out.old out.new result }
-    ensures cause { WriteCause result (K.faults out.old) (K.faults out.new) }
+    ensures written { Written K.at result (map recorded history.now) out.old out.new }
+    ensures shown { IsShown D.at K.at left.now right.now out.old out.new result }
+    ensures cause { WriteCause result (K.at out.old).faults (K.at out.new).faults }
 {
     match end {
         End::All => {

@@ -34,7 +34,7 @@ pub(crate) fn ended<D: Disk, O: Origin>(closed: Closed<D, O>, whole: bool) -> Se
     ensures right { result.right ≡ closed.store.right }
     ensures history { result.history ≡ closed.history }
     ensures end { result.end ≡ end_of closed.halt whole }
-    ensures order { IsInOrder D.seen D.moment D.left_at closed.store }
+    ensures order { IsInOrder D.at closed.store }
 {
     let Closed {
         store,

@@ -7,7 +7,7 @@ ghost use Rattle.liq_store.specs.Keeping.{IsInOrder};
 ghost use Rattle.liq_book.specs.Origin.{IsAtOrigin};
 ghost use Rattle.liq_book.specs.Seats.{IsSeatOf, sessions_of};
 ghost use Rattle.liq_serving.specs.Leaves.{Leaves};
-ghost use Rattle.liq_serving.specs.Serves.{IsServable, Serves, disk_at};
+ghost use Rattle.liq_serving.specs.Serves.{IsServable, Serves};
 
 use crate::seats::run_at;
 use crate::served::{End, Served, ended};
@@ -36,9 +36,8 @@ pub fn serve_sessions<D: Disk + Send, G: Gate + Sync, R: Threads + Wait + Sync>(
     store: Store<D>,
 ) -> Served<D>
     requires servable { IsServable scripts.items store }
-    ensures { (s : State) → StandsFor store.core s → Serves D.seen D.faults D.moment D.left_at s
-        (disk_at D.seen D.faults D.moment D.left_at store.left) (disk_at D.seen D.faults D.moment D.left_at store.right)
-        scripts.items result }
+    ensures { (s : State) → StandsFor store.core s
+        → Serves D.at s (D.at store.left) (D.at store.right) scripts.items result }
 {
     protocols_stand(store.protocol());
     serve_from::<D, Brand, G, R>(rt, alloc, gate, scripts, store)
@@ -53,8 +52,8 @@ fn serve_from<D: Disk + Send, O: Origin + Send + Sync, G: Gate + Sync, R: Thread
     store: Store<D>,
 ) -> Served<D>
     requires servable { IsServable scripts.items store }
-    requires origin { IsAtOrigin D.seen D.faults D.moment D.left_at O.state O.left O.right store }
-    ensures { Serves D.seen D.faults D.moment D.left_at O.state O.left O.right scripts.items result }
+    requires origin { IsAtOrigin D.at O.state O.left O.right store }
+    ensures { Serves D.at O.state O.left O.right scripts.items result }
 {
     let count = scripts.len() as u8;
     let (service, seats, finders) = match Service::<D, O>::new(rt, alloc, store, count) {
@@ -75,8 +74,8 @@ fn finished<D: Disk, O: Origin, W: Wait>(
 ) -> Served<D>
     requires own { All (IsSeatOf service) seats.items }
     requires all { sessions_of service ≤ length seats.items }
-    ensures { Leaves D.seen D.faults D.moment D.left_at O.state O.left O.right
-        (sessions_of service) whole seats.items result }
+    ensures { Leaves D.at O.state O.left O.right (sessions_of service) whole
+        seats.items result }
 {
     match service.close(rt, seats) {
         Ok(closed) => ended(closed, whole),
@@ -90,7 +89,7 @@ fn unserved<D: Disk>(alloc: Global, store: Store<D>) -> Served<D>
     ensures right { result.right ≡ store.right }
     ensures history { result.history ≡ [] }
     ensures end { result.end ≡ End.NoMemory }
-    ensures order { IsInOrder D.seen D.moment D.left_at store }
+    ensures order { IsInOrder D.at store }
 {
     let (left, right) = store.close();
     Served {

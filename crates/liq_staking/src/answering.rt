@@ -9,7 +9,7 @@ ghost use Rattle.liq_staking.specs.Answering.{CanBeShared, IsAsked, IsOnTheWay};
 ghost use Rattle.liq_staking.specs.Asked.{Asked, nothing_asked, shared, changed, answered, answered_all, shared_up_to};
 ghost use Rattle.liq_staking.specs.Staked.{told_of, row_line};
 
-use crate::told::{put_out_of_place, put_refusal, put_row};
+use crate::told::{OutOfPlace, put_out_of_place, put_refusal, put_row};
 use liq_fees::{CHANGES_MOST, ChangeFault, Fees, StakeLine};
 use liq_text::append_line;
 use liq_types::NoMemory;
@@ -64,7 +64,12 @@ impl Answering {
     {
         let most = fees.len() as u64;
         if line.at < self.least || most < line.at {
-            return Ok(put_out_of_place(&mut self.text, line.at, self.least, most)?);
+            let why = OutOfPlace {
+                at: line.at,
+                least: self.least,
+                most,
+            };
+            return Ok(put_out_of_place(&mut self.text, &why)?);
         }
         share_all(&mut self.fees, fees_between(fees, self.least, line.at));
         self.change(line)

@@ -9,3 +9,4 @@ mod paid;
 mod told;
 
 pub use journal::staked;
+pub use told::OutOfPlace;

@@ -13,21 +13,28 @@ use std::alloc::AllocError;
 /// The code of a line that is out of place.
 const OUT_OF_PLACE: u128 = 44;
 
-/// Appends the reply to a line that is out of place: its record, and the least and the most that it could have been.
-pub(crate) fn put_out_of_place(
-    text: &mut Vec<u8>,
-    at: u64,
-    least: u64,
-    most: u64,
-) -> Result<(), AllocError>
-    ensures { OnOk result (text.new.items
-        ≡ text.old.items ++ words_line (codes "no" ∷ map decimal (44 ∷ at ∷ least ∷ most ∷ []))) }
+/// A line is out of place. Its fields are printed in their order behind its code.
+#[derive(Clone, Copy, PartialEq, Eq)]
+pub struct OutOfPlace {
+    /// The record of the line.
+    pub at: u64,
+    /// The least that it could have been.
+    pub least: u64,
+    /// The most that it could have been.
+    pub most: u64,
+}
+
+/// Appends the reply to a line that is out of place.
+pub(crate) fn put_out_of_place(text: &mut Vec<u8>, why: &OutOfPlace) -> Result<(), AllocError>
+    ensures { OnOk result (text.new.items ≡ text.old.items
+        ++ words_line (codes "no"
+        ∷ map decimal (44 ∷ why.now.at ∷ why.now.least ∷ why.now.most ∷ []))) }
 {
     let numbers = [
         OUT_OF_PLACE,
-        u128::from(at),
-        u128::from(least),
-        u128::from(most),
+        u128::from(why.at),
+        u128::from(why.least),
+        u128::from(why.most),
     ];
     append_line(text, b"no", &numbers)
 }

@@ -1,5 +1,6 @@
 -- What an append leaves of a store.
 use Rattle.std.proofs.Common.{◌≡◌, ◌⊎◌, ◌↔◌, inl, inr, ⊎_elim, ℕ, ◌≤◌, List, [], ◌∷◌, length, Bool, true, false, Option, Some, None, IfSome, IsSome, refl, sym, ◌∙◌, ap, subst, arith, length-append}
+use Rattle.liq_outside.specs.At.{DiskAt}
 use Rattle.liq_outside.specs.Disk.{GoesOn, LeavesOnly, LeftNow, LeftSince, Only}
 use Rattle.liq_outside.proofs.Moments.{at_last, unmoved}
 use Rattle.liq_types.specs.declared.events.ListChange.{ListChange}
@@ -72,24 +73,24 @@ around_has generation start count held image c is (inr (inr stands)) =
     one_record (is_odd generation) generation start count image (and_then is.written c) refl stands.found is.generation_is is.start_is (let n = length-append is.written.commands (c ∷ []) in omega (arith, is.count_is, n))
 
 -- a call that appends the record of an allowed command, on a store that was not stopped
-pub record Appends {D : Type 0} (seen : D → Option (List ℕ)) (moment : D → ℕ) (left_at : D → ℕ → List ℕ → Type 0) (side : Side) (taken new : JournalOn D) (b : D) (core : Core) (c : Command) : Type 0 where
-  pub going : Going seen moment left_at side taken.disk b core
+pub record Appends {D : Type 0} (at : D → DiskAt) (side : Side) (taken new : JournalOn D) (b : D) (core : Core) (c : Command) : Type 0 where
+  pub going : Going at side taken.disk b core
   pub parity : is_odd taken.generation ≡ has_odd side
-  pub settled : IfSome (seen taken.disk) (IsSettled taken.generation taken.start taken.count)
+  pub settled : IfSome (at taken.disk).seen (IsSettled taken.generation taken.start taken.count)
   pub allowed : (s : State) → StandsFor core s → ruling s c ≡ Allowed
-  pub telling : IsSome (seen new.disk) ↔ IsSome (seen taken.disk)
-  pub crash : (held : List ℕ) (w : Written) → seen taken.disk ≡ Some held → Only held (LeftNow moment left_at taken.disk) → Stands (is_odd taken.generation) held w
-      → LeavesOnly moment left_at taken.disk new.disk (BeforeOrAfter (is_odd taken.generation) w (read_back c))
+  pub telling : IsSome (at new.disk).seen ↔ IsSome (at taken.disk).seen
+  pub crash : (held : List ℕ) (w : Written) → (at taken.disk).seen ≡ Some held → Only held (LeftNow at taken.disk) → Stands (is_odd taken.generation) held w
+      → LeavesOnly at taken.disk new.disk (BeforeOrAfter (is_odd taken.generation) w (read_back c))
 
-pub appends : {D : Type 0} {changes : List ListChange} (seen : D → Option (List ℕ)) (moment : D → ℕ) (left_at : D → ℕ → List ℕ → Type 0) (side : Side) (taken new : JournalOn D) (b : D) (core : Core) (stopped : Option ℕ) (c : Command) (plan : Plan)
-    → stopped ≡ None → IsWithin seen moment left_at side taken b core stopped changes
+pub appends : {D : Type 0} {changes : List ListChange} (at : D → DiskAt) (side : Side) (taken new : JournalOn D) (b : D) (core : Core) (stopped : Option ℕ) (c : Command) (plan : Plan)
+    → stopped ≡ None → IsWithin at side taken b core stopped changes
     → ((s : State) → StandsFor core s → (plan.command ≡ unhinted c) × IsPlan s plan)
-    → (IsSome (seen new.disk) ↔ IsSome (seen taken.disk))
-    → ((held : List ℕ) (w : Written) → seen taken.disk ≡ Some held → Only held (LeftNow moment left_at taken.disk) → Stands (is_odd taken.generation) held w
-    → LeavesOnly moment left_at taken.disk new.disk (BeforeOrAfter (is_odd taken.generation) w (read_back c)))
-    → Appends seen moment left_at side taken new b core c
-appends {D} {changes} seen moment left_at side taken new b core stopped c plan none within planned telling crash = record {
-  going = going_by seen moment left_at changes side taken b core stopped none within.order;
+    → (IsSome (at new.disk).seen ↔ IsSome (at taken.disk).seen)
+    → ((held : List ℕ) (w : Written) → (at taken.disk).seen ≡ Some held → Only held (LeftNow at taken.disk) → Stands (is_odd taken.generation) held w
+    → LeavesOnly at taken.disk new.disk (BeforeOrAfter (is_odd taken.generation) w (read_back c)))
+    → Appends at side taken new b core c
+appends {D} {changes} at side taken new b core stopped c plan none within planned telling crash = record {
+  going = going_by at changes side taken b core stopped none within.order;
   parity = within.parity_is;
   settled = within.settled none;
   allowed = λ s stands. prepared_allowed s c plan (planned s stands);
@@ -97,18 +98,18 @@ appends {D} {changes} seen moment left_at side taken new b core stopped c plan n
   crash = crash;
 }
 
-module _ {D : Type 0} (seen : D → Option (List ℕ)) (moment : D → ℕ) (left_at : D → ℕ → List ℕ → Type 0) (side : Side) (taken new : JournalOn D) (b : D) (core : Core) (c : Command)
-    (app : Appends seen moment left_at side taken new b core c) where
-  pub settled_on : (held : List ℕ) → seen taken.disk ≡ Some held → IsSettled taken.generation taken.start taken.count held
+module _ {D : Type 0} (at : D → DiskAt) (side : Side) (taken new : JournalOn D) (b : D) (core : Core) (c : Command)
+    (app : Appends at side taken new b core c) where
+  pub settled_on : (held : List ℕ) → (at taken.disk).seen ≡ Some held → IsSettled taken.generation taken.start taken.count held
   settled_on held told = subst (λ (o : Option (List ℕ)). IfSome o (IsSettled taken.generation taken.start taken.count)) told app.settled
 
   -- what a crash in it may have left of the disk that is taken
-  pub leaves : (held : List ℕ) (told : seen taken.disk ≡ Some held) → LeavesOnly moment left_at taken.disk new.disk (BeforeOrAfter (is_odd taken.generation) (settled_on held told).written (read_back c))
+  pub leaves : (held : List ℕ) (told : (at taken.disk).seen ≡ Some held) → LeavesOnly at taken.disk new.disk (BeforeOrAfter (is_odd taken.generation) (settled_on held told).written (read_back c))
   leaves held told =
-      let only : Only held (LeftNow moment left_at taken.disk) = subst (λ (o : Option (List ℕ)). IfSome o (λ l. Only l (LeftNow moment left_at taken.disk))) told app.going.taken_rests in
+      let only : Only held (LeftNow at taken.disk) = subst (λ (o : Option (List ℕ)). IfSome o (λ l. Only l (LeftNow at taken.disk))) told app.going.taken_rests in
       app.crash held (settled_on held told).written told only (settled_on held told).stands
 
-  around : (held other image : List ℕ) (told : seen taken.disk ≡ Some held) → seen b ≡ Some other → (s : State) → StandsFor core s
+  around : (held other image : List ℕ) (told : (at taken.disk).seen ≡ Some held) → (at b).seen ≡ Some other → (s : State) → StandsFor core s
       → BeforeOrAfter (is_odd taken.generation) (settled_on held told).written (read_back c) image → IsKept (on side image other) (on side other image) s ⊎ IsKept (on side image other) (on side other image) (after s (read_back c))
   around held other image told to s stands left =
       let is = settled_on held told in
@@ -118,58 +119,58 @@ module _ {D : Type 0} (seen : D → Option (List ℕ)) (moment : D → ℕ) (lef
       (subst (λ (o : Bool). BeforeOrAfter o is.written (read_back c) image) app.parity left)
 
   -- every pair that a crash in it may have left
-  kept_pairs : (held other : List ℕ) (s : State) → seen taken.disk ≡ Some held → seen b ≡ Some other → StandsFor core s
-      → (x y : List ℕ) → LeftSince moment left_at new.disk (moment taken.disk) x → LeftSince moment left_at b (moment b) y → IsKeptAround s (Do c) (on side x y) (on side y x)
+  kept_pairs : (held other : List ℕ) (s : State) → (at taken.disk).seen ≡ Some held → (at b).seen ≡ Some other → StandsFor core s
+      → (x y : List ℕ) → LeftSince at new.disk (at taken.disk).moment x → LeftSince at b (at b).moment y → IsKeptAround s (Do c) (on side x y) (on side y x)
   kept_pairs held other s told to stands x y lx ly =
-      let same : y ≡ other = rest_only seen moment left_at b other to app.going.beside_rests y ly in
+      let same : y ≡ other = rest_only at b other to app.going.beside_rests y ly in
       let one : (step s (Do c)).0 ≡ after s (read_back c) = step_is_after s c (app.allowed s stands) ∙ sym (heard_after s c) in
       let kept = around held other x told to s stands ((leaves held told).each x lx) in
       subst (λ (z : List ℕ). IsKeptAround s (Do c) (on side x z) (on side z x)) (sym same)
       (⊎_elim (λ before. inl before) (λ more. inr (subst (λ (t : State). IsKept (on side x other) (on side other x) t) (sym one) more)) kept)
 
   -- every pair that a crash after it may leave
-  pub kept_near : (now other x y : List ℕ) → seen new.disk ≡ Some now → seen b ≡ Some other → LeftNow moment left_at new.disk x → LeftNow moment left_at b y
+  pub kept_near : (now other x y : List ℕ) → (at new.disk).seen ≡ Some now → (at b).seen ≡ Some other → LeftNow at new.disk x → LeftNow at b y
       → (s : State) → StandsFor core s → IsKeptNear s (on side x y) (on side y x)
   kept_near now other x y tn to lx ly s stands =
-      let before = told_too (seen new.disk) (seen taken.disk) (app.telling.1, app.telling.0) now tn in
-      let same : y ≡ other = rest_now seen moment left_at b other to app.going.beside_rests y ly in
-      let left = at_last moment left_at taken.disk new.disk _ (leaves before.0 before.1) x lx in
+      let before = told_too (at new.disk).seen (at taken.disk).seen (app.telling.1, app.telling.0) now tn in
+      let same : y ≡ other = rest_now at b other to app.going.beside_rests y ly in
+      let left = at_last at taken.disk new.disk _ (leaves before.0 before.1) x lx in
       let kept = around before.0 other x before.1 to s stands left in
       subst (λ (z : List ℕ). IsKeptNear s (on side x z) (on side z x)) (sym same)
       (⊎_elim (λ still. inl still) (λ then. inr (read_back c, heard_ruling s c ∙ app.allowed s stands, then)) kept)
 
   -- the records before it are there after it, whatever became of it
-  pub still_has : ((disk : D) (held : List ℕ) → seen disk ≡ Some held → LeftNow moment left_at disk held) → IfSome (seen new.disk) (HasRecords taken.generation taken.start taken.count)
-  still_has stays = by (seen new.disk) refl
+  pub still_has : ((disk : D) (held : List ℕ) → (at disk).seen ≡ Some held → LeftNow at disk held) → IfSome (at new.disk).seen (HasRecords taken.generation taken.start taken.count)
+  still_has stays = by (at new.disk).seen refl
     where
-      by : (o : Option (List ℕ)) → seen new.disk ≡ o → IfSome o (HasRecords taken.generation taken.start taken.count)
+      by : (o : Option (List ℕ)) → (at new.disk).seen ≡ o → IfSome o (HasRecords taken.generation taken.start taken.count)
       by None none = tt
       by (Some now) told =
-          let before = told_too (seen new.disk) (seen taken.disk) (app.telling.1, app.telling.0) now told in
-          let left = at_last moment left_at taken.disk new.disk _ (leaves before.0 before.1) now (stays new.disk now told) in
+          let before = told_too (at new.disk).seen (at taken.disk).seen (app.telling.1, app.telling.0) now told in
+          let left = at_last at taken.disk new.disk _ (leaves before.0 before.1) now (stays new.disk now told) in
           around_has taken.generation taken.start taken.count before.0 now (read_back c) (settled_on before.0 before.1) left
 
   -- ---- what it does to the disks
 
-  written_as : (held : List ℕ) (w : Written) → seen taken.disk ≡ Some held → found_on (has_odd side) held ≡ Open w → LeavesOnly moment left_at taken.disk new.disk (BeforeOrAfter (has_odd side) w (read_back c))
+  written_as : (held : List ℕ) (w : Written) → (at taken.disk).seen ≡ Some held → found_on (has_odd side) held ≡ Open w → LeavesOnly at taken.disk new.disk (BeforeOrAfter (has_odd side) w (read_back c))
   written_as held w told found =
       let is = settled_on held told in
       let opens : Open is.written ≡ Open w = sym is.stands.found ∙ subst (λ (o : Bool). found_on o held ≡ Open w) (sym app.parity) found in
       let one : is.written ≡ w = cc (opens) in
-      subst (λ (o : Bool). LeavesOnly moment left_at taken.disk new.disk (BeforeOrAfter o w (read_back c))) app.parity
-      (subst (λ (v : Written). LeavesOnly moment left_at taken.disk new.disk (BeforeOrAfter (is_odd taken.generation) v (read_back c))) one (leaves held told))
+      subst (λ (o : Bool). LeavesOnly at taken.disk new.disk (BeforeOrAfter o w (read_back c))) app.parity
+      (subst (λ (v : Written). LeavesOnly at taken.disk new.disk (BeforeOrAfter (is_odd taken.generation) v (read_back c))) one (leaves held told))
 
   not_one : (s : State) → is_rotate c.call ≡ false → is_rotation s (Do c) ≡ true → ⊥
   not_one s stays rotation = let no : true ≡ false = sym rotation ∙ other_stays s c stays in absurd (cc (no))
 
   pub appends_on : {before : List ListChange} (old : Stored D) (stopped : Option ℕ) → stored side taken b core stopped before ≡ old → (request : Request) → request ≡ Do c → is_rotate c.call ≡ false
-      → new.start ≡ taken.start → GoesOn moment left_at taken.disk new.disk → (a : Answer) → (a ≡ answer.NoMemory → ⊥) → (next : Core) (later : Option ℕ) (changes : List ListChange)
-      → WritesOn seen moment left_at old request a (stored side new b next later changes)
+      → new.start ≡ taken.start → GoesOn at taken.disk new.disk → (a : Answer) → (a ≡ answer.NoMemory → ⊥) → (next : Core) (later : Option ℕ) (changes : List ListChange)
+      → WritesOn at old request a (stored side new b next later changes)
   appends_on {before} old stopped same request is stays start time a some next later changes =
       let new_store = stored side new b next later changes in
-      subst (λ (o : Stored D). WritesOn seen moment left_at o request a new_store) same
-      (subst (λ (q : Request). WritesOn seen moment left_at (stored side taken b core stopped before) q a new_store) (sym is)
-      (writes_on seen moment left_at side side core next taken.start new.start stopped later before changes (Do c) a taken.disk b new.disk b
+      subst (λ (o : Stored D). WritesOn at o request a new_store) same
+      (subst (λ (q : Request). WritesOn at (stored side taken b core stopped before) q a new_store) (sym is)
+      (writes_on at side side core next taken.start new.start stopped later before changes (Do c) a taken.disk b new.disk b
       (record {
         side_is = λ s stands. sym (answer_stays a s (Do c) side taken.start (other_stays s c stays)).0;
         start_is = λ s stands. start ∙ sym (answer_stays a s (Do c) side taken.start (other_stays s c stays)).1;
@@ -178,28 +179,28 @@ module _ {D : Type 0} (seen : D → Option (List ℕ)) (moment : D → ℕ) (lef
         unwritten = λ s stands refused. absurd (refused (app.allowed s stands));
         no_memory = λ none. absurd (some none);
         written = λ none held w k told found is_k. let one : c ≡ k = cc (is_k) in
-            subst (λ (d : Command). LeavesOnly moment left_at taken.disk new.disk (BeforeOrAfter (has_odd side) w (read_back d))) one (written_as held w told found);
+            subst (λ (d : Command). LeavesOnly at taken.disk new.disk (BeforeOrAfter (has_odd side) w (read_back d))) one (written_as held w told found);
         created = λ none s stands held k told is_k rotation. absurd (not_one s stays rotation);
         kept = λ none held other s th to stands x y lx ly. kept_pairs held other s th to stands x y lx ly;
         taken_telling = app.telling;
         aside_telling = (λ told. told, λ told. told);
         taken_time = time;
-        aside_time = unmoved moment left_at b;
+        aside_time = unmoved at b;
       })))
 
   -- ---- the record is on the disk, and the step is made
 
-  pub went_on : (then : Core) (s : State) → StandsFor core s → ((t : State) → StandsFor core t → StandsFor then (after t c)) → IsAtRest seen moment left_at new.disk
-      → ((held : List ℕ) (w : Written) → seen taken.disk ≡ Some held → Stands (is_odd taken.generation) held w → (now : List ℕ) × (seen new.disk ≡ Some now) × Stands (is_odd taken.generation) now (and_then w (read_back c)))
-      → Going seen moment left_at side new.disk b then
+  pub went_on : (then : Core) (s : State) → StandsFor core s → ((t : State) → StandsFor core t → StandsFor then (after t c)) → IsAtRest at new.disk
+      → ((held : List ℕ) (w : Written) → (at taken.disk).seen ≡ Some held → Stands (is_odd taken.generation) held w → (now : List ℕ) × ((at new.disk).seen ≡ Some now) × Stands (is_odd taken.generation) now (and_then w (read_back c)))
+      → Going at side new.disk b then
   went_on then s stands steps rests appended = record {
     taken_rests = rests;
     beside_rests = app.going.beside_rests;
     settled = λ now other tn to t so.
-        let before = told_too (seen new.disk) (seen taken.disk) (app.telling.1, app.telling.0) now tn in
+        let before = told_too (at new.disk).seen (at taken.disk).seen (app.telling.1, app.telling.0) now tn in
         let is = settled_on before.0 before.1 in
         let one = appended before.0 is.written before.1 is.stands in
-        let same : one.0 ≡ now = some_same one.0 now (seen new.disk) one.1 tn in
+        let same : one.0 ≡ now = some_same one.0 now (at new.disk).seen one.1 tn in
         let last : Stands (has_odd side) now (and_then is.written (read_back c)) = subst (λ (o : Bool). Stands o now (and_then is.written (read_back c))) app.parity (subst (λ (l : List ℕ). Stands (is_odd taken.generation) l (and_then is.written (read_back c))) same one.2) in
         let settled = settled_after side before.0 other now s is.written (read_back c) (app.going.settled before.0 other before.1 to s stands)
         (subst (λ (o : Bool). found_on o before.0 ≡ Open is.written) app.parity is.stands.found) (heard_ruling s c ∙ app.allowed s stands) last in

@@ -3,6 +3,7 @@ use Rattle.std.proofs.Common.{◌<◌, ◌≤◌, ◌≡◌, inl, inr, ⊎_elim,
 use Rattle.std.proofs.lemmas.Bool.Decides.{nat_tests}
 use Rattle.liq_types.specs.declared.image.Image.{Image}
 use Rattle.liq_types.specs.State.{State, opening}
+use Rattle.liq_outside.specs.At.{DiskAt}
 use Rattle.liq_core.specs.Core.{Core, StandsFor}
 use Rattle.liq_journal.specs.Crash.{IsClosed, Stands, beginning, is_odd}
 use Rattle.liq_journal.specs.Opened.{IsUnshut}
@@ -37,14 +38,14 @@ use Rattle.liq_store.proofs.Going.{Going, order_going, taken_is, told_by}
 use Rattle.liq_store.proofs.OneDisk.{some_same, told_too}
 
 -- what holds of a store that begins
-pub within_of : {D : Type 0} (seen : D → Option (List ℕ)) (moment : D → ℕ) (left_at : D → ℕ → List ℕ → Type 0) (side : Side) (taken : JournalOn D) (b : D) (core : Core) → Going seen moment left_at side taken.disk b core
-    → is_odd taken.generation ≡ has_odd side → HasCounts taken.generation taken.count core → IfSome (seen taken.disk) (IsSettled taken.generation taken.start taken.count) → IsWithin seen moment left_at side taken b core None []
-within_of seen moment left_at side taken b core going parity counts settled = record {
-  order = order_going seen moment left_at side taken b core going;
+pub within_of : {D : Type 0} (at : D → DiskAt) (side : Side) (taken : JournalOn D) (b : D) (core : Core) → Going at side taken.disk b core
+    → is_odd taken.generation ≡ has_odd side → HasCounts taken.generation taken.count core → IfSome (at taken.disk).seen (IsSettled taken.generation taken.start taken.count) → IsWithin at side taken b core None []
+within_of at side taken b core going parity counts settled = record {
+  order = order_going at side taken b core going;
   generation_is = counts.generation_is;
   parity_is = parity;
   count_is = counts.count_is;
-  told = all_has (seen taken.disk) taken.generation taken.start taken.count settled;
+  told = all_has (at taken.disk).seen taken.generation taken.start taken.count settled;
   settled = λ none. settled;
 }
 
@@ -147,29 +148,29 @@ later_than left right core later side counted counted_right is =
     later_of left.generation right.generation side (parity_of true left.generation counted.0) (parity_of false right.generation counted_right.0)
     (ap₂ later_side counted.1.generation_is counted_right.1.generation_is ∙ is)
 
-module _ {D : Type 0} (seen : D → Option (List ℕ)) (moment : D → ℕ) (left_at : D → ℕ → List ℕ → Type 0) where
-  told_on : (odd : Bool) (stood : Stood D) → IsStoodOn seen moment left_at odd stood → (now : List ℕ) → seen (disk_of stood) ≡ Some now → IsStanding odd now stood
+module _ {D : Type 0} (at : D → DiskAt) where
+  told_on : (odd : Bool) (stood : Stood D) → IsStoodOn at odd stood → (now : List ℕ) → (at (disk_of stood)).seen ≡ Some now → IsStanding odd now stood
   told_on odd stood is now told = subst (λ (o : Option (List ℕ)). IfSome o (λ l. IsStanding odd l stood)) told is.told
 
   -- ---- a journal that goes on, beside which no later one is
 
   module _ (side : Side) (taken : JournalOn D) (core : Core) (aside : Stood D)
-      (is : IsStoodOn seen moment left_at (has_odd side) (Holding taken core)) (is_beside : IsStoodOn seen moment left_at (has_odd (other side)) aside)
+      (is : IsStoodOn at (has_odd side) (Holding taken core)) (is_beside : IsStoodOn at (has_odd (other side)) aside)
       (earlier_one : IsEarlier taken.generation aside) where
     parity : is_odd taken.generation ≡ has_odd side
     parity = parity_of (has_odd side) taken.generation is.counted.0
 
-    here_on : (held : List ℕ) → seen taken.disk ≡ Some held → IsStanding (has_odd side) held (Holding taken core)
+    here_on : (held : List ℕ) → (at taken.disk).seen ≡ Some held → IsStanding (has_odd side) held (Holding taken core)
     here_on held told = told_on (has_odd side) (Holding taken core) is held told
 
-    aside_on : (held now : List ℕ) (told : seen taken.disk ≡ Some held) → seen (disk_of aside) ≡ Some now
+    aside_on : (held now : List ℕ) (told : (at taken.disk).seen ≡ Some held) → (at (disk_of aside)).seen ≡ Some now
         → IsAside (has_odd (other side)) now (here_on held told).1.written.generation
     aside_on held now told told_beside =
         subst (λ (n : ℕ). IsAside (has_odd (other side)) now n) (sym (here_on held told).1.generation_is)
         (aside_of (has_odd (other side)) aside now taken.generation is_beside.counted earlier_one (told_on (has_odd (other side)) aside is_beside now told_beside))
 
-    pub begins : IsWithin seen moment left_at side taken (disk_of aside) core None []
-    begins = within_of seen moment left_at side taken (disk_of aside) core
+    pub begins : IsWithin at side taken (disk_of aside) core None []
+    begins = within_of at side taken (disk_of aside) core
         (record {
           taken_rests = is.rests;
           beside_rests = is_beside.rests;
@@ -178,19 +179,19 @@ module _ {D : Type 0} (seen : D → Option (List ℕ)) (moment : D → ℕ) (lef
               settled_with side held now here.1.written s (record { state = here.1.state; came = here.1.came; alike = core_alike core here.1.state s here.1.stands stands })
               (aside_on held now th ta) (stood (has_odd side) held taken.generation taken.start taken.count core parity here.0 here.1);
         })
-        parity is.counted.1 (settled_told (seen taken.disk) is.told)
+        parity is.counted.1 (settled_told (at taken.disk).seen is.told)
       where
         settled_told : (o : Option (List ℕ)) → IfSome o (λ now. IsStanding (has_odd side) now (Holding taken core)) → IfSome o (IsSettled taken.generation taken.start taken.count)
         settled_told None none_told = tt
         settled_told (Some now) standing = standing.0
 
-    begins_for : (held now : List ℕ) → seen taken.disk ≡ Some held → seen (disk_of aside) ≡ Some now
+    begins_for : (held now : List ℕ) → (at taken.disk).seen ≡ Some held → (at (disk_of aside)).seen ≡ Some now
         → (s : State) × (state_on (on side held now) (on side now held) ≡ Ok s) × StandsFor core s
     begins_for held now th ta =
         let here = (here_on held th).1 in
         (here.state, state_with side held now here.written here.state here.found here.came (aside_on held now th ta), here.stands)
 
-    holds_for : (held now : List ℕ) → seen taken.disk ≡ Some held → seen (disk_of aside) ≡ Some now
+    holds_for : (held now : List ℕ) → (at taken.disk).seen ≡ Some held → (at (disk_of aside)).seen ≡ Some now
         → HoldsCommands (has_odd side) held taken.start (commands_on (on side held now) (on side now held))
     holds_for held now th ta =
         let here = here_on held th in
@@ -203,25 +204,25 @@ module _ {D : Type 0} (seen : D → Option (List ℕ)) (moment : D → ℕ) (lef
         }
 
     -- the store that goes on with it
-    pub begins_opened : (faults : D → ℕ) → OpensOn seen faults (on side taken.disk (disk_of aside)) (on side (disk_of aside) taken.disk) (stored side taken (disk_of aside) core None [])
-    begins_opened faults = record {
-      state = told_by seen side taken.disk (disk_of aside) (λ l r. (s : State) × (state_on l r ≡ Ok s) × StandsFor core s) begins_for;
+    pub begins_opened : OpensOn at (on side taken.disk (disk_of aside)) (on side (disk_of aside) taken.disk) (stored side taken (disk_of aside) core None [])
+    begins_opened = record {
+      state = told_by at side taken.disk (disk_of aside) (λ l r. (s : State) × (state_on l r ≡ Ok s) × StandsFor core s) begins_for;
       commands = λ l r now tl tr tn.
-          told_by seen side taken.disk (disk_of aside) (λ x y. seen taken.disk ≡ Some now → HoldsCommands (has_odd side) now taken.start (commands_on x y))
-          (λ held other_held th ta told. let same = some_same held now (seen taken.disk) th told in
+          told_by at side taken.disk (disk_of aside) (λ x y. (at taken.disk).seen ≡ Some now → HoldsCommands (has_odd side) now taken.start (commands_on x y))
+          (λ held other_held th ta told. let same = some_same held now (at taken.disk).seen th told in
           subst (λ (m : List ℕ). HoldsCommands (has_odd side) m taken.start (commands_on (on side held other_held) (on side other_held held))) same (holds_for held other_held th ta))
-          l r tl tr (ap seen (sym (taken_is side taken.disk (disk_of aside))) ∙ tn);
+          l r tl tr (ap (λ (d : D). (at d).seen) (sym (taken_is side taken.disk (disk_of aside))) ∙ tn);
       going = refl;
       counts = refl;
       stays = λ l r x y tl tr tx ty.
-          ap₂ state_on (some_same x l (seen (on side taken.disk (disk_of aside))) tx tl) (some_same y r (seen (on side (disk_of aside) taken.disk)) ty tr);
+          ap₂ state_on (some_same x l (at (on side taken.disk (disk_of aside))).seen tx tl) (some_same y r (at (on side (disk_of aside) taken.disk)).seen ty tr);
     }
 
     -- where none is open beside it, the gate there is shut
-    pub begins_shut : IfSome (seen (disk_beside (stored side taken (disk_of aside) core None []))) (λ now. found_on (has_odd (other side)) now ≡ Absent → IsUnshut now → ⊥)
+    pub begins_shut : IfSome (at (disk_beside (stored side taken (disk_of aside) core None []))).seen (λ now. found_on (has_odd (other side)) now ≡ Absent → IsUnshut now → ⊥)
     begins_shut =
-        subst (λ (d : D). IfSome (seen d) (λ now. found_on (has_odd (other side)) now ≡ Absent → IsUnshut now → ⊥)) (sym (beside_is side taken.disk (disk_of aside)))
-        (by (seen (disk_of aside)) is_beside.told)
+        subst (λ (d : D). IfSome (at d).seen (λ now. found_on (has_odd (other side)) now ≡ Absent → IsUnshut now → ⊥)) (sym (beside_is side taken.disk (disk_of aside)))
+        (by (at (disk_of aside)).seen is_beside.told)
       where
         by : (o : Option (List ℕ)) → IfSome o (λ now. IsStanding (has_odd (other side)) now aside) → IfSome o (λ now. found_on (has_odd (other side)) now ≡ Absent → IsUnshut now → ⊥)
         by None none_told = tt
@@ -239,52 +240,52 @@ module _ {D : Type 0} (seen : D → Option (List ℕ)) (moment : D → ℕ) (lef
   }
 
   pub begins_anew : (old b : D) (taken : JournalOn D) (core : Core) → taken.generation ≡ 1 → taken.count ≡ 0 → StandsFor core opening
-      → (IsSome (seen taken.disk) ↔ IsSome (seen old))
-      → ((held : List ℕ) → seen old ≡ Some held → (now : List ℕ) × (seen taken.disk ≡ Some now) × Stands true now (beginning 1 []))
-      → IfSome (seen taken.disk) (IsSettled taken.generation taken.start taken.count) → IsAtRest seen moment left_at taken.disk → IsAtRest seen moment left_at b → IfSome (seen b) (λ now. IsUnshut now → ⊥)
-      → IsWithin seen moment left_at Left taken b core None []
+      → (IsSome (at taken.disk).seen ↔ IsSome (at old).seen)
+      → ((held : List ℕ) → (at old).seen ≡ Some held → (now : List ℕ) × ((at taken.disk).seen ≡ Some now) × Stands true now (beginning 1 []))
+      → IfSome (at taken.disk).seen (IsSettled taken.generation taken.start taken.count) → IsAtRest at taken.disk → IsAtRest at b → IfSome (at b).seen (λ now. IsUnshut now → ⊥)
+      → IsWithin at Left taken b core None []
   begins_anew old b taken core one none stands telling created settled rests beside_rests closed =
-      within_of seen moment left_at Left taken b core
+      within_of at Left taken b core
       (record {
         taken_rests = rests;
         beside_rests = beside_rests;
         settled = λ held aside th ta s so.
-            let before = told_too (seen taken.disk) (seen old) (telling.1, telling.0) held th in
+            let before = told_too (at taken.disk).seen (at old).seen (telling.1, telling.0) held th in
             let made = created before.0 before.1 in
-            let same : made.0 ≡ held = some_same made.0 held (seen taken.disk) made.1 th in
+            let same : made.0 ≡ held = some_same made.0 held (at taken.disk).seen made.1 th in
             let shut : IsClosed aside = closed_where aside (subst (λ (o : Option (List ℕ)). IfSome o (λ now. IsUnshut now → ⊥)) ta closed) in
             first_settled held aside (beginning 1 []) s (core_alike core opening s stands so) (subst (λ (l : List ℕ). Stands true l (beginning 1 [])) same made.2) refl refl refl shut;
       })
       (ap is_odd one) (counts_first core taken.generation taken.count one none stands) settled
 
-  stays_anew : (old b : D) (taken : JournalOn D) (l r x y : List ℕ) → ((held : List ℕ) → seen old ≡ Some held → (now : List ℕ) × (seen taken.disk ≡ Some now) × Stands true now (beginning 1 []))
-      → IsClosed l → IsClosed r → seen old ≡ Some l → seen b ≡ Some r → seen taken.disk ≡ Some x → seen b ≡ Some y → state_on x y ≡ state_on l r
+  stays_anew : (old b : D) (taken : JournalOn D) (l r x y : List ℕ) → ((held : List ℕ) → (at old).seen ≡ Some held → (now : List ℕ) × ((at taken.disk).seen ≡ Some now) × Stands true now (beginning 1 []))
+      → IsClosed l → IsClosed r → (at old).seen ≡ Some l → (at b).seen ≡ Some r → (at taken.disk).seen ≡ Some x → (at b).seen ≡ Some y → state_on x y ≡ state_on l r
   stays_anew old b taken l r x y created left right tl tr tx ty =
       let made = created l tl in
-      let same : made.0 ≡ x = some_same made.0 x (seen taken.disk) made.1 tx in
-      let one : r ≡ y = some_same r y (seen b) tr ty in
+      let same : made.0 ≡ x = some_same made.0 x (at taken.disk).seen made.1 tx in
+      let one : r ≡ y = some_same r y (at b).seen tr ty in
       created_state l r x y (closed_absent true l left) (closed_absent false r right) (subst (λ (m : List ℕ). Stands true m (beginning 1 [])) same made.2)
       (closed_absent false y (subst IsClosed one right))
 
-  shut_so : (disk : D) (held : List ℕ) → seen disk ≡ Some held → IfSome (seen disk) (λ now. IsUnshut now → ⊥) → IsClosed held
+  shut_so : (disk : D) (held : List ℕ) → (at disk).seen ≡ Some held → IfSome (at disk).seen (λ now. IsUnshut now → ⊥) → IsClosed held
   shut_so disk held told shut = closed_where held (subst (λ (o : Option (List ℕ)). IfSome o (λ now. IsUnshut now → ⊥)) told shut)
 
   -- the store that goes on with it
-  pub anew_opened : (faults : D → ℕ) (old b : D) (taken : JournalOn D) (core : Core) → StandsFor core opening → faults taken.disk ≡ faults old → taken.start ≡ start_of (beginning 1 [])
-      → ((held : List ℕ) → seen old ≡ Some held → (now : List ℕ) × (seen taken.disk ≡ Some now) × Stands true now (beginning 1 []))
-      → IfSome (seen old) (λ now. IsUnshut now → ⊥) → IfSome (seen b) (λ now. IsUnshut now → ⊥)
-      → OpensOn seen faults old b (stored Left taken b core None [])
-  anew_opened faults old b taken core stands count start created shut shut_beside = record {
+  pub anew_opened : (old b : D) (taken : JournalOn D) (core : Core) → StandsFor core opening → (at taken.disk).faults ≡ (at old).faults → taken.start ≡ start_of (beginning 1 [])
+      → ((held : List ℕ) → (at old).seen ≡ Some held → (now : List ℕ) × ((at taken.disk).seen ≡ Some now) × Stands true now (beginning 1 []))
+      → IfSome (at old).seen (λ now. IsUnshut now → ⊥) → IfSome (at b).seen (λ now. IsUnshut now → ⊥)
+      → OpensOn at old b (stored Left taken b core None [])
+  anew_opened old b taken core stands count start created shut shut_beside = record {
     state = λ l r tl tr. none_for l r core (shut_so old l tl shut) (shut_so b r tr shut_beside) stands;
     commands = λ l r now tl tr tn.
         let made = created l tl in
         record {
           written = beginning 1 [];
-          found = ap (found_on true) (some_same now made.0 (seen taken.disk) tn made.1) ∙ made.2.found;
+          found = ap (found_on true) (some_same now made.0 (at taken.disk).seen tn made.1) ∙ made.2.found;
           begins = sym start;
           are = sym (commands_by l r Absent Absent (closed_absent true l (shut_so old l tl shut)) (closed_absent false r (shut_so b r tr shut_beside)));
         };
     going = refl;
-    counts = ap (λ (n : ℕ). record (counts_of faults old b) { left = n }) count;
+    counts = ap (λ (n : ℕ). record (counts_of at old b) { left = n }) count;
     stays = λ l r x y tl tr tx ty. stays_anew old b taken l r x y created (shut_so old l tl shut) (shut_so b r tr shut_beside) tl tr tx ty;
   }

@@ -1,6 +1,7 @@
 -- A store that begins tells its list: what was known of it still holds.
-use Rattle.std.proofs.Common.{◌≡◌, ◌≢◌, ◌∙◌, ℕ, List, Option, None, Result, Ok, Err, IfOk, IfErr, sym, ap, ap₂, subst}
+use Rattle.std.proofs.Common.{◌≡◌, ◌≢◌, ◌∙◌, List, None, Result, Ok, Err, IfOk, IfErr, sym, ap, ap₂, subst}
 use Rattle.liq_types.specs.declared.events.ListChange.{ListChange}
+use Rattle.liq_outside.specs.At.{DiskAt}
 use Rattle.liq_core.specs.Core.{Core}
 use Rattle.liq_store.specs.declared.answers.StoreFault.{StoreFault}
 use Rattle.liq_store.specs.declared.answers.StoreWhy.TheVariants as why
@@ -37,36 +38,36 @@ module _ {D : Type 0} (store : Stored D) (result : Result (Stored D) (StoreFault
       by (Ok listed) so refuses = (ap (λ (o : Stored D). o.left) so, ap (λ (o : Stored D). o.right) so)
       by (Err e) so refuses = (refuses.0, refuses.1)
 
-  module _ (seen : D → Option (List ℕ)) (faults : D → ℕ) (left right : D) (opened : OpensOn seen faults left right store) where
-    pub listed_opened : IfOk result (OpensOn seen faults left right)
-    listed_opened = still_so (OpensOn seen faults left right)
+  module _ (at : D → DiskAt) (left right : D) (opened : OpensOn at left right store) where
+    pub listed_opened : IfOk result (OpensOn at left right)
+    listed_opened = still_so (OpensOn at left right)
         (λ changes. record { state = opened.state; commands = opened.commands; going = opened.going; counts = opened.counts; stays = opened.stays })
 
-    pub unlisted : IfErr result (IsUnbegun seen faults left right)
+    pub unlisted : IfErr result (IsUnbegun at left right)
     unlisted = by result refused
       where
-        by : (r : Result (Stored D) (StoreFault D)) → IfErr r (λ e. (e.left ≡ store.left) × (e.right ≡ store.right) × (e.why ≡ why.NoMemory)) → IfErr r (IsUnbegun seen faults left right)
+        by : (r : Result (Stored D) (StoreFault D)) → IfErr r (λ e. (e.left ≡ store.left) × (e.right ≡ store.right) × (e.why ≡ why.NoMemory)) → IfErr r (IsUnbegun at left right)
         by (Ok listed) refuses = tt
-        by (Err e) refuses = subst (IsUnbegunBy seen faults left right e) (sym refuses.2) (record {
-          counts = ap₂ (counts_of faults) refuses.0 refuses.1 ∙ opened.counts;
-          stays = λ l r a b tl tr ta tb. opened.stays l r a b tl tr (ap seen (sym refuses.0) ∙ ta) (ap seen (sym refuses.1) ∙ tb);
+        by (Err e) refuses = subst (IsUnbegunBy at left right e) (sym refuses.2) (record {
+          counts = ap₂ (counts_of at) refuses.0 refuses.1 ∙ opened.counts;
+          stays = λ l r a b tl tr ta tb. opened.stays l r a b tl tr (ap (λ (d : D). (at d).seen) (sym refuses.0) ∙ ta) (ap (λ (d : D). (at d).seen) (sym refuses.1) ∙ tb);
         })
 
   -- where there is no memory for it nothing is pending
-  module _ (seen : D → Option (List ℕ)) (moment : D → ℕ) (left_at : D → ℕ → List ℕ → Type 0) where
+  module _ (at : D → DiskAt) where
     abbrev Rests : StoreFault D → Type 0
-    Rests e = e.why ≢ why.DiskFault → IsAtRest seen moment left_at e.left × IsAtRest seen moment left_at e.right
+    Rests e = e.why ≢ why.DiskFault → IsAtRest at e.left × IsAtRest at e.right
 
-    pub unlisted_rests : store.stopped ≡ None → IsInOrder seen moment left_at store → IfErr result Rests
+    pub unlisted_rests : store.stopped ≡ None → IsInOrder at store → IfErr result Rests
     unlisted_rests none order = by result refused
       where
-        going : IsGoing seen moment left_at store
-        going = going_of seen moment left_at store none order
+        going : IsGoing at store
+        going = going_of at store none order
 
         by : (r : Result (Stored D) (StoreFault D))
             → IfErr r (λ e. (e.left ≡ store.left) × (e.right ≡ store.right) × (e.why ≡ why.NoMemory)) → IfErr r Rests
         by (Ok listed) refuses = tt
         by (Err e) refuses = λ cause. (
-          subst (IsAtRest seen moment left_at) (sym refuses.0) going.left,
-          subst (IsAtRest seen moment left_at) (sym refuses.1) going.right,
+          subst (IsAtRest at) (sym refuses.0) going.left,
+          subst (IsAtRest at) (sym refuses.1) going.right,
         )

@@ -1,5 +1,6 @@
 -- What an opening of two disks finds and leaves, by what it finds and leaves of each.
 use Rattle.std.proofs.Common.{◌≡◌, ◌≢◌, ◌⊎◌, inl, inr, ◌↔◌, ℕ, List, [], Option, Some, None, IfSome, IsSome, Bool, true, false, Result, Ok, Err, IfOk, IfErr, refl, sym, ◌∙◌, ap, ap₂, subst, arith, ◌≤◌, ⊎_elim}
+use Rattle.liq_outside.specs.At.{DiskAt}
 use Rattle.liq_outside.specs.Disk.{GoesOn, LeavesOnly, LeftNow, Only}
 use Rattle.liq_outside.specs.Faults.{Rose}
 use Rattle.liq_outside.proofs.Moments.{chained, weaker}
@@ -38,31 +39,31 @@ use Rattle.liq_store.specs.Stored.{Stored}
 use Rattle.liq_store.proofs.OneDisk.{told_too}
 
 -- All that is said of one disk that was opened and tested, whole: what `stand` ensures of it.
-abbrev pub StandsAs : {D : Type 0} (seen : D → Option (List ℕ)) (moment : D → ℕ) (left_at : D → ℕ → List ℕ → Type 0) (faults : D → ℕ) (odd : Bool) (old : D) (result : Result (Stood D) (StandFault D)) → Type 0
-StandsAs seen moment left_at faults odd old result = record {
-  found : (held : List ℕ) → seen old ≡ Some held → IsFoundOn odd held result;
-  left : IfSome (seen (disk_in result)) (λ after. IsLeftOn after result);
-  same : IsFaultless result → (held after : List ℕ) → seen old ≡ Some held → seen (disk_in result) ≡ Some after → found_on odd after ≡ found_on odd held;
-  shut : IsFaultless result → (held after : List ℕ) → seen old ≡ Some held → seen (disk_in result) ≡ Some after → OnlyShuts odd held after;
-  rest : IsFaultless result → IsAtRest seen moment left_at (disk_in result);
+abbrev pub StandsAs : {D : Type 0} (at : D → DiskAt) (odd : Bool) (old : D) (result : Result (Stood D) (StandFault D)) → Type 0
+StandsAs at odd old result = record {
+  found : (held : List ℕ) → (at old).seen ≡ Some held → IsFoundOn odd held result;
+  left : IfSome (at (disk_in result)).seen (λ after. IsLeftOn after result);
+  same : IsFaultless result → (held after : List ℕ) → (at old).seen ≡ Some held → (at (disk_in result)).seen ≡ Some after → found_on odd after ≡ found_on odd held;
+  shut : IsFaultless result → (held after : List ℕ) → (at old).seen ≡ Some held → (at (disk_in result)).seen ≡ Some after → OnlyShuts odd held after;
+  rest : IsFaultless result → IsAtRest at (disk_in result);
   journal : IfOk result (IsCounted odd);
-  crash : CrashOfOpen seen moment left_at old (disk_in result) odd;
-  reads : ReadsOfOpen seen old (disk_in result) odd;
-  telling : IsSome (seen (disk_in result)) ↔ IsSome (seen old);
-  time : GoesOn moment left_at old (disk_in result);
-  cause : CountsStand result (faults old) (faults (disk_in result));
+  crash : CrashOfOpen at old (disk_in result) odd;
+  reads : ReadsOfOpen at old (disk_in result) odd;
+  telling : IsSome (at (disk_in result)).seen ↔ IsSome (at old).seen;
+  time : GoesOn at old (disk_in result);
+  cause : CountsStand result (at old).faults (at (disk_in result)).faults;
 }
 
 -- nothing was wrong with either of two
-pub both_fine : {D : Type 0} (seen : D → Option (List ℕ)) (moment : D → ℕ) (left_at : D → ℕ → List ℕ → Type 0) (faults : D → ℕ) (left right : D) (lr rr : Result (Stood D) (StandFault D)) (stood_left stood_right : Stood D)
-    → (lr ≡ Ok stood_left) × (rr ≡ Ok stood_right) → StandsAs seen moment left_at faults true left lr → StandsAs seen moment left_at faults false right rr
-    → StandsAs seen moment left_at faults true left (Ok stood_left) × StandsAs seen moment left_at faults false right (Ok stood_right)
-both_fine {D} seen moment left_at faults left right lr rr stood_left stood_right fine sl sr = (
-  subst (λ (x : Result (Stood D) (StandFault D)). StandsAs seen moment left_at faults true left x) fine.0 sl,
-  subst (λ (y : Result (Stood D) (StandFault D)). StandsAs seen moment left_at faults false right y) fine.1 sr,
+pub both_fine : {D : Type 0} (at : D → DiskAt) (left right : D) (lr rr : Result (Stood D) (StandFault D)) (stood_left stood_right : Stood D)
+    → (lr ≡ Ok stood_left) × (rr ≡ Ok stood_right) → StandsAs at true left lr → StandsAs at false right rr
+    → StandsAs at true left (Ok stood_left) × StandsAs at false right (Ok stood_right)
+both_fine {D} at left right lr rr stood_left stood_right fine sl sr = (
+  subst (λ (x : Result (Stood D) (StandFault D)). StandsAs at true left x) fine.0 sl,
+  subst (λ (y : Result (Stood D) (StandFault D)). StandsAs at false right y) fine.1 sr,
 )
 
-module _ {D : Type 0} (seen : D → Option (List ℕ)) (moment : D → ℕ) (left_at : D → ℕ → List ℕ → Type 0) (faults : D → ℕ) where
+module _ {D : Type 0} (at : D → DiskAt) where
   as_it_stands : (odd : Bool) (held now : List ℕ) (stood : Stood D) → found_on odd now ≡ found_on odd held → IsFoundOn odd held (Ok stood) → IsLeftOn now (Ok stood) → IsStanding odd now stood
   as_it_stands odd held now (Nothing disk) same found left = left
   as_it_stands odd held now (Holding journal core) same found left =
@@ -72,43 +73,43 @@ module _ {D : Type 0} (seen : D → Option (List ℕ)) (moment : D → ℕ) (lef
   disk_same (Nothing disk) = refl
   disk_same (Holding journal core) = refl
 
-  pub stood_on : (odd : Bool) (old : D) (stood : Stood D) → StandsAs seen moment left_at faults odd old (Ok stood) → IsStoodOn seen moment left_at odd stood
+  pub stood_on : (odd : Bool) (old : D) (stood : Stood D) → StandsAs at odd old (Ok stood) → IsStoodOn at odd stood
   stood_on odd old stood is = record {
     counted = is.journal;
-    rests = subst (IsAtRest seen moment left_at) (disk_same stood) (is.rest tt);
-    told = subst (λ (d : D). IfSome (seen d) (λ now. IsStanding odd now stood)) (disk_same stood) (by (seen (disk_in (Ok stood))) refl);
+    rests = subst (IsAtRest at) (disk_same stood) (is.rest tt);
+    told = subst (λ (d : D). IfSome (at d).seen (λ now. IsStanding odd now stood)) (disk_same stood) (by (at (disk_in (Ok stood))).seen refl);
   }
     where
-      by : (o : Option (List ℕ)) → seen (disk_in (Ok stood)) ≡ o → IfSome o (λ now. IsStanding odd now stood)
+      by : (o : Option (List ℕ)) → (at (disk_in (Ok stood))).seen ≡ o → IfSome o (λ now. IsStanding odd now stood)
       by None none = tt
       by (Some now) told =
-          let before = told_too (seen (disk_in (Ok stood))) (seen old) (is.telling.1, is.telling.0) now told in
+          let before = told_too (at (disk_in (Ok stood))).seen (at old).seen (is.telling.1, is.telling.0) now told in
           as_it_stands odd before.0 now stood (is.same tt before.0 now before.1 told) (is.found before.0 before.1)
           (subst (λ (o : Option (List ℕ)). IfSome o (λ after. IsLeftOn after (Ok stood))) told is.left)
 
-  module _ (left right : D) (lr rr : Result (Stood D) (StandFault D)) (sl : StandsAs seen moment left_at faults true left lr) (sr : StandsAs seen moment left_at faults false right rr) where
+  module _ (left right : D) (lr rr : Result (Stood D) (StandFault D)) (sl : StandsAs at true left lr) (sr : StandsAs at false right rr) where
     -- ---- both stand as they did
 
-    pub stands_still : IsFaultless lr → IsFaultless rr → (l r x y : List ℕ) → seen left ≡ Some l → seen right ≡ Some r → seen (disk_in lr) ≡ Some x → seen (disk_in rr) ≡ Some y → state_on x y ≡ state_on l r
+    pub stands_still : IsFaultless lr → IsFaultless rr → (l r x y : List ℕ) → (at left).seen ≡ Some l → (at right).seen ≡ Some r → (at (disk_in lr)).seen ≡ Some x → (at (disk_in rr)).seen ≡ Some y → state_on x y ≡ state_on l r
     stands_still fl fr l r x y tl tr tx ty = state_alike l r x y (sl.same fl l x tl tx) (sr.same fr r y tr ty)
 
-    left_told : (l : List ℕ) → seen left ≡ Some l → (x : List ℕ) × (seen (disk_in lr) ≡ Some x)
-    left_told l tl = told_too (seen left) (seen (disk_in lr)) sl.telling l tl
+    left_told : (l : List ℕ) → (at left).seen ≡ Some l → (x : List ℕ) × ((at (disk_in lr)).seen ≡ Some x)
+    left_told l tl = told_too (at left).seen (at (disk_in lr)).seen sl.telling l tl
 
-    right_told : (r : List ℕ) → seen right ≡ Some r → (y : List ℕ) × (seen (disk_in rr) ≡ Some y)
-    right_told r tr = told_too (seen right) (seen (disk_in rr)) sr.telling r tr
+    right_told : (r : List ℕ) → (at right).seen ≡ Some r → (y : List ℕ) × ((at (disk_in rr)).seen ≡ Some y)
+    right_told r tr = told_too (at right).seen (at (disk_in rr)).seen sr.telling r tr
 
     state_before : IsFaultless lr → IsFaultless rr → (core : Core)
-        → ((x y : List ℕ) → seen (disk_in lr) ≡ Some x → seen (disk_in rr) ≡ Some y → (s : State) × (state_on x y ≡ Ok s) × StandsFor core s)
-        → (l r : List ℕ) → seen left ≡ Some l → seen right ≡ Some r → (s : State) × (state_on l r ≡ Ok s) × StandsFor core s
+        → ((x y : List ℕ) → (at (disk_in lr)).seen ≡ Some x → (at (disk_in rr)).seen ≡ Some y → (s : State) × (state_on x y ≡ Ok s) × StandsFor core s)
+        → (l r : List ℕ) → (at left).seen ≡ Some l → (at right).seen ≡ Some r → (s : State) × (state_on l r ≡ Ok s) × StandsFor core s
     state_before fl fr core states l r tl tr =
         let x = left_told l tl in
         let y = right_told r tr in
         let is = states x.0 y.0 x.1 y.1 in
         (is.0, sym (stands_still fl fr l r x.0 y.0 tl tr x.1 y.1) ∙ is.1, is.2)
 
-    still_before : IsFaultless lr → IsFaultless rr → (x y : List ℕ) → ((l r : List ℕ) → seen (disk_in lr) ≡ Some l → seen (disk_in rr) ≡ Some r → state_on x y ≡ state_on l r)
-        → (l r : List ℕ) → seen left ≡ Some l → seen right ≡ Some r → state_on x y ≡ state_on l r
+    still_before : IsFaultless lr → IsFaultless rr → (x y : List ℕ) → ((l r : List ℕ) → (at (disk_in lr)).seen ≡ Some l → (at (disk_in rr)).seen ≡ Some r → state_on x y ≡ state_on l r)
+        → (l r : List ℕ) → (at left).seen ≡ Some l → (at right).seen ≡ Some r → state_on x y ≡ state_on l r
     still_before fl fr x y still l r tl tr =
         let m = left_told l tl in
         let n = right_told r tr in
@@ -116,53 +117,53 @@ module _ {D : Type 0} (seen : D → Option (List ℕ)) (moment : D → ℕ) (lef
 
     -- ---- what a stop leaves of the left disk, and what it reads
 
-    pub left_opened : (l r : List ℕ) → seen left ≡ Some l → Only l (LeftNow moment left_at left) → (now : D) → now ≡ disk_in lr → LeavesOnly moment left_at left now (LeftLeaves l r)
+    pub left_opened : (l r : List ℕ) → (at left).seen ≡ Some l → Only l (LeftNow at left) → (now : D) → now ≡ disk_in lr → LeavesOnly at left now (LeftLeaves l r)
     left_opened l r tl only now is =
-        subst (λ (d : D). LeavesOnly moment left_at left d (LeftLeaves l r)) (sym is) (weaker moment left_at left (disk_in lr) (OpenLeaves true l) (LeftLeaves l r) (sl.crash l tl only) (λ image opened. inl opened))
+        subst (λ (d : D). LeavesOnly at left d (LeftLeaves l r)) (sym is) (weaker at left (disk_in lr) (OpenLeaves true l) (LeftLeaves l r) (sl.crash l tl only) (λ image opened. inl opened))
 
-    pub left_reads : (l r x : List ℕ) → seen left ≡ Some l → (now : D) → now ≡ disk_in lr → seen now ≡ Some x → LeftLeaves l r x
-    left_reads l r x tl now is tx = inl (sl.reads l x tl (ap seen (sym is) ∙ tx))
+    pub left_reads : (l r x : List ℕ) → (at left).seen ≡ Some l → (now : D) → now ≡ disk_in lr → (at now).seen ≡ Some x → LeftLeaves l r x
+    left_reads l r x tl now is tx = inl (sl.reads l x tl (ap (λ (d : D). (at d).seen) (sym is) ∙ tx))
 
-    pub right_opened : (r : List ℕ) → seen right ≡ Some r → Only r (LeftNow moment left_at right) → (now : D) → now ≡ disk_in rr → LeavesOnly moment left_at right now (OpenLeaves false r)
-    right_opened r tr only now is = subst (λ (d : D). LeavesOnly moment left_at right d (OpenLeaves false r)) (sym is) (sr.crash r tr only)
+    pub right_opened : (r : List ℕ) → (at right).seen ≡ Some r → Only r (LeftNow at right) → (now : D) → now ≡ disk_in rr → LeavesOnly at right now (OpenLeaves false r)
+    right_opened r tr only now is = subst (λ (d : D). LeavesOnly at right d (OpenLeaves false r)) (sym is) (sr.crash r tr only)
 
-    pub right_reads : (r y : List ℕ) → seen right ≡ Some r → (now : D) → now ≡ disk_in rr → seen now ≡ Some y → OpenLeaves false r y
-    right_reads r y tr now is ty = sr.reads r y tr (ap seen (sym is) ∙ ty)
+    pub right_reads : (r y : List ℕ) → (at right).seen ≡ Some r → (now : D) → now ≡ disk_in rr → (at now).seen ≡ Some y → OpenLeaves false r y
+    right_reads r y tr now is ty = sr.reads r y tr (ap (λ (d : D). (at d).seen) (sym is) ∙ ty)
 
   -- ---- the first generation is created on the left one
 
-  module _ (left right dl dr now : D) (sl : StandsAs seen moment left_at faults true left (Ok (Nothing dl))) (sr : StandsAs seen moment left_at faults false right (Ok (Nothing dr))) (creates : Creates seen moment left_at dl now) where
-    from_old : (l r m image : List ℕ) → seen left ≡ Some l → seen right ≡ Some r → seen dl ≡ Some m → CreateLeaves true m (beginning 1 []) image → LeftLeaves l r image
+  module _ (left right dl dr now : D) (sl : StandsAs at true left (Ok (Nothing dl))) (sr : StandsAs at false right (Ok (Nothing dr))) (creates : Creates at dl now) where
+    from_old : (l r m image : List ℕ) → (at left).seen ≡ Some l → (at right).seen ≡ Some r → (at dl).seen ≡ Some m → CreateLeaves true m (beginning 1 []) image → LeftLeaves l r image
     from_old l r m image tl tr tm made =
         let shut : IsUnshut m → ⊥ = subst (λ (o : Option (List ℕ)). IfSome o (λ after. IsUnshut after → ⊥)) tm sl.left in
         inr (sl.found l tl, sr.found r tr, created_from l m image (beginning 1 []) (sl.found l tl) (sl.reads l m tl tm) shut made)
 
-    only_it : (m : List ℕ) → seen dl ≡ Some m → Only m (LeftNow moment left_at dl)
-    only_it m tm = subst (λ (o : Option (List ℕ)). IfSome o (λ l. Only l (LeftNow moment left_at dl))) tm (sl.rest tt)
+    only_it : (m : List ℕ) → (at dl).seen ≡ Some m → Only m (LeftNow at dl)
+    only_it m tm = subst (λ (o : Option (List ℕ)). IfSome o (λ l. Only l (LeftNow at dl))) tm (sl.rest tt)
 
-    pub left_created : (l r : List ℕ) → seen left ≡ Some l → seen right ≡ Some r → Only l (LeftNow moment left_at left) → LeavesOnly moment left_at left now (LeftLeaves l r)
+    pub left_created : (l r : List ℕ) → (at left).seen ≡ Some l → (at right).seen ≡ Some r → Only l (LeftNow at left) → LeavesOnly at left now (LeftLeaves l r)
     left_created l r tl tr only =
-        let m = told_too (seen left) (seen dl) sl.telling l tl in
-        chained moment left_at left dl now (LeftLeaves l r)
-        (weaker moment left_at left dl (OpenLeaves true l) (LeftLeaves l r) (sl.crash l tl only) (λ image opened. inl opened))
-        (weaker moment left_at dl now (CreateLeaves true m.0 (beginning 1 [])) (LeftLeaves l r) (creates.crash m.0 m.1 (only_it m.0 m.1)) (λ image made. from_old l r m.0 image tl tr m.1 made))
+        let m = told_too (at left).seen (at dl).seen sl.telling l tl in
+        chained at left dl now (LeftLeaves l r)
+        (weaker at left dl (OpenLeaves true l) (LeftLeaves l r) (sl.crash l tl only) (λ image opened. inl opened))
+        (weaker at dl now (CreateLeaves true m.0 (beginning 1 [])) (LeftLeaves l r) (creates.crash m.0 m.1 (only_it m.0 m.1)) (λ image made. from_old l r m.0 image tl tr m.1 made))
 
-    pub created_reads : (l r x : List ℕ) → seen left ≡ Some l → seen right ≡ Some r → seen now ≡ Some x → LeftLeaves l r x
+    pub created_reads : (l r x : List ℕ) → (at left).seen ≡ Some l → (at right).seen ≡ Some r → (at now).seen ≡ Some x → LeftLeaves l r x
     created_reads l r x tl tr tx =
-        let m = told_too (seen left) (seen dl) sl.telling l tl in
+        let m = told_too (at left).seen (at dl).seen sl.telling l tl in
         from_old l r m.0 x tl tr m.1 (creates.reads m.0 x m.1 (only_it m.0 m.1) tx)
 
   -- ---- whichever it is
 
-  pub left_begun : (left right : D) (stood_left stood_right : Stood D) (now : D) → StandsAs seen moment left_at faults true left (Ok stood_left) → StandsAs seen moment left_at faults false right (Ok stood_right) → BeginsLeft seen moment left_at stood_left stood_right now
-      → (l r : List ℕ) → seen left ≡ Some l → seen right ≡ Some r → Only l (LeftNow moment left_at left) → LeavesOnly moment left_at left now (LeftLeaves l r)
+  pub left_begun : (left right : D) (stood_left stood_right : Stood D) (now : D) → StandsAs at true left (Ok stood_left) → StandsAs at false right (Ok stood_right) → BeginsLeft at stood_left stood_right now
+      → (l r : List ℕ) → (at left).seen ≡ Some l → (at right).seen ≡ Some r → Only l (LeftNow at left) → LeavesOnly at left now (LeftLeaves l r)
   left_begun left right stood_left stood_right now sl sr (inl same) l r tl tr only = left_opened left right (Ok stood_left) (Ok stood_right) sl sr l r tl only now (same ∙ sym (disk_same stood_left))
   left_begun left right (Nothing dl) (Nothing dr) now sl sr (inr made) l r tl tr only = left_created left right dl dr now sl sr made.2 l r tl tr only
   left_begun left right (Nothing dl) (Holding journal core) now sl sr (inr made) l r tl tr only = absurd made.1
   left_begun left right (Holding journal core) stood_right now sl sr (inr made) l r tl tr only = absurd made.0
 
-  pub begun_reads : (left right : D) (stood_left stood_right : Stood D) (now : D) → StandsAs seen moment left_at faults true left (Ok stood_left) → StandsAs seen moment left_at faults false right (Ok stood_right) → BeginsLeft seen moment left_at stood_left stood_right now
-      → (l r x : List ℕ) → seen left ≡ Some l → seen right ≡ Some r → seen now ≡ Some x → LeftLeaves l r x
+  pub begun_reads : (left right : D) (stood_left stood_right : Stood D) (now : D) → StandsAs at true left (Ok stood_left) → StandsAs at false right (Ok stood_right) → BeginsLeft at stood_left stood_right now
+      → (l r x : List ℕ) → (at left).seen ≡ Some l → (at right).seen ≡ Some r → (at now).seen ≡ Some x → LeftLeaves l r x
   begun_reads left right stood_left stood_right now sl sr (inl same) l r x tl tr tx = left_reads left right (Ok stood_left) (Ok stood_right) sl sr l r x tl now (same ∙ sym (disk_same stood_left)) tx
   begun_reads left right (Nothing dl) (Nothing dr) now sl sr (inr made) l r x tl tr tx = created_reads left right dl dr now sl sr made.2 l r x tl tr tx
   begun_reads left right (Nothing dl) (Holding journal core) now sl sr (inr made) l r x tl tr tx = absurd made.1
@@ -172,32 +173,32 @@ module _ {D : Type 0} (seen : D → Option (List ℕ)) (moment : D → ℕ) (lef
   same_disk stood now is = is ∙ sym (disk_same stood)
 
   -- what both read then, of two that were kept
-  begun_recovered : (left right : D) (stood_left stood_right : Stood D) (a b : D) → StandsAs seen moment left_at faults true left (Ok stood_left) → StandsAs seen moment left_at faults false right (Ok stood_right)
-      → BeginsLeft seen moment left_at stood_left stood_right a → b ≡ disk_of stood_right
-      → (l r x y : List ℕ) (s : State) → seen left ≡ Some l → seen right ≡ Some r → IsKept l r s → seen a ≡ Some x → seen b ≡ Some y → IsRecovered l r s x y
+  begun_recovered : (left right : D) (stood_left stood_right : Stood D) (a b : D) → StandsAs at true left (Ok stood_left) → StandsAs at false right (Ok stood_right)
+      → BeginsLeft at stood_left stood_right a → b ≡ disk_of stood_right
+      → (l r x y : List ℕ) (s : State) → (at left).seen ≡ Some l → (at right).seen ≡ Some r → IsKept l r s → (at a).seen ≡ Some x → (at b).seen ≡ Some y → IsRecovered l r s x y
   begun_recovered left right stood_left stood_right a b sl sr begins same l r x y s tl tr kept tx ty =
       recovered l r x y s kept (begun_reads left right stood_left stood_right a sl sr begins l r x tl tr tx)
       (right_reads left right (Ok stood_left) (Ok stood_right) sl sr r y tr b (same_disk stood_right b same) ty)
 
-  pub begun_reads_kept : (left right : D) (stood_left stood_right : Stood D) → StandsAs seen moment left_at faults true left (Ok stood_left) → StandsAs seen moment left_at faults false right (Ok stood_right) → (result : Result (Stored D) (StoreFault D))
-      → BeginsLeft seen moment left_at stood_left stood_right (left_after result) → right_after result ≡ disk_of stood_right
-      → IfOk result (λ store. (l r x y : List ℕ) (s : State) → seen left ≡ Some l → seen right ≡ Some r → IsKept l r s → seen store.left ≡ Some x → seen store.right ≡ Some y → IsRecovered l r s x y)
+  pub begun_reads_kept : (left right : D) (stood_left stood_right : Stood D) → StandsAs at true left (Ok stood_left) → StandsAs at false right (Ok stood_right) → (result : Result (Stored D) (StoreFault D))
+      → BeginsLeft at stood_left stood_right (left_after result) → right_after result ≡ disk_of stood_right
+      → IfOk result (λ store. (l r x y : List ℕ) (s : State) → (at left).seen ≡ Some l → (at right).seen ≡ Some r → IsKept l r s → (at store.left).seen ≡ Some x → (at store.right).seen ≡ Some y → IsRecovered l r s x y)
   begun_reads_kept left right stood_left stood_right sl sr (Ok store) begins same = begun_recovered left right stood_left stood_right store.left store.right sl sr begins same
   begun_reads_kept left right stood_left stood_right sl sr (Err e) begins same = tt
 
   -- ---- a store was opened
 
-  same_counts : (left right : D) (stood_left stood_right : Stood D) → CountsStand (Ok stood_left) (faults left) (faults (disk_in (Ok stood_left))) → CountsStand (Ok stood_right) (faults right) (faults (disk_in (Ok stood_right)))
-      → counts_of faults (disk_of stood_left) (disk_of stood_right) ≡ counts_of faults left right
+  same_counts : (left right : D) (stood_left stood_right : Stood D) → CountsStand (Ok stood_left) (at left).faults (at (disk_in (Ok stood_left))).faults → CountsStand (Ok stood_right) (at right).faults (at (disk_in (Ok stood_right))).faults
+      → counts_of at (disk_of stood_left) (disk_of stood_right) ≡ counts_of at left right
   same_counts left right stood_left stood_right cl cr =
       let both : ℕ → ℕ → Faults = λ m n. record { left = m; right = n } in
-      ap₂ both (ap faults (sym (disk_same stood_left)) ∙ cl) (ap faults (sym (disk_same stood_right)) ∙ cr)
+      ap₂ both (ap (λ (d : D). (at d).faults) (sym (disk_same stood_left)) ∙ cl) (ap (λ (d : D). (at d).faults) (sym (disk_same stood_right)) ∙ cr)
 
-  pub begun_opened : (left right : D) (stood_left stood_right : Stood D) → StandsAs seen moment left_at faults true left (Ok stood_left) → StandsAs seen moment left_at faults false right (Ok stood_right)
-      → (result : Result (Stored D) (StoreFault D)) → IfOk result (OpensOn seen faults (disk_of stood_left) (disk_of stood_right)) → IfOk result (OpensOn seen faults left right)
+  pub begun_opened : (left right : D) (stood_left stood_right : Stood D) → StandsAs at true left (Ok stood_left) → StandsAs at false right (Ok stood_right)
+      → (result : Result (Stored D) (StoreFault D)) → IfOk result (OpensOn at (disk_of stood_left) (disk_of stood_right)) → IfOk result (OpensOn at left right)
   begun_opened left right stood_left stood_right sl sr (Ok store) is =
-      let on_left : (m : List ℕ) → seen (disk_in (Ok stood_left)) ≡ Some m → seen (disk_of stood_left) ≡ Some m = λ m told. ap seen (sym (disk_same stood_left)) ∙ told in
-      let on_right : (n : List ℕ) → seen (disk_in (Ok stood_right)) ≡ Some n → seen (disk_of stood_right) ≡ Some n = λ n told. ap seen (sym (disk_same stood_right)) ∙ told in
+      let on_left : (m : List ℕ) → (at (disk_in (Ok stood_left))).seen ≡ Some m → (at (disk_of stood_left)).seen ≡ Some m = λ m told. ap (λ (d : D). (at d).seen) (sym (disk_same stood_left)) ∙ told in
+      let on_right : (n : List ℕ) → (at (disk_in (Ok stood_right))).seen ≡ Some n → (at (disk_of stood_right)).seen ≡ Some n = λ n told. ap (λ (d : D). (at d).seen) (sym (disk_same stood_right)) ∙ told in
       record {
         state = state_before left right (Ok stood_left) (Ok stood_right) sl sr tt tt store.core (λ m n tm tn. is.state m n (on_left m tm) (on_right n tn));
         commands = λ l r now tl tr tn.
@@ -218,23 +219,23 @@ module _ {D : Type 0} (seen : D → Option (List ℕ)) (moment : D → ℕ) (lef
 
   -- ---- none was opened: the first generation was not created
 
-  pub begun_not : (left right : D) (stood_left stood_right : Stood D) → StandsAs seen moment left_at faults true left (Ok stood_left) → StandsAs seen moment left_at faults false right (Ok stood_right)
-      → (result : Result (Stored D) (StoreFault D)) → BeginsLeft seen moment left_at stood_left stood_right (left_after result) → right_after result ≡ disk_of stood_right
-      → IfErr result (IsUnbegun seen faults (disk_of stood_left) (disk_of stood_right)) → IfErr result (IsNotOpened seen faults left right)
+  pub begun_not : (left right : D) (stood_left stood_right : Stood D) → StandsAs at true left (Ok stood_left) → StandsAs at false right (Ok stood_right)
+      → (result : Result (Stored D) (StoreFault D)) → BeginsLeft at stood_left stood_right (left_after result) → right_after result ≡ disk_of stood_right
+      → IfErr result (IsUnbegun at (disk_of stood_left) (disk_of stood_right)) → IfErr result (IsNotOpened at left right)
   begun_not left right stood_left stood_right sl sr (Ok store) begins same unbegun = tt
   begun_not left right stood_left stood_right sl sr (Err e) begins same unbegun = by e.why refl unbegun
     where
-      reads_kept : (l r x y : List ℕ) (s : State) → seen left ≡ Some l → seen right ≡ Some r → IsKept l r s → seen e.left ≡ Some x → seen e.right ≡ Some y → IsRecovered l r s x y
+      reads_kept : (l r x y : List ℕ) (s : State) → (at left).seen ≡ Some l → (at right).seen ≡ Some r → IsKept l r s → (at e.left).seen ≡ Some x → (at e.right).seen ≡ Some y → IsRecovered l r s x y
       reads_kept = begun_recovered left right stood_left stood_right e.left e.right sl sr begins same
 
-      by : (y : StoreWhy) → e.why ≡ y → IsUnbegunBy seen faults (disk_of stood_left) (disk_of stood_right) e y → IsNotOpened seen faults left right e
+      by : (y : StoreWhy) → e.why ≡ y → IsUnbegunBy at (disk_of stood_left) (disk_of stood_right) e y → IsNotOpened at left right e
       by why.DiskFault fault counted =
-          let left_is : faults (disk_of stood_left) ≡ faults left = ap faults (sym (disk_same stood_left)) ∙ sl.cause in
-          let right_is : faults e.right ≡ faults right = ap faults (same ∙ sym (disk_same stood_right)) ∙ sr.cause in
-          let rose : Counted (faults left) (faults e.left) = subst (λ (n : ℕ). Counted n (faults e.left)) left_is counted in
-          let one : OneRose (counts_of faults left right) (counts_of faults e.left e.right) = record { left = rose.later; right = omega arith; rose = inl rose.rose } in
+          let left_is : (at (disk_of stood_left)).faults ≡ (at left).faults = ap (λ (d : D). (at d).faults) (sym (disk_same stood_left)) ∙ sl.cause in
+          let right_is : (at e.right).faults ≡ (at right).faults = ap (λ (d : D). (at d).faults) (same ∙ sym (disk_same stood_right)) ∙ sr.cause in
+          let rose : Counted (at left).faults (at e.left).faults = subst (λ (n : ℕ). Counted n (at e.left).faults) left_is counted in
+          let one : OneRose (counts_of at left right) (counts_of at e.left e.right) = record { left = rose.later; right = omega arith; rose = inl rose.rose } in
           record {
-            cause = subst (λ (y : StoreWhy). CausesWhy y (counts_of faults left right) (counts_of faults e.left e.right)) (sym fault) one;
+            cause = subst (λ (y : StoreWhy). CausesWhy y (counts_of at left right) (counts_of at e.left e.right)) (sym fault) one;
             is_why = λ l r tl tr. subst (λ (y : StoreWhy). IsWhyOf l r y) (sym fault) tt;
             stays = λ other. absurd (other fault);
             reads = reads_kept;
@@ -242,11 +243,11 @@ module _ {D : Type 0} (seen : D → Option (List ℕ)) (moment : D → ℕ) (lef
       by (why.Damaged side damage) fault unbegun = absurd unbegun
       by why.NoMemory fault still =
           record {
-            cause = subst (λ (y : StoreWhy). CausesWhy y (counts_of faults left right) (counts_of faults e.left e.right)) (sym fault) (still.counts ∙ same_counts left right stood_left stood_right sl.cause sr.cause);
+            cause = subst (λ (y : StoreWhy). CausesWhy y (counts_of at left right) (counts_of at e.left e.right)) (sym fault) (still.counts ∙ same_counts left right stood_left stood_right sl.cause sr.cause);
             is_why = λ l r tl tr. subst (λ (y : StoreWhy). IsWhyOf l r y) (sym fault) tt;
             stays = λ other l r x y tl tr tx ty.
                 still_before left right (Ok stood_left) (Ok stood_right) sl sr tt tt x y
-                (λ m n tm tn. still.stays m n x y (ap seen (sym (disk_same stood_left)) ∙ tm) (ap seen (sym (disk_same stood_right)) ∙ tn) tx ty) l r tl tr;
+                (λ m n tm tn. still.stays m n x y (ap (λ (d : D). (at d).seen) (sym (disk_same stood_left)) ∙ tm) (ap (λ (d : D). (at d).seen) (sym (disk_same stood_right)) ∙ tn) tx ty) l r tl tr;
             reads = reads_kept;
           }
 
@@ -323,49 +324,49 @@ module _ {D : Type 0} (lr rr : Result (Stood D) (StandFault D)) (before after : 
 
 -- ---- none was opened: something was wrong with one of the disks
 
-module _ {D : Type 0} (seen : D → Option (List ℕ)) (moment : D → ℕ) (left_at : D → ℕ → List ℕ → Type 0) (faults : D → ℕ) where
-  pub judged_not : (left right : D) (lr rr : Result (Stood D) (StandFault D)) → StandsAs seen moment left_at faults true left lr → StandsAs seen moment left_at faults false right rr
-      → (e : StoreFault D) → e.left ≡ disk_in lr → e.right ≡ disk_in rr → IsJudged lr rr e.why → IsNotOpened seen faults left right e
+module _ {D : Type 0} (at : D → DiskAt) where
+  pub judged_not : (left right : D) (lr rr : Result (Stood D) (StandFault D)) → StandsAs at true left lr → StandsAs at false right rr
+      → (e : StoreFault D) → e.left ≡ disk_in lr → e.right ≡ disk_in rr → IsJudged lr rr e.why → IsNotOpened at left right e
   judged_not left right lr rr sl sr e is_left is_right judged = record {
-    cause = judged_cause lr rr (counts_of faults left right) (counts_of faults e.left e.right)
-        (subst (λ (n : ℕ). CountsStand lr (faults left) n) (ap faults (sym is_left)) sl.cause) (subst (λ (n : ℕ). CountsStand rr (faults right) n) (ap faults (sym is_right)) sr.cause) e.why judged;
+    cause = judged_cause lr rr (counts_of at left right) (counts_of at e.left e.right)
+        (subst (λ (n : ℕ). CountsStand lr (at left).faults n) (ap (λ (d : D). (at d).faults) (sym is_left)) sl.cause) (subst (λ (n : ℕ). CountsStand rr (at right).faults n) (ap (λ (d : D). (at d).faults) (sym is_right)) sr.cause) e.why judged;
     is_why = λ l r tl tr. judged_why l r lr rr e.why judged (sl.found l tl) (sr.found r tr);
     stays = λ other l r x y tl tr tx ty.
         let faultless = judged_faultless lr rr e.why judged other in
-        stands_still seen moment left_at faults left right lr rr sl sr faultless.0 faultless.1 l r x y tl tr (ap seen (sym is_left) ∙ tx) (ap seen (sym is_right) ∙ ty);
+        stands_still at left right lr rr sl sr faultless.0 faultless.1 l r x y tl tr (ap (λ (d : D). (at d).seen) (sym is_left) ∙ tx) (ap (λ (d : D). (at d).seen) (sym is_right) ∙ ty);
     reads = λ l r x y s tl tr kept tx ty.
-        recovered l r x y s kept (left_reads seen moment left_at faults left right lr rr sl sr l r x tl e.left is_left tx) (right_reads seen moment left_at faults left right lr rr sl sr r y tr e.right is_right ty);
+        recovered l r x y s kept (left_reads at left right lr rr sl sr l r x tl e.left is_left tx) (right_reads at left right lr rr sl sr r y tr e.right is_right ty);
   }
 
   -- and nothing is pending where no disk met a fault
   pub judged_rests : (left right : D) (lr rr : Result (Stood D) (StandFault D))
-      → StandsAs seen moment left_at faults true left lr → StandsAs seen moment left_at faults false right rr
+      → StandsAs at true left lr → StandsAs at false right rr
       → (e : StoreFault D) → e.left ≡ disk_in lr → e.right ≡ disk_in rr → IsJudged lr rr e.why
-      → e.why ≢ why.DiskFault → IsAtRest seen moment left_at e.left × IsAtRest seen moment left_at e.right
+      → e.why ≢ why.DiskFault → IsAtRest at e.left × IsAtRest at e.right
   judged_rests left right lr rr sl sr e is_left is_right judged other =
       let faultless = judged_faultless lr rr e.why judged other in (
-        subst (IsAtRest seen moment left_at) (sym is_left) (sl.rest faultless.0),
-        subst (IsAtRest seen moment left_at) (sym is_right) (sr.rest faultless.1),
+        subst (IsAtRest at) (sym is_left) (sl.rest faultless.0),
+        subst (IsAtRest at) (sym is_right) (sr.rest faultless.1),
       )
 
   -- each tells its bytes as they were, or with a 0 where one was shut
   pub judged_shuts : (left right : D) (lr rr : Result (Stood D) (StandFault D))
-      → StandsAs seen moment left_at faults true left lr → StandsAs seen moment left_at faults false right rr
+      → StandsAs at true left lr → StandsAs at false right rr
       → (e : StoreFault D) → e.left ≡ disk_in lr → e.right ≡ disk_in rr → IsJudged lr rr e.why
-      → e.why ≢ why.DiskFault → (l r a b : List ℕ) → seen left ≡ Some l → seen right ≡ Some r
-      → seen e.left ≡ Some a → seen e.right ≡ Some b → OnlyShuts true l a × OnlyShuts false r b
+      → e.why ≢ why.DiskFault → (l r a b : List ℕ) → (at left).seen ≡ Some l → (at right).seen ≡ Some r
+      → (at e.left).seen ≡ Some a → (at e.right).seen ≡ Some b → OnlyShuts true l a × OnlyShuts false r b
   judged_shuts left right lr rr sl sr e is_left is_right judged other l r a b tl tr ta tb =
       let faultless = judged_faultless lr rr e.why judged other in (
-        sl.shut faultless.0 l a tl (ap seen (sym is_left) ∙ ta),
-        sr.shut faultless.1 r b tr (ap seen (sym is_right) ∙ tb),
+        sl.shut faultless.0 l a tl (ap (λ (d : D). (at d).seen) (sym is_left) ∙ ta),
+        sr.shut faultless.1 r b tr (ap (λ (d : D). (at d).seen) (sym is_right) ∙ tb),
       )
 
   -- where both were fine, neither was damaged
   pub begun_undamaged : (left right : D) (stood_left stood_right : Stood D)
-      → StandsAs seen moment left_at faults true left (Ok stood_left)
-      → StandsAs seen moment left_at faults false right (Ok stood_right) → (result : Result (Stored D) (StoreFault D))
-      → IfErr result (λ e. (e.why ≢ why.DiskFault) → (l r a b : List ℕ) (first : Side × Damage) → seen left ≡ Some l
-      → seen right ≡ Some r → state_on l r ≡ Err first → seen e.left ≡ Some a → seen e.right ≡ Some b
+      → StandsAs at true left (Ok stood_left)
+      → StandsAs at false right (Ok stood_right) → (result : Result (Stored D) (StoreFault D))
+      → IfErr result (λ e. (e.why ≢ why.DiskFault) → (l r a b : List ℕ) (first : Side × Damage) → (at left).seen ≡ Some l
+      → (at right).seen ≡ Some r → state_on l r ≡ Err first → (at e.left).seen ≡ Some a → (at e.right).seen ≡ Some b
       → OnlyShuts true l a × OnlyShuts false r b)
   begun_undamaged left right stood_left stood_right sl sr (Ok store) = tt
   begun_undamaged left right stood_left stood_right sl sr (Err e) =

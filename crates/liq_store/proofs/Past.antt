@@ -1,6 +1,7 @@
 -- A store in the midst of a run: how that begins, goes on and ends, by what a call says of both disks.
 use Rattle.std.proofs.Common.{◌≡◌, ◌⊎◌, ◌↔◌, inl, inr, ⊎_elim, ℕ, ◌+◌, ◌≤◌, List, [], ◌∷◌, ◌++◌, fold, Ok, Option, Some, None, IfSome, IsSome, is_some, Bool, true, false, ◌&&◌, if◌then◌else◌, refl, sym, ◌∙◌, ap, subst, arith}
 use Rattle.std.specs.Prelude.{count_by}
+use Rattle.liq_outside.specs.At.{DiskAt}
 use Rattle.liq_outside.specs.Disk.{GoesOn, LeavesOnly, LeftNow, LeftSince, Only}
 use Rattle.liq_outside.proofs.Moments.{law}
 use Rattle.liq_types.specs.declared.events.ListChange.{ListChange}
@@ -79,21 +80,21 @@ and_false : (b : Bool) → (b && false) ≡ false
 and_false true = refl
 and_false false = refl
 
-on_told : {D : Type 0} (seen : D → Option (List ℕ)) (side : Side) (x y : D) (a b : List ℕ) → seen x ≡ Some a
-    → seen y ≡ Some b → seen (on side x y) ≡ Some (on side a b)
-on_told seen Left x y a b tx ty = tx
-on_told seen Right x y a b tx ty = ty
+on_told : {D : Type 0} (at : D → DiskAt) (side : Side) (x y : D) (a b : List ℕ) → (at x).seen ≡ Some a
+    → (at y).seen ≡ Some b → (at (on side x y)).seen ≡ Some (on side a b)
+on_told at Left x y a b tx ty = tx
+on_told at Right x y a b tx ty = ty
 
-beside_told : {D : Type 0} (seen : D → Option (List ℕ)) (side : Side) (x y : D) (a b : List ℕ) → seen x ≡ Some a
-    → seen y ≡ Some b → seen (beside side x y) ≡ Some (beside side a b)
-beside_told seen Left x y a b tx ty = ty
-beside_told seen Right x y a b tx ty = tx
+beside_told : {D : Type 0} (at : D → DiskAt) (side : Side) (x y : D) (a b : List ℕ) → (at x).seen ≡ Some a
+    → (at y).seen ≡ Some b → (at (beside side x y)).seen ≡ Some (beside side a b)
+beside_told at Left x y a b tx ty = ty
+beside_told at Right x y a b tx ty = tx
 
-module _ {D : Type 0} (moment : D → ℕ) (left_at : D → ℕ → List ℕ → Type 0) where
+module _ {D : Type 0} (at : D → DiskAt) where
   pair_by : (side : Side) (left right now_left now_right : D) (P : List ℕ → List ℕ → Type 0)
-      → LeavesPairs moment left_at left right now_left now_right P → (x y : List ℕ)
-      → LeftSince moment left_at (on side now_left now_right) (moment (on side left right)) x
-      → LeftSince moment left_at (beside side now_left now_right) (moment (beside side left right)) y
+      → LeavesPairs at left right now_left now_right P → (x y : List ℕ)
+      → LeftSince at (on side now_left now_right) (at (on side left right)).moment x
+      → LeftSince at (beside side now_left now_right) (at (beside side left right)).moment y
       → P (on side x y) (on side y x)
   pair_by Left left right now_left now_right P leaves x y lx ly = leaves x y lx ly
   pair_by Right left right now_left now_right P leaves x y lx ly = leaves y x ly lx
@@ -142,16 +143,16 @@ grows_same l r start requests others same = record {
       omega (arith, equal);
 }
 
-module _ {D : Type 0} (moment : D → ℕ) (left_at : D → ℕ → List ℕ → Type 0) (l r : List ℕ) (start : State) where
+module _ {D : Type 0} (at : D → DiskAt) (l r : List ℕ) (start : State) where
   record LeavesOne (side : Side) (from : ℕ) (requests : List Request) (fault : Fault) (disk : D) : Type 0 where
-    images : (image : List ℕ) → LeftSince moment left_at disk from image → IsOfRun side l r start requests fault image
+    images : (image : List ℕ) → LeftSince at disk from image → IsOfRun side l r start requests fault image
     whole :
         IsTakenFirst side l r → rotations start requests fault ≤ 1 → (image : List ℕ)
-        → LeftSince moment left_at disk from image → found_on (has_odd side) image ≡ Absent → ⊥
+        → LeftSince at disk from image → found_on (has_odd side) image ≡ Absent → ⊥
 
   module _ (since : Side → ℕ) (requests : List Request) (fault : Fault) (left right : D) where
     abbrev Leaves : Type 0
-    Leaves = LeavesPast moment left_at since l r start requests fault left right
+    Leaves = LeavesPast at since l r start requests fault left right
 
     one_of : Leaves → (side : Side) → LeavesOne side (since side) requests fault (on side left right)
     one_of past side = record {
@@ -193,17 +194,17 @@ module _ {D : Type 0} (moment : D → ℕ) (left_at : D → ℕ → List ℕ →
 
   -- and of the calls after them
   goes : (side : Side) (from : ℕ) (requests : List Request) (fault : Fault) (old new : D)
-      → GoesOn moment left_at old new → from ≤ moment old → LeavesOne side from requests fault old
-      → LeavesOne side (moment old) requests fault new → LeavesOne side from requests fault new
+      → GoesOn at old new → from ≤ (at old).moment → LeavesOne side from requests fault old
+      → LeavesOne side (at old).moment requests fault new → LeavesOne side from requests fault new
   goes side from requests fault old new time le before done = record {
     images = λ image was. ⊎_elim
         (λ earlier. before.images image earlier)
         (λ later. done.images image later)
-        (law moment left_at old new time from image le was);
+        (law at old new time from image le was);
     whole = λ first few image was absent. ⊎_elim
         (λ earlier. before.whole first few image earlier absent)
         (λ later. done.whole first few image later absent)
-        (law moment left_at old new time from image le was);
+        (law at old new time from image le was);
   }
 
   -- ---- at an accepted command
@@ -240,35 +241,35 @@ module _ {D : Type 0} (moment : D → ℕ) (left_at : D → ℕ → List ℕ →
     more = λ rotate. rotations_failed start requests c rotate;
   }
 
-module _ {D : Type 0} (seen : D → Option (List ℕ)) (moment : D → ℕ) (left_at : D → ℕ → List ℕ → Type 0)
-    (stays : (disk : D) (held : List ℕ) → seen disk ≡ Some held → LeftNow moment left_at disk held) where
+module _ {D : Type 0} (at : D → DiskAt)
+    (stays : (disk : D) (held : List ℕ) → (at disk).seen ≡ Some held → LeftNow at disk held) where
   -- ---- what stays
 
   module _ (since : Side → ℕ) (l r : List ℕ) (start : State) (requests : List Request) (old new : Stored D)
-      (past : Past seen moment left_at since l r start requests old) where
+      (past : Past at since l r start requests old) where
     module _ (later : List Request) (grows : Grows l r start requests later NoFault) (none : new.stopped ≡ None)
         (stands : StandsFor new.core (run start later).0) where
-      grown_past : LeavesPast moment left_at since l r start later NoFault old.left old.right
-      grown_past = all_of moment left_at l r start since later NoFault old.left old.right (λ side.
-          grown moment left_at l r start side (since side) requests later NoFault (on side old.left old.right) grows
-          (one_of moment left_at l r start since requests NoFault old.left old.right past.leaves side))
+      grown_past : LeavesPast at since l r start later NoFault old.left old.right
+      grown_past = all_of at l r start since later NoFault old.left old.right (λ side.
+          grown at l r start side (since side) requests later NoFault (on side old.left old.right) grows
+          (one_of at l r start since requests NoFault old.left old.right past.leaves side))
 
       -- where both disks are as they were
       still : new.left ≡ old.left → new.right ≡ old.right → new.side ≡ old.side
-          → Past seen moment left_at since l r start later new
+          → Past at since l r start later new
       still same_left same_right same_side = record {
         kept = past.kept;
         going = none;
         stands = stands;
-        left_tells = subst (λ (d : D). IsSome (seen d)) (sym same_left) past.left_tells;
-        right_tells = subst (λ (d : D). IsSome (seen d)) (sym same_right) past.right_tells;
-        later = λ side. subst (λ (d : D). since side ≤ moment d) (sym (there side)) (past.later side);
-        leaves = subst (λ (d : D). LeavesPast moment left_at since l r start later NoFault d new.right) (sym same_left)
-            (subst (λ (d : D). LeavesPast moment left_at since l r start later NoFault old.left d) (sym same_right)
+        left_tells = subst (λ (d : D). IsSome (at d).seen) (sym same_left) past.left_tells;
+        right_tells = subst (λ (d : D). IsSome (at d).seen) (sym same_right) past.right_tells;
+        later = λ side. subst (λ (d : D). since side ≤ (at d).moment) (sym (there side)) (past.later side);
+        leaves = subst (λ (d : D). LeavesPast at since l r start later NoFault d new.right) (sym same_left)
+            (subst (λ (d : D). LeavesPast at since l r start later NoFault old.left d) (sym same_right)
             grown_past);
         aside = λ held image told stood.
             subst (λ (side : Side). IsOfRun (other side) l r start later NoFault image) (sym same_side)
-            (grows.images (other old.side) image (past.aside held image (ap seen (sym aside_there) ∙ told) stood));
+            (grows.images (other old.side) image (past.aside held image (ap (λ (d : D). (at d).seen) (sym aside_there) ∙ told) stood));
       }
         where
           there : (side : Side) → on side new.left new.right ≡ on side old.left old.right
@@ -281,19 +282,19 @@ module _ {D : Type 0} (seen : D → Option (List ℕ)) (moment : D → ℕ) (lef
   -- ---- a call that is accepted
 
   module _ (since : Side → ℕ) (l r : List ℕ) (start : State) (requests : List Request) (old new : Stored D)
-      (past : Past seen moment left_at since l r start requests old) (order : IsInOrder seen moment left_at old)
+      (past : Past at since l r start requests old) (order : IsInOrder at old)
     where
       abbrev now : State
       now = (run start requests).0
 
-      going : IsGoing seen moment left_at old
-      going = going_of seen moment left_at old past.going order
+      going : IsGoing at old
+      going = going_of at old past.going order
 
-      left_held : (held : List ℕ) × (seen old.left ≡ Some held)
-      left_held = told_of (seen old.left) past.left_tells
+      left_held : (held : List ℕ) × ((at old.left).seen ≡ Some held)
+      left_held = told_of (at old.left).seen past.left_tells
 
-      right_held : (held : List ℕ) × (seen old.right ≡ Some held)
-      right_held = told_of (seen old.right) past.right_tells
+      right_held : (held : List ℕ) × ((at old.right).seen ≡ Some held)
+      right_held = told_of (at old.right).seen past.right_tells
 
       abbrev taken_bytes : List ℕ
       taken_bytes = on old.side left_held.0 right_held.0
@@ -301,11 +302,11 @@ module _ {D : Type 0} (seen : D → Option (List ℕ)) (moment : D → ℕ) (lef
       abbrev beside_bytes : List ℕ
       beside_bytes = beside old.side left_held.0 right_held.0
 
-      taken_told : seen (taken_disk old) ≡ Some taken_bytes
-      taken_told = on_told seen old.side old.left old.right left_held.0 right_held.0 left_held.1 right_held.1
+      taken_told : (at (taken_disk old)).seen ≡ Some taken_bytes
+      taken_told = on_told at old.side old.left old.right left_held.0 right_held.0 left_held.1 right_held.1
 
-      aside_told : seen (disk_beside old) ≡ Some beside_bytes
-      aside_told = beside_told seen old.side old.left old.right left_held.0 right_held.0 left_held.1 right_held.1
+      aside_told : (at (disk_beside old)).seen ≡ Some beside_bytes
+      aside_told = beside_told at old.side old.left old.right left_held.0 right_held.0 left_held.1 right_held.1
 
       settled : IsSettledFor old.side left_held.0 right_held.0 now
       settled = going.settled left_held.0 right_held.0 left_held.1 right_held.1 now past.stands
@@ -322,31 +323,31 @@ module _ {D : Type 0} (seen : D → Option (List ℕ)) (moment : D → ℕ) (lef
           ap (λ (x : Bool). x && is_allowed (ruling now c)) is ∙ ap (λ (x : Ruling). b && is_allowed x) allowed
 
       module _ (c : Command) (a : Answer) (allowed : ruling now c ≡ Allowed)
-          (writes : WritesOn seen moment left_at old (Do c) a new) (later : List Request) (fault : Fault)
-          (makes : Makes moment left_at l r start requests later fault c) where
+          (writes : WritesOn at old (Do c) a new) (later : List Request) (fault : Fault)
+          (makes : Makes at l r start requests later fault c) where
         abbrev One : Side → ℕ → D → Type 0
-        One side from disk = LeavesOne moment left_at l r start side from later fault disk
+        One side from disk = LeavesOne at l r start side from later fault disk
 
         before_taken : One old.side (since old.side) (taken_disk old)
         before_taken =
-            grown moment left_at l r start old.side (since old.side) requests later fault (taken_disk old) makes.grows
-            (one_of moment left_at l r start since requests NoFault old.left old.right past.leaves old.side)
+            grown at l r start old.side (since old.side) requests later fault (taken_disk old) makes.grows
+            (one_of at l r start since requests NoFault old.left old.right past.leaves old.side)
 
         before_beside : One (other old.side) (since (other old.side)) (disk_beside old)
         before_beside =
-            grown moment left_at l r start (other old.side) (since (other old.side)) requests later fault
+            grown at l r start (other old.side) (since (other old.side)) requests later fault
             (disk_beside old)
             makes.grows
-            (one_beside moment left_at l r start since requests NoFault old.left old.right past.leaves old.side)
+            (one_beside at l r start since requests NoFault old.left old.right past.leaves old.side)
 
         -- a record behind the taken disk's journal
         module _ (is : is_rotate c.call ≡ false) where
-          append_leaves : LeavesOnly moment left_at (taken_disk old) (on old.side new.left new.right)
+          append_leaves : LeavesOnly at (taken_disk old) (on old.side new.left new.right)
               (BeforeOrAfter (has_odd old.side) settled.written (read_back c))
           append_leaves = writes.written past.going taken_bytes settled.written c taken_told settled.open_on.found refl
 
           append_open : (image : List ℕ)
-              → LeftSince moment left_at (on old.side new.left new.right) (moment (taken_disk old)) image
+              → LeftSince at (on old.side new.left new.right) (at (taken_disk old)).moment image
               → IsOpenFor old.side image now ⊎ IsOpenFor old.side image (after now c)
           append_open image was = ⊎_elim
               (λ before. inl before)
@@ -354,7 +355,7 @@ module _ {D : Type 0} (seen : D → Option (List ℕ)) (moment : D → ℕ) (lef
               (of_append old.side settled.written (read_back c) now image leads_now
               (heard_ruling now c ∙ allowed) (append_leaves.each image was))
 
-          append_one : One old.side (moment (taken_disk old)) (on old.side new.left new.right)
+          append_one : One old.side (at (taken_disk old)).moment (on old.side new.left new.right)
           append_one = record {
             images = λ image was. ⊎_elim
                 (λ before. makes.grows.images old.side image
@@ -367,10 +368,10 @@ module _ {D : Type 0} (seen : D → Option (List ℕ)) (moment : D → ℕ) (lef
                 (append_open image was);
           }
 
-          appended : LeavesPast moment left_at since l r start later fault new.left new.right
+          appended : LeavesPast at since l r start later fault new.left new.right
           appended =
-              by_side moment left_at l r start since later fault new.left new.right old.side
-              (goes moment left_at l r start old.side (since old.side) later fault (taken_disk old)
+              by_side at l r start since later fault new.left new.right old.side
+              (goes at l r start old.side (since old.side) later fault (taken_disk old)
               (on old.side new.left new.right) append_leaves.goes_on (past.later old.side) before_taken append_one)
               (subst (λ (d : D). One (other old.side) (since (other old.side)) d)
               (sym (writes.aside now past.stands (rotation_is c allowed false is))) before_beside)
@@ -383,27 +384,27 @@ module _ {D : Type 0} (seen : D → Option (List ℕ)) (moment : D → ℕ) (lef
           abbrev next : Written
           next = rotation_of now c
 
-          turn_leaves : LeavesOnly moment left_at (disk_beside old) (beside old.side new.left new.right)
+          turn_leaves : LeavesOnly at (disk_beside old) (beside old.side new.left new.right)
               (CreateLeaves (has_odd (other old.side)) beside_bytes next)
           turn_leaves = writes.created past.going now past.stands beside_bytes c aside_told refl rotated
 
-          still_taken : LeftSince moment left_at (on old.side new.left new.right) (moment (taken_disk old)) taken_bytes
+          still_taken : LeftSince at (on old.side new.left new.right) (at (taken_disk old)).moment taken_bytes
           still_taken =
-              subst (λ (d : D). LeftSince moment left_at d (moment (taken_disk old)) taken_bytes)
+              subst (λ (d : D). LeftSince at d (at (taken_disk old)).moment taken_bytes)
               (sym (writes.taken now past.stands rotated))
-              (moment (taken_disk old), omega arith, omega arith, stays (taken_disk old) taken_bytes taken_told)
+              ((at (taken_disk old)).moment, omega arith, omega arith, stays (taken_disk old) taken_bytes taken_told)
 
           -- beside the taken disk it is kept for the state, or for it after the rotation
           turn_kept : (image : List ℕ)
-              → LeftSince moment left_at (beside old.side new.left new.right) (moment (disk_beside old)) image
+              → LeftSince at (beside old.side new.left new.right) (at (disk_beside old)).moment image
               → IsKeptAround now (Do c) (on old.side taken_bytes image) (on old.side image taken_bytes)
           turn_kept image was =
-              pair_by moment left_at old.side old.left old.right new.left new.right (IsKeptAround now (Do c))
+              pair_by at old.side old.left old.right new.left new.right (IsKeptAround now (Do c))
               (writes.kept past.going left_held.0 right_held.0 now left_held.1 right_held.1 past.stands)
               taken_bytes image still_taken was
 
           turn_open : (image : List ℕ)
-              → LeftSince moment left_at (beside old.side new.left new.right) (moment (disk_beside old)) image
+              → LeftSince at (beside old.side new.left new.right) (at (disk_beside old)).moment image
               → found_on (has_odd (other old.side)) image ≡ Open next → IsOpenFor (other old.side) image (after now c)
           turn_open image was found = by (turn_kept image was)
             where
@@ -432,7 +433,7 @@ module _ {D : Type 0} (seen : D → Option (List ℕ)) (moment : D → ℕ) (lef
                     leads = subst (λ (t : State). LeadsTo next t) (step_is_after now c allowed) done;
                   }
 
-          turn_one : One (other old.side) (moment (disk_beside old)) (beside old.side new.left new.right)
+          turn_one : One (other old.side) (at (disk_beside old)).moment (beside old.side new.left new.right)
           turn_one = record {
             images = λ image was. by image was
                 (of_creation (other old.side) beside_bytes image next (turn_leaves.each image was));
@@ -440,7 +441,7 @@ module _ {D : Type 0} (seen : D → Option (List ℕ)) (moment : D → ℕ) (lef
           }
             where
               by : (image : List ℕ)
-                  → LeftSince moment left_at (beside old.side new.left new.right) (moment (disk_beside old)) image
+                  → LeftSince at (beside old.side new.left new.right) (at (disk_beside old)).moment image
                   → (found_on (has_odd (other old.side)) image ≡ Absent)
                   ⊎ (IsAsItStood beside_bytes image ⊎ (found_on (has_odd (other old.side)) image ≡ Open next))
                   → IsOfRun (other old.side) l r start later fault image
@@ -459,23 +460,23 @@ module _ {D : Type 0} (seen : D → Option (List ℕ)) (moment : D → ℕ) (lef
                   (first_parity (other old.side) l r start past.kept first ∙ ap is_odd (sym same)
                   ∙ sym (settled_parity old.side left_held.0 right_held.0 now settled))
 
-          turned : LeavesPast moment left_at since l r start later fault new.left new.right
+          turned : LeavesPast at since l r start later fault new.left new.right
           turned =
-              by_side moment left_at l r start since later fault new.left new.right old.side
+              by_side at l r start since later fault new.left new.right old.side
               (subst (λ (d : D). One old.side (since old.side) d) (sym (writes.taken now past.stands rotated))
               before_taken)
-              (goes moment left_at l r start (other old.side) (since (other old.side)) later fault (disk_beside old)
+              (goes at l r start (other old.side) (since (other old.side)) later fault (disk_beside old)
               (beside old.side new.left new.right) turn_leaves.goes_on (later_beside old.side) before_beside turn_one)
             where
-              later_beside : (side : Side) → since (other side) ≤ moment (beside side old.left old.right)
+              later_beside : (side : Side) → since (other side) ≤ (at (beside side old.left old.right)).moment
               later_beside Left = past.later Right
               later_beside Right = past.later Left
 
-        called : LeavesPast moment left_at since l r start later fault new.left new.right
+        called : LeavesPast at since l r start later fault new.left new.right
         called = by (is_rotate c.call) refl
           where
             by : (b : Bool) → is_rotate c.call ≡ b
-                → LeavesPast moment left_at since l r start later fault new.left new.right
+                → LeavesPast at since l r start later fault new.left new.right
             by true is = turned is
             by false is = appended is
 
@@ -483,20 +484,20 @@ module _ {D : Type 0} (seen : D → Option (List ℕ)) (moment : D → ℕ) (lef
 
       -- an accepted command is answered
       module _ (c : Command) (reply : Reply) (allowed : ruling now c ≡ Allowed)
-          (writes : WritesOn seen moment left_at old (Do c) (answer.Reply reply) new) where
+          (writes : WritesOn at old (Do c) (answer.Reply reply) new) where
         abbrev longer : List Request
         longer = requests ++ Do c ∷ []
 
-        makes : Makes moment left_at l r start requests longer NoFault c
-        makes = makes_replied moment left_at l r start requests c allowed
+        makes : Makes at l r start requests longer NoFault c
+        makes = makes_replied at l r start requests c allowed
 
-        later_then : (side : Side) → since side ≤ moment (on side new.left new.right)
+        later_then : (side : Side) → since side ≤ (at (on side new.left new.right)).moment
         later_then Left =
             let before = past.later Left in let time = writes.left_time.later in omega (arith, before, time)
         later_then Right =
             let before = past.later Right in let time = writes.right_time.later in omega (arith, before, time)
 
-        aside_appended : is_rotate c.call ≡ false → (held image : List ℕ) → seen (disk_beside new) ≡ Some held
+        aside_appended : is_rotate c.call ≡ false → (held image : List ℕ) → (at (disk_beside new)).seen ≡ Some held
             → IsAsItStood held image → IsOfRun (other new.side) l r start longer NoFault image
         aside_appended is held image told stood =
             let is_no = rotation_is c allowed false is in
@@ -505,9 +506,9 @@ module _ {D : Type 0} (seen : D → Option (List ℕ)) (moment : D → ℕ) (lef
             let same : disk_beside new ≡ disk_beside old =
             ap (λ (s : Side). beside s new.left new.right) side ∙ writes.aside now past.stands is_no in
             subst (λ (s : Side). IsOfRun (other s) l r start longer NoFault image) (sym side)
-            (makes.grows.images (other old.side) image (past.aside held image (ap seen (sym same) ∙ told) stood))
+            (makes.grows.images (other old.side) image (past.aside held image (ap (λ (d : D). (at d).seen) (sym same) ∙ told) stood))
 
-        aside_turned : is_rotate c.call ≡ true → (held image : List ℕ) → seen (disk_beside new) ≡ Some held
+        aside_turned : is_rotate c.call ≡ true → (held image : List ℕ) → (at (disk_beside new)).seen ≡ Some held
             → IsAsItStood held image → IsOfRun (other new.side) l r start longer NoFault image
         aside_turned is held image told stood =
             let is_yes = rotation_is c allowed true is in
@@ -517,7 +518,7 @@ module _ {D : Type 0} (seen : D → Option (List ℕ)) (moment : D → ℕ) (lef
             ap (λ (s : Side). beside s new.left new.right) side ∙ beside_other old.side new.left new.right
             ∙ writes.taken now past.stands is_yes in
             let bytes : taken_bytes ≡ held =
-            some_same taken_bytes held (seen (taken_disk old)) taken_told (ap seen (sym same) ∙ told) in
+            some_same taken_bytes held (at (taken_disk old)).seen taken_told (ap (λ (d : D). (at d).seen) (sym same) ∙ told) in
             let opens : IsOpenFor old.side held now = subst (λ (l : List ℕ). IsOpenFor old.side l now) bytes open_now in
             subst (λ (s : Side). IsOfRun s l r start longer NoFault image)
             (sym (ap other side ∙ other_twice old.side))
@@ -527,7 +528,7 @@ module _ {D : Type 0} (seen : D → Option (List ℕ)) (moment : D → ℕ) (lef
             (open_with old.side held image now opens stood))
 
         replied : new.stopped ≡ None → StandsFor new.core (step now (Do c)).0
-            → Past seen moment left_at since l r start longer new
+            → Past at since l r start longer new
         replied none stands = record {
           kept = past.kept;
           going = none;
@@ -539,15 +540,15 @@ module _ {D : Type 0} (seen : D → Option (List ℕ)) (moment : D → ℕ) (lef
           aside = by (is_rotate c.call) refl;
         }
           where
-            by : (b : Bool) → is_rotate c.call ≡ b → (held image : List ℕ) → seen (disk_beside new) ≡ Some held
+            by : (b : Bool) → is_rotate c.call ≡ b → (held image : List ℕ) → (at (disk_beside new)).seen ≡ Some held
                 → IsAsItStood held image → IsOfRun (other new.side) l r start longer NoFault image
             by true is = aside_turned is
             by false is = aside_appended is
 
       -- any other request
       idle : (request : Request) (reply : Reply) → new.stopped ≡ None → StandsFor new.core (step now request).0
-          → WritesOn seen moment left_at old request (answer.Reply reply) new → (IsAccepted now request → ⊥)
-          → is_rotation now request ≡ false → Past seen moment left_at since l r start (requests ++ request ∷ []) new
+          → WritesOn at old request (answer.Reply reply) new → (IsAccepted now request → ⊥)
+          → is_rotation now request ≡ false → Past at since l r start (requests ++ request ∷ []) new
       idle request reply none stands writes refused stays_here =
           let same = writes.unwritten now past.stands refused in
           let side : new.side ≡ old.side = writes.side now past.stands
@@ -560,15 +561,15 @@ module _ {D : Type 0} (seen : D → Option (List ℕ)) (moment : D → ℕ) (lef
       -- A request is answered.
       pub goes_on : (request : Request) (reply : Reply) → new.stopped ≡ None
           → ((s : State) → StandsFor old.core s → Answers s request (answer.Reply reply) new.core)
-          → WritesOn seen moment left_at old request (answer.Reply reply) new
-          → Past seen moment left_at since l r start (requests ++ request ∷ []) new
+          → WritesOn at old request (answer.Reply reply) new
+          → Past at since l r start (requests ++ request ∷ []) new
       goes_on (Do c) reply none answers writes = by (ruling now c) refl
         where
           stands : StandsFor new.core (step now (Do c)).0
           stands = (answers now past.stands).0
 
           refused : (x : Ruling) → ruling now c ≡ x → is_allowed x ≡ false → (x ≡ Allowed → ⊥)
-              → Past seen moment left_at since l r start (requests ++ Do c ∷ []) new
+              → Past at since l r start (requests ++ Do c ∷ []) new
           refused x is not_one isnt =
               let all : is_rotation now (Do c) ≡ (is_rotate c.call && false) =
               ap (λ (y : Ruling). is_rotate c.call && is_allowed y) is
@@ -576,7 +577,7 @@ module _ {D : Type 0} (seen : D → Option (List ℕ)) (moment : D → ℕ) (lef
               idle (Do c) reply none stands writes (λ allowed. isnt (sym is ∙ allowed))
               (all ∙ and_false (is_rotate c.call))
 
-          by : (x : Ruling) → ruling now c ≡ x → Past seen moment left_at since l r start (requests ++ Do c ∷ []) new
+          by : (x : Ruling) → ruling now c ≡ x → Past at since l r start (requests ++ Do c ∷ []) new
           by Allowed is = replied c reply is writes none stands
           by (Refused refusal) is = refused (Refused refusal) is refl (λ is_one. absurd (cc (is_one)))
           by (Repeated kept) is = refused (Repeated kept) is refl (λ is_one. absurd (cc (is_one)))
@@ -586,8 +587,8 @@ module _ {D : Type 0} (seen : D → Option (List ℕ)) (moment : D → ℕ) (lef
       -- Memory was wanted for it.
       pub waits : (request : Request) → new.stopped ≡ None
           → ((s : State) → StandsFor old.core s → Answers s request answer.NoMemory new.core)
-          → WritesOn seen moment left_at old request answer.NoMemory new
-          → Past seen moment left_at since l r start requests new
+          → WritesOn at old request answer.NoMemory new
+          → Past at since l r start requests new
       waits request none answers writes =
           let same = writes.no_memory refl in
           still since l r start requests old new past requests (grows_halted l r start requests NoFault) none
@@ -595,58 +596,58 @@ module _ {D : Type 0} (seen : D → Option (List ℕ)) (moment : D → ℕ) (lef
 
       -- A disk met a fault at it.
       stops_at : (c : Command) → ((s : State) → StandsFor old.core s → Answers s (Do c) answer.DiskFault new.core)
-          → WritesOn seen moment left_at old (Do c) answer.DiskFault new
-          → LeavesPast moment left_at since l r start requests (AtCommand c) new.left new.right
+          → WritesOn at old (Do c) answer.DiskFault new
+          → LeavesPast at since l r start requests (AtCommand c) new.left new.right
       stops_at c answers writes =
           let allowed = (answers now past.stands).1 in
           called c answer.DiskFault allowed writes requests (AtCommand c)
-          (makes_failed moment left_at l r start requests c allowed)
+          (makes_failed at l r start requests c allowed)
 
       pub stops : (request : Request) (c : Command) → request ≡ Do c
           → ((s : State) → StandsFor old.core s → Answers s request answer.DiskFault new.core)
-          → WritesOn seen moment left_at old request answer.DiskFault new
-          → LeavesPast moment left_at since l r start requests (AtCommand c) new.left new.right
+          → WritesOn at old request answer.DiskFault new
+          → LeavesPast at since l r start requests (AtCommand c) new.left new.right
       stops request c is =
           subst (λ (q : Request). ((s : State) → StandsFor old.core s → Answers s q answer.DiskFault new.core)
-          → WritesOn seen moment left_at old q answer.DiskFault new
-          → LeavesPast moment left_at since l r start requests (AtCommand c) new.left new.right) (sym is) (stops_at c)
+          → WritesOn at old q answer.DiskFault new
+          → LeavesPast at since l r start requests (AtCommand c) new.left new.right) (sym is) (stops_at c)
 
       kept_at : (c : Command) → ((s : State) → StandsFor old.core s → Answers s (Do c) answer.DiskFault new.core)
-          → WritesOn seen moment left_at old (Do c) answer.DiskFault new
-          → (a b : List ℕ) → LeftNow moment left_at new.left a → LeftNow moment left_at new.right b
+          → WritesOn at old (Do c) answer.DiskFault new
+          → (a b : List ℕ) → LeftNow at new.left a → LeftNow at new.right b
           → KeptAtEnd l r start requests (AtCommand c) a b
       kept_at c answers writes a b la lb =
           let allowed = (answers now past.stands).1 in
           let kept : IsKeptAround now (Do c) a b =
           writes.kept past.going left_held.0 right_held.0 now left_held.1 right_held.1 past.stands a b
-          (moment new.left, writes.left_time.later, omega arith, la)
-          (moment new.right, writes.right_time.later, omega arith, lb) in
+          ((at new.left).moment, writes.left_time.later, omega arith, la)
+          ((at new.right).moment, writes.right_time.later, omega arith, lb) in
           ⊎_elim (λ before. inl before)
           (λ done. inr (allowed, subst (λ (s : State). IsKept a b s) (step_is_after now c allowed) done)) kept
 
       pub stops_kept : (request : Request) (c : Command) → request ≡ Do c
           → ((s : State) → StandsFor old.core s → Answers s request answer.DiskFault new.core)
-          → WritesOn seen moment left_at old request answer.DiskFault new
-          → (a b : List ℕ) → LeftNow moment left_at new.left a → LeftNow moment left_at new.right b
+          → WritesOn at old request answer.DiskFault new
+          → (a b : List ℕ) → LeftNow at new.left a → LeftNow at new.right b
           → KeptAtEnd l r start requests (AtCommand c) a b
       stops_kept request c is =
           subst (λ (q : Request). ((s : State) → StandsFor old.core s → Answers s q answer.DiskFault new.core)
-          → WritesOn seen moment left_at old q answer.DiskFault new
-          → (a b : List ℕ) → LeftNow moment left_at new.left a → LeftNow moment left_at new.right b
+          → WritesOn at old q answer.DiskFault new
+          → (a b : List ℕ) → LeftNow at new.left a → LeftNow at new.right b
           → KeptAtEnd l r start requests (AtCommand c) a b) (sym is) (kept_at c)
 
   -- ---- the end of a run that met no fault
 
   pub ends_kept : (since : Side → ℕ) (l r : List ℕ) (start : State) (requests : List Request) (store : Stored D)
-      → Past seen moment left_at since l r start requests store → IsInOrder seen moment left_at store
-      → (a b : List ℕ) → LeftNow moment left_at store.left a → LeftNow moment left_at store.right b
+      → Past at since l r start requests store → IsInOrder at store
+      → (a b : List ℕ) → LeftNow at store.left a → LeftNow at store.right b
       → KeptAtEnd l r start requests NoFault a b
   ends_kept since l r start requests store past order a b la lb =
       let go = going since l r start requests store store past order in
       let left = left_held since l r start requests store store past order in
       let right = right_held since l r start requests store store past order in
-      let same_left : a ≡ left.0 = rest_now seen moment left_at store.left left.0 left.1 go.left a la in
-      let same_right : b ≡ right.0 = rest_now seen moment left_at store.right right.0 right.1 go.right b lb in
+      let same_left : a ≡ left.0 = rest_now at store.left left.0 left.1 go.left a la in
+      let same_right : b ≡ right.0 = rest_now at store.right right.0 right.1 go.right b lb in
       let kept : IsKept left.0 right.0 (run start requests).0 =
       settled_kept store.side left.0 right.0 (run start requests).0
       (settled since l r start requests store store past order) in
@@ -657,8 +658,8 @@ module _ {D : Type 0} (seen : D → Option (List ℕ)) (moment : D → ℕ) (lef
 
   -- of other requests with the same accepted commands
   pub cut : (since : Side → ℕ) (l r : List ℕ) (start : State) (requests others : List Request) (store : Stored D)
-      → Past seen moment left_at since l r start requests store → accepted start others ≡ accepted start requests
-      → Past seen moment left_at since l r start others store
+      → Past at since l r start requests store → accepted start others ≡ accepted start requests
+      → Past at since l r start others store
   cut since l r start requests others store past same =
       let ends : (run start requests).0 ≡ (run start others).0 =
       run_folds start requests ∙ ap (fold after start) (sym same) ∙ sym (run_folds start others) in
@@ -668,8 +669,8 @@ module _ {D : Type 0} (seen : D → Option (List ℕ)) (moment : D → ℕ) (lef
 
   -- of a store with other changes of the list
   pub with_changes : (since : Side → ℕ) (l r : List ℕ) (start : State) (requests : List Request) (store : Stored D)
-      (changes : List ListChange) → Past seen moment left_at since l r start requests store
-      → Past seen moment left_at since l r start requests (record store { changes = changes })
+      (changes : List ListChange) → Past at since l r start requests store
+      → Past at since l r start requests (record store { changes = changes })
   with_changes since l r start requests store changes past =
       still since l r start requests store (record store { changes = changes }) past requests
       (grows_halted l r start requests NoFault) past.going past.stands refl refl refl
@@ -677,30 +678,30 @@ module _ {D : Type 0} (seen : D → Option (List ℕ)) (moment : D → ℕ) (lef
   -- ---- how a run begins
 
   -- with a store that goes on
-  module _ (l r : List ℕ) (start : State) (store : Stored D) (told_left : seen store.left ≡ Some l)
-      (told_right : seen store.right ≡ Some r) (none : store.stopped ≡ None)
-      (order : IsInOrder seen moment left_at store) (stands : StandsFor store.core start) where
-    here_going : IsGoing seen moment left_at store
-    here_going = going_of seen moment left_at store none order
+  module _ (l r : List ℕ) (start : State) (store : Stored D) (told_left : (at store.left).seen ≡ Some l)
+      (told_right : (at store.right).seen ≡ Some r) (none : store.stopped ≡ None)
+      (order : IsInOrder at store) (stands : StandsFor store.core start) where
+    here_going : IsGoing at store
+    here_going = going_of at store none order
 
     here_settled : IsSettledFor store.side l r start
     here_settled = here_going.settled l r told_left told_right start stands
 
     here_only : (side : Side) (image : List ℕ)
-        → LeftSince moment left_at (on side store.left store.right) (moment (on side store.left store.right)) image
+        → LeftSince at (on side store.left store.right) (at (on side store.left store.right)).moment image
         → image ≡ on side l r
-    here_only Left image was = rest_only seen moment left_at store.left l told_left here_going.left image was
-    here_only Right image was = rest_only seen moment left_at store.right r told_right here_going.right image was
+    here_only Left image was = rest_only at store.left l told_left here_going.left image was
+    here_only Right image was = rest_only at store.right r told_right here_going.right image was
 
-    here_aside : (held image : List ℕ) → seen (disk_beside store) ≡ Some held → IsAsItStood held image
+    here_aside : (held image : List ℕ) → (at (disk_beside store)).seen ≡ Some held → IsAsItStood held image
         → IsOfRun (other store.side) l r start [] NoFault image
     here_aside held image told stood =
         let bytes : held ≡ beside store.side l r =
-        some_same held (beside store.side l r) (seen (disk_beside store)) told
-        (beside_told seen store.side store.left store.right l r told_left told_right) in
+        some_same held (beside store.side l r) (at (disk_beside store)).seen told
+        (beside_told at store.side store.left store.right l r told_left told_right) in
         inr (inl (subst (λ (x : List ℕ). IsAsItStood x image) (bytes ∙ sym (on_other store.side l r)) stood))
 
-    pub begins_here : Past seen moment left_at (λ side. moment (on side store.left store.right)) l r start [] store
+    pub begins_here : Past at (λ side. (at (on side store.left store.right)).moment) l r start [] store
     begins_here = record {
       kept = settled_kept store.side l r start here_settled;
       going = none;
@@ -717,31 +718,31 @@ module _ {D : Type 0} (seen : D → Option (List ℕ)) (moment : D → ℕ) (lef
     }
 
     -- whose disks have these moments
-    pub begins_at : (since : Side → ℕ) → ((side : Side) → since side ≡ moment (on side store.left store.right))
-        → Past seen moment left_at since l r start [] store
-    begins_at since at = record {
+    pub begins_at : (since : Side → ℕ) → ((side : Side) → since side ≡ (at (on side store.left store.right)).moment)
+        → Past at since l r start [] store
+    begins_at since starts = record {
       kept = begins_here.kept;
       going = none;
       stands = stands;
       left_tells = begins_here.left_tells;
       right_tells = begins_here.right_tells;
-      later = λ side. let same = at side in omega (arith, same);
+      later = λ side. let same = starts side in omega (arith, same);
       leaves = record {
         images = λ side image was. begins_here.leaves.images side image
-            (subst (λ (n : ℕ). LeftSince moment left_at (on side store.left store.right) n image) (at side) was);
+            (subst (λ (n : ℕ). LeftSince at (on side store.left store.right) n image) (starts side) was);
         whole = λ side first few image was absent. begins_here.leaves.whole side first few image
-            (subst (λ (n : ℕ). LeftSince moment left_at (on side store.left store.right) n image) (at side) was) absent;
+            (subst (λ (n : ℕ). LeftSince at (on side store.left store.right) n image) (starts side) was) absent;
       };
       aside = here_aside;
     }
 
   -- With an opening's store, whatever was pending before, and whatever its disks were kept for: nothing is pending, and
   -- what both tell is kept for the state for which they stood.
-  module _ (l r : List ℕ) (start : State) (faults : D → ℕ) (left right : D) (store : Stored D)
-      (told_left : seen left ≡ Some l) (told_right : seen right ≡ Some r) (stood : state_on l r ≡ Ok start)
-      (left_telling : IsSome (seen store.left) ↔ IsSome (seen left))
-      (right_telling : IsSome (seen store.right) ↔ IsSome (seen right))
-      (opened : OpensOn seen faults left right store) (order : IsInOrder seen moment left_at store) where
+  module _ (l r : List ℕ) (start : State) (left right : D) (store : Stored D)
+      (told_left : (at left).seen ≡ Some l) (told_right : (at right).seen ≡ Some r) (stood : state_on l r ≡ Ok start)
+      (left_telling : IsSome (at store.left).seen ↔ IsSome (at left).seen)
+      (right_telling : IsSome (at store.right).seen ↔ IsSome (at right).seen)
+      (opened : OpensOn at left right store) (order : IsInOrder at store) where
     opened_for : StandsFor store.core start
     opened_for =
         let state = opened.state l r told_left told_right in
@@ -749,19 +750,19 @@ module _ {D : Type 0} (seen : D → Option (List ℕ)) (moment : D → ℕ) (lef
         let same : state.0 ≡ start = cc (both) in
         subst (λ (s : State). StandsFor store.core s) same state.2
 
-    now_only : (disk : D) (held : List ℕ) → seen disk ≡ Some held → IsAtRest seen moment left_at disk
-        → Only held (LeftNow moment left_at disk)
+    now_only : (disk : D) (held : List ℕ) → (at disk).seen ≡ Some held → IsAtRest at disk
+        → Only held (LeftNow at disk)
     now_only disk held told rests =
-        subst (λ (o : Option (List ℕ)). IfSome o (λ bytes. Only bytes (LeftNow moment left_at disk))) told rests
+        subst (λ (o : Option (List ℕ)). IfSome o (λ bytes. Only bytes (LeftNow at disk))) told rests
 
     pub opened_rests :
-        (a b : List ℕ) × (seen store.left ≡ Some a) × (seen store.right ≡ Some b)
-        × Only a (LeftNow moment left_at store.left) × Only b (LeftNow moment left_at store.right)
-        × Past seen moment left_at (λ side. moment (on side store.left store.right)) a b start [] store
+        (a b : List ℕ) × ((at store.left).seen ≡ Some a) × ((at store.right).seen ≡ Some b)
+        × Only a (LeftNow at store.left) × Only b (LeftNow at store.right)
+        × Past at (λ side. (at (on side store.left store.right)).moment) a b start [] store
     opened_rests =
-        let a = told_of (seen store.left) (left_telling.1 (ap is_some told_left)) in
-        let b = told_of (seen store.right) (right_telling.1 (ap is_some told_right)) in
-        let going = going_of seen moment left_at store opened.going order in (
+        let a = told_of (at store.left).seen (left_telling.1 (ap is_some told_left)) in
+        let b = told_of (at store.right).seen (right_telling.1 (ap is_some told_right)) in
+        let going = going_of at store opened.going order in (
           a.0,
           b.0,
           a.1,
@@ -773,20 +774,20 @@ module _ {D : Type 0} (seen : D → Option (List ℕ)) (moment : D → ℕ) (lef
 
   -- with an opening, whatever it answers
   module _ (l r : List ℕ) (start : State) (left right now_left now_right : D) (kept : IsKept l r start)
-      (left_leaves : LeavesOnly moment left_at left now_left (LeftLeaves l r))
-      (right_leaves : LeavesOnly moment left_at right now_right (OpenLeaves false r)) where
+      (left_leaves : LeavesOnly at left now_left (LeftLeaves l r))
+      (right_leaves : LeavesOnly at right now_right (OpenLeaves false r)) where
     pub opening_leaves : (fault : Fault)
-        → LeavesPast moment left_at (λ side. moment (on side left right)) l r start [] fault now_left now_right
+        → LeavesPast at (λ side. (at (on side left right)).moment) l r start [] fault now_left now_right
     opening_leaves fault = record { images = images; whole = whole }
       where
         images : (side : Side) (image : List ℕ)
-            → LeftSince moment left_at (on side now_left now_right) (moment (on side left right)) image
+            → LeftSince at (on side now_left now_right) (at (on side left right)).moment image
             → IsOfRun side l r start [] fault image
         images Left image was = left_of l r start fault image kept (left_leaves.each image was)
         images Right image was = opening_of Right l r start fault image kept (right_leaves.each image was)
 
         whole : (side : Side) → IsTakenFirst side l r → rotations start [] fault ≤ 1 → (image : List ℕ)
-            → LeftSince moment left_at (on side now_left now_right) (moment (on side left right)) image
+            → LeftSince at (on side now_left now_right) (at (on side left right)).moment image
             → found_on (has_odd side) image ≡ Absent → ⊥
         whole Left first few image was absent =
             left_whole l r start fault image kept first.written first.found (left_leaves.each image was) absent
@@ -795,13 +796,13 @@ module _ {D : Type 0} (seen : D → Option (List ℕ)) (moment : D → ℕ) (lef
             absent
 
   -- an opening's store
-  module _ (l r : List ℕ) (start : State) (faults : D → ℕ) (left right : D) (store : Stored D)
-      (told_left : seen left ≡ Some l) (told_right : seen right ≡ Some r) (kept : IsKept l r start)
-      (left_leaves : LeavesOnly moment left_at left store.left (LeftLeaves l r))
-      (right_leaves : LeavesOnly moment left_at right store.right (OpenLeaves false r))
-      (left_telling : IsSome (seen store.left) ↔ IsSome (seen left))
-      (right_telling : IsSome (seen store.right) ↔ IsSome (seen right))
-      (opened : OpensOn seen faults left right store) (order : IsInOrder seen moment left_at store) where
+  module _ (l r : List ℕ) (start : State) (left right : D) (store : Stored D)
+      (told_left : (at left).seen ≡ Some l) (told_right : (at right).seen ≡ Some r) (kept : IsKept l r start)
+      (left_leaves : LeavesOnly at left store.left (LeftLeaves l r))
+      (right_leaves : LeavesOnly at right store.right (OpenLeaves false r))
+      (left_telling : IsSome (at store.left).seen ↔ IsSome (at left).seen)
+      (right_telling : IsSome (at store.right).seen ↔ IsSome (at right).seen)
+      (opened : OpensOn at left right store) (order : IsInOrder at store) where
     opened_stands : StandsFor store.core start
     opened_stands =
         let state = opened.state l r told_left told_right in
@@ -813,35 +814,35 @@ module _ {D : Type 0} (seen : D → Option (List ℕ)) (moment : D → ℕ) (lef
           formed = kept.stands.formed;
         }
 
-    opened_left_tells : IsSome (seen store.left)
+    opened_left_tells : IsSome (at store.left).seen
     opened_left_tells = left_telling.1 (ap is_some told_left)
 
-    opened_right_tells : IsSome (seen store.right)
+    opened_right_tells : IsSome (at store.right).seen
     opened_right_tells = right_telling.1 (ap is_some told_right)
 
     -- the first generation was begun on the left disk
     right_not_begun : store.side ≡ Right → found_on true l ≡ Absent → found_on false r ≡ Absent → ⊥
     right_not_begun side left_none right_none =
-        let a = told_of (seen store.left) opened_left_tells in
-        let b = told_of (seen store.right) opened_right_tells in
-        let go = going_of seen moment left_at store opened.going order in
+        let a = told_of (at store.left).seen opened_left_tells in
+        let b = told_of (at store.right).seen opened_right_tells in
+        let go = going_of at store opened.going order in
         let parity = settled_parity store.side a.0 b.0 start (go.settled a.0 b.0 a.1 b.1 start opened_stands) in
         let first : start.generation ≡ 1 =
         sym (ap (λ (i : Image). i.generation) (none_alike l r start kept.stands left_none right_none).image) in
         let no : false ≡ true = ap has_odd (sym side) ∙ parity ∙ ap is_odd first in
         absurd (cc (no))
 
-    left_since : (held : List ℕ) → seen store.left ≡ Some held → LeftSince moment left_at store.left (moment left) held
+    left_since : (held : List ℕ) → (at store.left).seen ≡ Some held → LeftSince at store.left (at left).moment held
     left_since held told =
-        let time = left_leaves.goes_on.later in (moment store.left, time, omega arith, stays store.left held told)
+        let time = left_leaves.goes_on.later in ((at store.left).moment, time, omega arith, stays store.left held told)
 
-    right_since : (held : List ℕ) → seen store.right ≡ Some held
-        → LeftSince moment left_at store.right (moment right) held
+    right_since : (held : List ℕ) → (at store.right).seen ≡ Some held
+        → LeftSince at store.right (at right).moment held
     right_since held told =
-        let time = right_leaves.goes_on.later in (moment store.right, time, omega arith, stays store.right held told)
+        let time = right_leaves.goes_on.later in ((at store.right).moment, time, omega arith, stays store.right held told)
 
     opened_aside : (side : Side) → store.side ≡ side → (held image : List ℕ)
-        → seen (beside side store.left store.right) ≡ Some held → IsAsItStood held image
+        → (at (beside side store.left store.right)).seen ≡ Some held → IsAsItStood held image
         → IsOfRun (other side) l r start [] NoFault image
     opened_aside Left is held image told stood =
         opening_with Right l r start NoFault image kept held (right_leaves.each held (right_since held told)) stood
@@ -851,7 +852,7 @@ module _ {D : Type 0} (seen : D → Option (List ℕ)) (moment : D → ℕ) (lef
         by (inl opens) = opening_with Left l r start NoFault image kept held opens stood
         by (inr (left_none, right_none, created)) = absurd (right_not_begun is left_none right_none)
 
-    pub begins : Past seen moment left_at (λ side. moment (on side left right)) l r start [] store
+    pub begins : Past at (λ side. (at (on side left right)).moment) l r start [] store
     begins = record {
       kept = kept;
       going = opened.going;
@@ -863,7 +864,7 @@ module _ {D : Type 0} (seen : D → Option (List ℕ)) (moment : D → ℕ) (lef
       aside = λ held image told stood. opened_aside store.side refl held image told stood;
     }
       where
-        later : (side : Side) → moment (on side left right) ≤ moment (on side store.left store.right)
+        later : (side : Side) → (at (on side left right)).moment ≤ (at (on side store.left store.right)).moment
         later Left = left_leaves.goes_on.later
         later Right = right_leaves.goes_on.later
 
@@ -871,11 +872,11 @@ module _ {D : Type 0} (seen : D → Option (List ℕ)) (moment : D → ℕ) (lef
 
   module _ (since : Side → ℕ) (l r : List ℕ) (start : State) (requests : List Request) (fault : Fault)
       (store : Stored D) (left right : D) (a b : List ℕ)
-      (past : Past seen moment left_at since l r start [] store) (order : IsInOrder seen moment left_at store)
-      (told_left : seen store.left ≡ Some a) (told_right : seen store.right ≡ Some b) where
+      (past : Past at since l r start [] store) (order : IsInOrder at store)
+      (told_left : (at store.left).seen ≡ Some a) (told_right : (at store.right).seen ≡ Some b) where
     join_settled : IsSettledFor store.side a b start
     join_settled =
-        (going_of seen moment left_at store past.going order).settled a b told_left told_right start past.stands
+        (going_of at store past.going order).settled a b told_left told_right start past.stands
 
     join_grows : Grows l r start [] requests fault
     join_grows = grows_all l r start requests fault
@@ -892,7 +893,7 @@ module _ {D : Type 0} (seen : D → Option (List ℕ)) (moment : D → ℕ) (lef
         → IsOfRun (other store.side) l r start requests fault image
     join_beside image stood = join_grows.images (other store.side) image
         (past.aside (beside store.side a b) image
-        (beside_told seen store.side store.left store.right a b told_left told_right) stood)
+        (beside_told at store.side store.left store.right a b told_left told_right) stood)
 
     join_stood : (side : Side) (image : List ℕ) → IsAsItStood (on side a b) image
         → IsOfRun side l r start requests fault image
@@ -923,20 +924,20 @@ module _ {D : Type 0} (seen : D → Option (List ℕ)) (moment : D → ℕ) (lef
         (settled_parity store.side a b start join_settled ∙ sym (first_parity side l r start past.kept first)) in
         subst (λ (s : Side). IsTakenFirst s a b) same (settled_first store.side a b start join_settled)
 
-    module _ (left_time : GoesOn moment left_at store.left left) (right_time : GoesOn moment left_at store.right right)
-        (further : LeavesPast moment left_at (λ side. moment (on side store.left store.right)) a b start requests fault
+    module _ (left_time : GoesOn at store.left left) (right_time : GoesOn at store.right right)
+        (further : LeavesPast at (λ side. (at (on side store.left store.right)).moment) a b start requests fault
         left right) where
-      time_on : (side : Side) → GoesOn moment left_at (on side store.left store.right) (on side left right)
+      time_on : (side : Side) → GoesOn at (on side store.left store.right) (on side left right)
       time_on Left = left_time
       time_on Right = right_time
 
-      pub joins : LeavesPast moment left_at since l r start requests fault left right
-      joins = all_of moment left_at l r start since requests fault left right (λ side.
-          goes moment left_at l r start side (since side) requests fault (on side store.left store.right)
+      pub joins : LeavesPast at since l r start requests fault left right
+      joins = all_of at l r start since requests fault left right (λ side.
+          goes at l r start side (since side) requests fault (on side store.left store.right)
           (on side left right) (time_on side) (past.later side) (before side) (done side))
         where
           before : (side : Side)
-              → LeavesOne moment left_at l r start side (since side) requests fault (on side store.left store.right)
+              → LeavesOne at l r start side (since side) requests fault (on side store.left store.right)
           before side = record {
             images = λ image was. join_grows.images side image (past.leaves.images side image was);
             whole = λ first few image was absent.
@@ -944,7 +945,7 @@ module _ {D : Type 0} (seen : D → Option (List ℕ)) (moment : D → ℕ) (lef
                 past.leaves.whole side first (omega (arith, fewer, few)) image was absent;
           }
 
-          done : (side : Side) → LeavesOne moment left_at l r start side (moment (on side store.left store.right))
+          done : (side : Side) → LeavesOne at l r start side (at (on side store.left store.right)).moment
               requests fault (on side left right)
           done side = record {
             images = λ image was. join_image side image (further.images side image was);
@@ -952,11 +953,11 @@ module _ {D : Type 0} (seen : D → Option (List ℕ)) (moment : D → ℕ) (lef
           }
 
 -- From a state that is the same.
-pub past_alike : {D : Type 0} (moment : D → ℕ) (left_at : D → ℕ → List ℕ → Type 0) (since : Side → ℕ) (l r : List ℕ)
+pub past_alike : {D : Type 0} (at : D → DiskAt) (since : Side → ℕ) (l r : List ℕ)
     (s t : State) (requests : List Request) (fault : Fault) (left right : D) → Alike s t
-    → LeavesPast moment left_at since l r s requests fault left right
-    → LeavesPast moment left_at since l r t requests fault left right
-past_alike moment left_at since l r s t requests fault left right alike past = record {
+    → LeavesPast at since l r s requests fault left right
+    → LeavesPast at since l r t requests fault left right
+past_alike at since l r s t requests fault left right alike past = record {
   images = λ side image was. of_alike side l r s t requests fault image alike (past.images side image was);
   whole = λ side first few image was absent. past.whole side first
       (subst (λ (cs : List Command). count_by (λ (c : Command). is_rotate c.call) (cs ++ failed_commands fault) ≤ 1)

@@ -1,5 +1,6 @@
 -- A rotation at a store: the next generation begins on the disk beside.
 use Rattle.std.proofs.Common.{◌≡◌, ◌⊎◌, ◌↔◌, inl, inr, ⊎_elim, ◌+◌, ℕ, List, [], Bool, true, false, ◌&&◌, if◌then◌else◌, Option, Some, None, IfSome, IsSome, refl, sym, ◌∙◌, ap, subst}
+use Rattle.liq_outside.specs.At.{DiskAt}
 use Rattle.liq_outside.specs.Disk.{GoesOn, LeavesOnly, LeftNow, LeftSince, Only}
 use Rattle.liq_outside.proofs.Moments.{at_last, unmoved}
 use Rattle.liq_types.specs.declared.events.ListChange.{ListChange}
@@ -56,14 +57,14 @@ rotation_is : (s : State) (c : Command) (w : Written) → IsRotationOf s w c →
 rotation_is s c w rotation = (λ i. is_rotate (rotation.rotates i) && is_allowed (rotation.allowed i))
 
 -- a call that turns to the other disk, on a store that was not stopped
-pub record Turns {D : Type 0} (seen : D → Option (List ℕ)) (moment : D → ℕ) (left_at : D → ℕ → List ℕ → Type 0) (side : Side) (taken : JournalOn D) (b now : D) (core : Core) (c : Command) (bytes : List ℕ) : Type 0 where
-  pub going : Going seen moment left_at side taken.disk b core
+pub record Turns {D : Type 0} (at : D → DiskAt) (side : Side) (taken : JournalOn D) (b now : D) (core : Core) (c : Command) (bytes : List ℕ) : Type 0 where
+  pub going : Going at side taken.disk b core
   pub generation_is : taken.generation ≡ core.image.generation
   pub parity : is_odd (taken.generation + 1) ≡ has_odd (other side)
   pub rotation : (s : State) → StandsFor core s → IsRotationOf s (beginning (s.generation + 1) bytes) c
-  pub telling : IsSome (seen now) ↔ IsSome (seen b)
-  pub crash : CrashOfCreate seen moment left_at b now (taken.generation + 1) bytes
-  pub time : GoesOn moment left_at b now
+  pub telling : IsSome (at now).seen ↔ IsSome (at b).seen
+  pub crash : CrashOfCreate at b now (taken.generation + 1) bytes
+  pub time : GoesOn at b now
 
 -- what was planned on a protocol of the same content, and is written from these bytes
 pub rotation_from : (core prepared told : Core) (plan : Plan) (c : Command) (bytes read : List ℕ) → SameContent core prepared → told ≡ prepared → plan.command ≡ c → read ≡ bytes
@@ -74,13 +75,13 @@ rotation_from core prepared told plan c bytes read same is command reads made s 
     (subst (λ (l : List ℕ). IsRotationOf s (beginning (s.generation + 1) l) plan.command) (sym reads)
     (made s (subst (λ (k : Core). StandsFor k s) (sym is) (stands_after core prepared s same stands))))
 
-pub turns_by : {D : Type 0} {changes : List ListChange} (seen : D → Option (List ℕ)) (moment : D → ℕ) (left_at : D → ℕ → List ℕ → Type 0) (side : Side) (taken : JournalOn D) (b now : D) (core : Core) (stopped : Option ℕ) (c : Command) (bytes : List ℕ)
-    → stopped ≡ None → IsWithin seen moment left_at side taken b core stopped changes
+pub turns_by : {D : Type 0} {changes : List ListChange} (at : D → DiskAt) (side : Side) (taken : JournalOn D) (b now : D) (core : Core) (stopped : Option ℕ) (c : Command) (bytes : List ℕ)
+    → stopped ≡ None → IsWithin at side taken b core stopped changes
     → ((s : State) → StandsFor core s → IsRotationOf s (beginning (s.generation + 1) bytes) c)
-    → (IsSome (seen now) ↔ IsSome (seen b)) → CrashOfCreate seen moment left_at b now (taken.generation + 1) bytes → GoesOn moment left_at b now
-    → Turns seen moment left_at side taken b now core c bytes
-turns_by {D} {changes} seen moment left_at side taken b now core stopped c bytes none within rotation telling crash time = record {
-  going = going_by seen moment left_at changes side taken b core stopped none within.order;
+    → (IsSome (at now).seen ↔ IsSome (at b).seen) → CrashOfCreate at b now (taken.generation + 1) bytes → GoesOn at b now
+    → Turns at side taken b now core c bytes
+turns_by {D} {changes} at side taken b now core stopped c bytes none within rotation telling crash time = record {
+  going = going_by at changes side taken b core stopped none within.order;
   generation_is = within.generation_is;
   parity = next_side taken.generation side within.parity_is;
   rotation = rotation;
@@ -89,56 +90,56 @@ turns_by {D} {changes} seen moment left_at side taken b now core stopped c bytes
   time = time;
 }
 
-module _ {D : Type 0} (seen : D → Option (List ℕ)) (moment : D → ℕ) (left_at : D → ℕ → List ℕ → Type 0) (side : Side) (taken : JournalOn D) (b now : D) (core : Core) (c : Command) (bytes : List ℕ)
-    (turns : Turns seen moment left_at side taken b now core c bytes) where
+module _ {D : Type 0} (at : D → DiskAt) (side : Side) (taken : JournalOn D) (b now : D) (core : Core) (c : Command) (bytes : List ℕ)
+    (turns : Turns at side taken b now core c bytes) where
   next_is : (s : State) → StandsFor core s → taken.generation + 1 ≡ s.generation + 1
   next_is s stands = ap (λ (n : ℕ). n + 1) (turns.generation_is ∙ ap (λ (i : Image). i.generation) stands.image)
 
   -- what a crash in it may have left of the disk beside
-  leaves : (s : State) → StandsFor core s → (held : List ℕ) → seen b ≡ Some held → LeavesOnly moment left_at b now (CreateLeaves (has_odd (other side)) held (beginning (s.generation + 1) bytes))
+  leaves : (s : State) → StandsFor core s → (held : List ℕ) → (at b).seen ≡ Some held → LeavesOnly at b now (CreateLeaves (has_odd (other side)) held (beginning (s.generation + 1) bytes))
   leaves s stands held told =
-      let only : Only held (LeftNow moment left_at b) = subst (λ (o : Option (List ℕ)). IfSome o (λ l. Only l (LeftNow moment left_at b))) told turns.going.beside_rests in
-      subst (λ (n : ℕ). LeavesOnly moment left_at b now (CreateLeaves (has_odd (other side)) held (beginning n bytes))) (next_is s stands)
-      (subst (λ (o : Bool). LeavesOnly moment left_at b now (CreateLeaves o held (beginning (taken.generation + 1) bytes))) turns.parity (turns.crash held told only))
+      let only : Only held (LeftNow at b) = subst (λ (o : Option (List ℕ)). IfSome o (λ l. Only l (LeftNow at b))) told turns.going.beside_rests in
+      subst (λ (n : ℕ). LeavesOnly at b now (CreateLeaves (has_odd (other side)) held (beginning n bytes))) (next_is s stands)
+      (subst (λ (o : Bool). LeavesOnly at b now (CreateLeaves o held (beginning (taken.generation + 1) bytes))) turns.parity (turns.crash held told only))
 
-  around : (held aside image : List ℕ) → seen taken.disk ≡ Some held → seen b ≡ Some aside → (s : State) → StandsFor core s
+  around : (held aside image : List ℕ) → (at taken.disk).seen ≡ Some held → (at b).seen ≡ Some aside → (s : State) → StandsFor core s
       → CreateLeaves (has_odd (other side)) aside (beginning (s.generation + 1) bytes) image
       → IsKept (on side held image) (on side image held) s ⊎ IsKept (on side held image) (on side image held) (after s c)
   around held aside image th ta s stands left =
       kept_turning side held aside image s c (beginning (s.generation + 1) bytes) (turns.going.settled held aside th ta s stands) (turns.rotation s stands) refl left
 
   -- every pair that a crash in it may have left
-  kept_pairs : (held aside : List ℕ) (s : State) → seen taken.disk ≡ Some held → seen b ≡ Some aside → StandsFor core s
-      → (x y : List ℕ) → LeftSince moment left_at taken.disk (moment taken.disk) x → LeftSince moment left_at now (moment b) y → IsKeptAround s (Do c) (on side x y) (on side y x)
+  kept_pairs : (held aside : List ℕ) (s : State) → (at taken.disk).seen ≡ Some held → (at b).seen ≡ Some aside → StandsFor core s
+      → (x y : List ℕ) → LeftSince at taken.disk (at taken.disk).moment x → LeftSince at now (at b).moment y → IsKeptAround s (Do c) (on side x y) (on side y x)
   kept_pairs held aside s th ta stands x y lx ly =
-      let same : x ≡ held = rest_only seen moment left_at taken.disk held th turns.going.taken_rests x lx in
+      let same : x ≡ held = rest_only at taken.disk held th turns.going.taken_rests x lx in
       let one : (step s (Do c)).0 ≡ after s c = step_is_after s c (turns.rotation s stands).allowed in
       subst (λ (l : List ℕ). IsKeptAround s (Do c) (on side l y) (on side y l)) (sym same)
       (⊎_elim (λ before. inl before) (λ next. inr (subst (λ (t : State). IsKept (on side held y) (on side y held) t) (sym one) next))
       (around held aside y th ta s stands ((leaves s stands aside ta).each y ly)))
 
   -- every pair that a crash after it may leave
-  pub turning_near : (held told_now x y : List ℕ) → seen taken.disk ≡ Some held → seen now ≡ Some told_now → LeftNow moment left_at taken.disk x → LeftNow moment left_at now y
+  pub turning_near : (held told_now x y : List ℕ) → (at taken.disk).seen ≡ Some held → (at now).seen ≡ Some told_now → LeftNow at taken.disk x → LeftNow at now y
       → (s : State) → StandsFor core s → IsKeptNear s (on side x y) (on side y x)
   turning_near held told_now x y th tn lx ly s stands =
-      let aside = told_too (seen now) (seen b) (turns.telling.1, turns.telling.0) told_now tn in
-      let same : x ≡ held = rest_now seen moment left_at taken.disk held th turns.going.taken_rests x lx in
-      let left = at_last moment left_at b now _ (leaves s stands aside.0 aside.1) y ly in
+      let aside = told_too (at now).seen (at b).seen (turns.telling.1, turns.telling.0) told_now tn in
+      let same : x ≡ held = rest_now at taken.disk held th turns.going.taken_rests x lx in
+      let left = at_last at b now _ (leaves s stands aside.0 aside.1) y ly in
       subst (λ (l : List ℕ). IsKeptNear s (on side l y) (on side y l)) (sym same)
       (⊎_elim (λ still. inl still) (λ next. inr (c, (turns.rotation s stands).allowed, next)) (around held aside.0 y th aside.1 s stands left))
 
   -- ---- the next generation stands, and the step is made
 
-  pub turned : (next : Core) (s : State) → StandsFor core s → ((t : State) → StandsFor core t → StandsFor next (after t c)) → IsAtRest seen moment left_at now
-      → ((held : List ℕ) → seen b ≡ Some held → (image : List ℕ) × (seen now ≡ Some image) × Stands (is_odd (taken.generation + 1)) image (beginning (taken.generation + 1) bytes))
-      → Going seen moment left_at (other side) now taken.disk next
+  pub turned : (next : Core) (s : State) → StandsFor core s → ((t : State) → StandsFor core t → StandsFor next (after t c)) → IsAtRest at now
+      → ((held : List ℕ) → (at b).seen ≡ Some held → (image : List ℕ) × ((at now).seen ≡ Some image) × Stands (is_odd (taken.generation + 1)) image (beginning (taken.generation + 1) bytes))
+      → Going at (other side) now taken.disk next
   turned next s stands steps rests created = record {
     taken_rests = rests;
     beside_rests = turns.going.taken_rests;
     settled = λ image held ti th t so.
-        let aside = told_too (seen now) (seen b) (turns.telling.1, turns.telling.0) image ti in
+        let aside = told_too (at now).seen (at b).seen (turns.telling.1, turns.telling.0) image ti in
         let one = created aside.0 aside.1 in
-        let same : one.0 ≡ image = some_same one.0 image (seen now) one.1 ti in
+        let same : one.0 ≡ image = some_same one.0 image (at now).seen one.1 ti in
         let w = beginning (s.generation + 1) bytes in
         let stood : Stands (has_odd (other side)) image w =
         subst (λ (n : ℕ). Stands (has_odd (other side)) image (beginning n bytes)) (next_is s stands)
@@ -148,27 +149,27 @@ module _ {D : Type 0} (seen : D → Option (List ℕ)) (moment : D → ℕ) (lef
         settled_alike (core_alike next (after s c) t (steps s stands) so) (other side) (on (other side) image held) (on (other side) held image) settled;
   }
 
-  pub turning_within : {changes : List ListChange} (next : Core) (s : State) → StandsFor core s → ((t : State) → StandsFor core t → StandsFor next (after t c)) → IsAtRest seen moment left_at now
-      → ((held : List ℕ) → seen b ≡ Some held → (image : List ℕ) × (seen now ≡ Some image) × Stands (is_odd (taken.generation + 1)) image (beginning (taken.generation + 1) bytes))
-      → (generation limit start count : ℕ) → generation ≡ taken.generation + 1 → count ≡ 0 → IfSome (seen now) (IsSettled generation start count)
-      → IsWithin seen moment left_at (other side) (record { disk = now; generation = generation; limit = limit; start = start; count = count }) taken.disk next None changes
+  pub turning_within : {changes : List ListChange} (next : Core) (s : State) → StandsFor core s → ((t : State) → StandsFor core t → StandsFor next (after t c)) → IsAtRest at now
+      → ((held : List ℕ) → (at b).seen ≡ Some held → (image : List ℕ) × ((at now).seen ≡ Some image) × Stands (is_odd (taken.generation + 1)) image (beginning (taken.generation + 1) bytes))
+      → (generation limit start count : ℕ) → generation ≡ taken.generation + 1 → count ≡ 0 → IfSome (at now).seen (IsSettled generation start count)
+      → IsWithin at (other side) (record { disk = now; generation = generation; limit = limit; start = start; count = count }) taken.disk next None changes
   turning_within next s stands steps rests created generation limit start count later none settled = record {
-    order = order_going seen moment left_at (other side) (record { disk = now; generation = generation; limit = limit; start = start; count = count }) taken.disk next (turned next s stands steps rests created);
+    order = order_going at (other side) (record { disk = now; generation = generation; limit = limit; start = start; count = count }) taken.disk next (turned next s stands steps rests created);
     generation_is = later ∙ ap (λ (n : ℕ). n + 1) turns.generation_is ∙ sym (next_generation core next s c (turns.rotation s stands).rotates stands (steps s stands));
     parity_is = ap is_odd later ∙ turns.parity;
     count_is = none ∙ sym (no_records next s c (turns.rotation s stands).rotates (steps s stands));
-    told = all_has (seen now) generation start count settled;
+    told = all_has (at now).seen generation start count settled;
     settled = λ goes. settled;
   }
 
   -- ---- after a fault nothing of it is known
 
-  pub turning_halts : {before changes : List ListChange} → ((disk : D) (held : List ℕ) → seen disk ≡ Some held → LeftNow moment left_at disk held)
-      → (stopped : Option ℕ) → IsWithin seen moment left_at side taken b core stopped before → (next : Core) → SameContent core next → (sum : ℕ)
-      → IsWithin seen moment left_at side taken now next (Some sum) changes
+  pub turning_halts : {before changes : List ListChange} → ((disk : D) (held : List ℕ) → (at disk).seen ≡ Some held → LeftNow at disk held)
+      → (stopped : Option ℕ) → IsWithin at side taken b core stopped before → (next : Core) → SameContent core next → (sum : ℕ)
+      → IsWithin at side taken now next (Some sum) changes
   turning_halts {before} {changes} stays stopped within next same sum =
-      within_same seen moment left_at {before = changes} side taken now core next (Some sum) same (record {
-        order = order_halted seen moment left_at side taken now core sum stays turning_near;
+      within_same at {before = changes} side taken now core next (Some sum) same (record {
+        order = order_halted at side taken now core sum stays turning_near;
         generation_is = within.generation_is;
         parity_is = within.parity_is;
         count_is = within.count_is;
@@ -178,10 +179,10 @@ module _ {D : Type 0} (seen : D → Option (List ℕ)) (moment : D → ℕ) (lef
 
   -- ---- what it does to the disks
 
-  module _ (stopped : Option ℕ) (before : List ListChange) (within : IsWithin seen moment left_at side taken b core stopped before) where
+  module _ (stopped : Option ℕ) (before : List ListChange) (within : IsWithin at side taken b core stopped before) where
     writes : (a : Answer) (side' : Side) (start' : ℕ) → ((s : State) → StandsFor core s → side' ≡ side_after a s (Do c) side)
         → ((s : State) → StandsFor core s → start' ≡ start_after a s (Do c) taken.start) → (a ≡ answer.NoMemory → ⊥)
-        → Writes seen moment left_at side core taken.start stopped (Do c) a taken.disk b taken.disk now side' start'
+        → Writes at side core taken.start stopped (Do c) a taken.disk b taken.disk now side' start'
     writes a side' start' side_is start_is some = record {
       side_is = side_is;
       start_is = start_is;
@@ -189,37 +190,37 @@ module _ {D : Type 0} (seen : D → Option (List ℕ)) (moment : D → ℕ) (lef
       aside = λ s stands none. (let no : false ≡ true = sym none ∙ rotation_is s c (beginning (s.generation + 1) bytes) (turns.rotation s stands) in absurd (cc (no)));
       unwritten = λ s stands refused. absurd (refused (turns.rotation s stands).allowed);
       no_memory = λ none. absurd (some none);
-      written = λ none held w k told found is. taken_left seen moment left_at side taken b core stopped before within none held w (read_back k) told found;
+      written = λ none held w k told found is. taken_left at side taken b core stopped before within none held w (read_back k) told found;
       created = λ none s stands held k told is rotation.
           let one : c ≡ k = cc (is) in
-          subst (λ (d : Command). LeavesOnly moment left_at b now (CreateLeaves (has_odd (other side)) held (rotation_of s d))) one
-          (subst (λ (l : List ℕ). LeavesOnly moment left_at b now (CreateLeaves (has_odd (other side)) held (beginning (s.generation + 1) l)))
+          subst (λ (d : Command). LeavesOnly at b now (CreateLeaves (has_odd (other side)) held (rotation_of s d))) one
+          (subst (λ (l : List ℕ). LeavesOnly at b now (CreateLeaves (has_odd (other side)) held (beginning (s.generation + 1) l)))
           (turns.rotation s stands).checkpoint_is (leaves s stands held told));
       kept = λ none held aside s th ta stands x y lx ly. kept_pairs held aside s th ta stands x y lx ly;
       taken_telling = (λ some. some, λ some. some);
       aside_telling = turns.telling;
-      taken_time = unmoved moment left_at taken.disk;
+      taken_time = unmoved at taken.disk;
       aside_time = turns.time;
     }
 
     -- after a fault the same disk is taken
     pub turning_failed : (old : Stored D) → stored side taken b core stopped before ≡ old → (request : Request) → request ≡ Do c → (next : Core) (later : Option ℕ) (changes : List ListChange)
-        → WritesOn seen moment left_at old request answer.DiskFault (stored side taken now next later changes)
+        → WritesOn at old request answer.DiskFault (stored side taken now next later changes)
     turning_failed old same request is next later changes =
-        subst (λ (o : Stored D). WritesOn seen moment left_at o request answer.DiskFault (stored side taken now next later changes)) same
-        (subst (λ (q : Request). WritesOn seen moment left_at (stored side taken b core stopped before) q answer.DiskFault (stored side taken now next later changes)) (sym is)
-        (writes_on seen moment left_at side side core next taken.start taken.start stopped later before changes (Do c) answer.DiskFault taken.disk b taken.disk now
+        subst (λ (o : Stored D). WritesOn at o request answer.DiskFault (stored side taken now next later changes)) same
+        (subst (λ (q : Request). WritesOn at (stored side taken b core stopped before) q answer.DiskFault (stored side taken now next later changes)) (sym is)
+        (writes_on at side side core next taken.start taken.start stopped later before changes (Do c) answer.DiskFault taken.disk b taken.disk now
         (writes answer.DiskFault side taken.start (λ s stands. refl) (λ s stands. refl) (λ none. absurd (cc (none))))))
 
     -- after a reply the other one
     pub turning_done : (old : Stored D) → stored side taken b core stopped before ≡ old → (request : Request) → request ≡ Do c → (reply : Reply) (next : Core) (later : Option ℕ) (changes : List ListChange)
         → (generation limit start count : ℕ) → start ≡ start_of (beginning (taken.generation + 1) bytes)
-        → WritesOn seen moment left_at old request (answer.Reply reply) (stored (other side) (record { disk = now; generation = generation; limit = limit; start = start; count = count }) taken.disk next later changes)
+        → WritesOn at old request (answer.Reply reply) (stored (other side) (record { disk = now; generation = generation; limit = limit; start = start; count = count }) taken.disk next later changes)
     turning_done old same request is reply next later changes generation limit start count known =
         let new = stored (other side) (record { disk = now; generation = generation; limit = limit; start = start; count = count }) taken.disk next later changes in
-        subst (λ (o : Stored D). WritesOn seen moment left_at o request (answer.Reply reply) new) same
-        (subst (λ (q : Request). WritesOn seen moment left_at (stored side taken b core stopped before) q (answer.Reply reply) new) (sym is)
-        (turned_on seen moment left_at side core next taken.start start stopped later before changes (Do c) (answer.Reply reply) taken.disk b now
+        subst (λ (o : Stored D). WritesOn at o request (answer.Reply reply) new) same
+        (subst (λ (q : Request). WritesOn at (stored side taken b core stopped before) q (answer.Reply reply) new) (sym is)
+        (turned_on at side core next taken.start start stopped later before changes (Do c) (answer.Reply reply) taken.disk b now
         (writes (answer.Reply reply) (other side) start
         (λ s stands. sym (ap (λ (b : Bool). if b then other side else side) (rotation_is s c (beginning (s.generation + 1) bytes) (turns.rotation s stands))))
         (λ s stands. known

@@ -1,5 +1,6 @@
 -- What a call does to the disks of a store.
-use Rattle.std.specs.Prelude.{◌≡◌, ◌↔◌, ℕ, List, Option, Some, None, IsSome, true, false}
+use Rattle.std.specs.Prelude.{◌≡◌, ◌↔◌, ℕ, List, Some, None, IsSome, true, false}
+use Rattle.liq_outside.specs.At.{DiskAt}
 use Rattle.liq_outside.specs.Disk.{GoesOn, LeavesOnly}
 use Rattle.liq_types.specs.declared.requests.Command.{Command}
 use Rattle.liq_types.specs.declared.requests.Request.{Request}
@@ -19,11 +20,12 @@ use Rattle.liq_store.specs.Stored.{Stored, disk_beside, taken_disk}
 
 -- Only an accepted command is written: a rotation on the disk that was beside, which is taken after the reply, and any
 -- other on the one that was taken.
-pub record WritesOn
-    {D : Type 0} (seen : D → Option (List ℕ)) (moment : D → ℕ) (left_at : D → ℕ → List ℕ → Type 0)
-    (old : Stored D) (request : Request) (answer : Answer) (new : Stored D) : Type 0 where
+pub record WritesOn {D : Type 0} (at : D → DiskAt) (old : Stored D) (request : Request)
+    (answer : Answer) (new : Stored D) : Type 0 where
   pub side : (s : State) → StandsFor old.core s → new.side ≡ side_after answer s request old.side
-  pub start : (s : State) → StandsFor old.core s → new.start ≡ start_after answer s request old.start
+  pub start :
+      (s : State) → StandsFor old.core s
+      → new.start ≡ start_after answer s request old.start
   pub taken :
       (s : State) → StandsFor old.core s → is_rotation s request ≡ true
       → on old.side new.left new.right ≡ taken_disk old
@@ -37,21 +39,22 @@ pub record WritesOn
   -- what a stop in it may leave of the disk that was taken
   pub written :
       old.stopped ≡ None → (held : List ℕ) (w : Written) (c : Command)
-      → seen (taken_disk old) ≡ Some held → found_on (has_odd old.side) held ≡ Open w → request ≡ Do c
-      → LeavesOnly moment left_at (taken_disk old) (on old.side new.left new.right)
+      → (at (taken_disk old)).seen ≡ Some held
+      → found_on (has_odd old.side) held ≡ Open w → request ≡ Do c
+      → LeavesOnly at (taken_disk old) (on old.side new.left new.right)
       (BeforeOrAfter (has_odd old.side) w (read_back c))
   -- of the other one
   pub created :
       old.stopped ≡ None → (s : State) → StandsFor old.core s → (held : List ℕ) (c : Command)
-      → seen (disk_beside old) ≡ Some held → request ≡ Do c → is_rotation s request ≡ true
-      → LeavesOnly moment left_at (disk_beside old) (beside old.side new.left new.right)
+      → (at (disk_beside old)).seen ≡ Some held → request ≡ Do c → is_rotation s request ≡ true
+      → LeavesOnly at (disk_beside old) (beside old.side new.left new.right)
       (CreateLeaves (has_odd (other old.side)) held (rotation_of s c))
   -- and of both: they are kept for the state before the call or after it
   pub kept :
       old.stopped ≡ None → (l r : List ℕ) (s : State)
-      → seen old.left ≡ Some l → seen old.right ≡ Some r → StandsFor old.core s
-      → LeavesPairs moment left_at old.left old.right new.left new.right (IsKeptAround s request)
-  pub left_telling : IsSome (seen new.left) ↔ IsSome (seen old.left)
-  pub right_telling : IsSome (seen new.right) ↔ IsSome (seen old.right)
-  pub left_time : GoesOn moment left_at old.left new.left
-  pub right_time : GoesOn moment left_at old.right new.right
+      → (at old.left).seen ≡ Some l → (at old.right).seen ≡ Some r → StandsFor old.core s
+      → LeavesPairs at old.left old.right new.left new.right (IsKeptAround s request)
+  pub left_telling : IsSome (at new.left).seen ↔ IsSome (at old.left).seen
+  pub right_telling : IsSome (at new.right).seen ↔ IsSome (at old.right).seen
+  pub left_time : GoesOn at old.left new.left
+  pub right_time : GoesOn at old.right new.right

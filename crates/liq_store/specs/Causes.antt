@@ -1,5 +1,6 @@
 -- The counts of both disks' faults over a call.
 use Rattle.std.specs.Prelude.{◌≡◌, ◌⊎◌, ℕ, ◌+◌, ◌≤◌, min, Option, Some, None, Result, Err}
+use Rattle.liq_outside.specs.At.{DiskAt}
 use Rattle.liq_outside.specs.Faults.{Rose, count_most}
 use Rattle.liq_types.specs.declared.replies.Answer.{Answer}
 use Rattle.liq_types.specs.declared.replies.Answer.TheVariants as answer
@@ -13,8 +14,8 @@ pub record Faults : Type 0 where
   pub left : ℕ
   pub right : ℕ
 
-abbrev pub counts_of : {D : Type 0} → (D → ℕ) → D → D → Faults
-counts_of faults left right = record { left = faults left; right = faults right }
+abbrev pub counts_of : {D : Type 0} → (D → DiskAt) → D → D → Faults
+counts_of at left right = record { left = (at left).faults; right = (at right).faults }
 
 -- one of them rose
 pub record OneRose (before after : Faults) : Type 0 where
@@ -49,6 +50,7 @@ abbrev pub stopped_after : Option ℕ → Answer → Faults → Option ℕ
 stopped_after stopped answer.DiskFault faults = stopped_by stopped faults
 stopped_after stopped _ faults = stopped
 
-abbrev pub stopped_after_reading : {T : Type 0} → Option ℕ → Result T AcceptedFault → Faults → Option ℕ
+abbrev pub stopped_after_reading : {T : Type 0} → Option ℕ → Result T AcceptedFault → Faults
+    → Option ℕ
 stopped_after_reading stopped (Err accepted.DiskFault) faults = stopped_by stopped faults
 stopped_after_reading stopped _ faults = stopped

@@ -1,5 +1,6 @@
 -- What the disks of a store keep.
 use Rattle.std.specs.Prelude.{◌≡◌, ◌⊎◌, ℕ, List, Option, Some, None, IfSome}
+use Rattle.liq_outside.specs.At.{DiskAt}
 use Rattle.liq_outside.specs.Disk.{LeftNow, LeftSince, Only}
 use Rattle.liq_types.specs.declared.requests.Command.{Command}
 use Rattle.liq_types.specs.declared.requests.Request.{Request}
@@ -20,36 +21,35 @@ IsKeptNear s left right =
 
 -- All that a crash may have left of the one disk since it was `left`, beside all that one may have left of the other
 -- since it was `right`, has P.
-abbrev pub LeavesPairs : {D : Type 0}
-    → (D → ℕ) → (D → ℕ → List ℕ → Type 0) → D → D → D → D
+abbrev pub LeavesPairs : {D : Type 0} → (D → DiskAt) → D → D → D → D
     → (List ℕ → List ℕ → Type 0) → Type 0
-LeavesPairs moment left_at left right now_left now_right P =
+LeavesPairs at left right now_left now_right P =
     (a b : List ℕ)
-    → LeftSince moment left_at now_left (moment left) a → LeftSince moment left_at now_right (moment right) b
+    → LeftSince at now_left (at left).moment a → LeftSince at now_right (at right).moment b
     → P a b
 
-module _ {D : Type 0} (seen : D → Option (List ℕ)) (moment : D → ℕ) (left_at : D → ℕ → List ℕ → Type 0) where
+module _ {D : Type 0} (at : D → DiskAt) where
   -- where a disk tells its bytes, a crash now would leave just them
   abbrev pub IsAtRest : D → Type 0
-  IsAtRest disk = IfSome (seen disk) (λ held. Only held (LeftNow moment left_at disk))
+  IsAtRest disk = IfSome (at disk).seen (λ held. Only held (LeftNow at disk))
 
   -- nothing is pending, and what both disks tell is settled for the protocol's state
   pub record IsGoing (store : Stored D) : Type 0 where
     pub left : IsAtRest store.left
     pub right : IsAtRest store.right
     pub settled :
-        (l r : List ℕ) → seen store.left ≡ Some l → seen store.right ≡ Some r
+        (l r : List ℕ) → (at store.left).seen ≡ Some l → (at store.right).seen ≡ Some r
         → (s : State) → StandsFor store.core s → IsSettledFor store.side l r s
 
   -- What both disks tell, and all that a crash now may leave of the one beside all of the other, is kept for the
   -- protocol's state or for it with one command more.
   pub record IsHalted (store : Stored D) : Type 0 where
     pub read :
-        (l r : List ℕ) → seen store.left ≡ Some l → seen store.right ≡ Some r
+        (l r : List ℕ) → (at store.left).seen ≡ Some l → (at store.right).seen ≡ Some r
         → (s : State) → StandsFor store.core s → IsKeptNear s l r
     pub left_so :
-        (l r a b : List ℕ) → seen store.left ≡ Some l → seen store.right ≡ Some r
-        → LeftNow moment left_at store.left a → LeftNow moment left_at store.right b
+        (l r a b : List ℕ) → (at store.left).seen ≡ Some l → (at store.right).seen ≡ Some r
+        → LeftNow at store.left a → LeftNow at store.right b
         → (s : State) → StandsFor store.core s → IsKeptNear s a b
 
   abbrev pub IsInOrderWith : Option ℕ → Stored D → Type 0

@@ -1,7 +1,8 @@
 -- What an opening finds, and what it leaves.
-use Rattle.std.specs.Prelude.{◌≡◌, ◌≢◌, ℕ, List, Option, Some, None, Result, Ok, Err, Bool}
+use Rattle.std.specs.Prelude.{◌≡◌, ◌≢◌, ℕ, List, Some, None, Result, Ok, Err, Bool}
 use Rattle.liq_types.specs.declared.requests.Command.{Command}
 use Rattle.liq_types.specs.State.{State}
+use Rattle.liq_outside.specs.At.{DiskAt}
 use Rattle.liq_core.specs.Core.{StandsFor}
 use Rattle.liq_journal.specs.Written.{Open, Written, found_on, start_of}
 use Rattle.liq_pairs.specs.Kept.{IsKept}
@@ -24,7 +25,8 @@ right_after (Ok store) = store.right
 right_after (Err fault) = fault.right
 
 -- A journal is open on the disk, whose records begin at this place, and has these commands.
-pub record HoldsCommands (odd : Bool) (bytes : List ℕ) (start : ℕ) (commands : List Command) : Type 0 where
+pub record HoldsCommands (odd : Bool) (bytes : List ℕ) (start : ℕ)
+    (commands : List Command) : Type 0 where
   pub written : Written
   pub found : found_on odd bytes ≡ Open written
   pub begins : start_of written ≡ start
@@ -32,20 +34,20 @@ pub record HoldsCommands (odd : Bool) (bytes : List ℕ) (start : ℕ) (commands
 
 -- The state for which the disks stand is the store's, and the disk that is taken holds the commands that lead there.
 -- Nothing met a fault, and the store goes on. The disks stand for what they stood for.
-pub record OpensOn
-    {D : Type 0} (seen : D → Option (List ℕ)) (faults : D → ℕ)
-    (left right : D) (store : Stored D) : Type 0 where
+pub record OpensOn {D : Type 0} (at : D → DiskAt) (left right : D) (store : Stored D) : Type 0 where
   pub state :
-      (l r : List ℕ) → seen left ≡ Some l → seen right ≡ Some r
+      (l r : List ℕ) → (at left).seen ≡ Some l → (at right).seen ≡ Some r
       → (s : State) × (state_on l r ≡ Ok s) × StandsFor store.core s
   pub commands :
-      (l r now : List ℕ) → seen left ≡ Some l → seen right ≡ Some r → seen (taken_disk store) ≡ Some now
+      (l r now : List ℕ) → (at left).seen ≡ Some l → (at right).seen ≡ Some r
+      → (at (taken_disk store)).seen ≡ Some now
       → HoldsCommands (has_odd store.side) now store.start (commands_on l r)
   pub going : store.stopped ≡ None
-  pub counts : counts_of faults store.left store.right ≡ counts_of faults left right
+  pub counts : counts_of at store.left store.right ≡ counts_of at left right
   pub stays :
       (l r a b : List ℕ)
-      → seen left ≡ Some l → seen right ≡ Some r → seen store.left ≡ Some a → seen store.right ≡ Some b
+      → (at left).seen ≡ Some l → (at right).seen ≡ Some r
+      → (at store.left).seen ≡ Some a → (at store.right).seen ≡ Some b
       → state_on a b ≡ state_on l r
 
 -- why nothing was opened: a damage is the first of the pair
@@ -57,16 +59,18 @@ IsWhyOf left right why.NoMemory = Unit {0}
 -- Why no store was opened: a damage is the first of the disks, and a disk's fault has its count. But for such a fault
 -- they stand for what they stood for, or are damaged as they were; after one they are kept for what they were kept for,
 -- or for it after the command that they held unfinished.
-pub record IsNotOpened
-    {D : Type 0} (seen : D → Option (List ℕ)) (faults : D → ℕ)
+pub record IsNotOpened {D : Type 0} (at : D → DiskAt)
     (left right : D) (fault : StoreFault D) : Type 0 where
-  pub cause : CausesWhy fault.why (counts_of faults left right) (counts_of faults fault.left fault.right)
-  pub is_why : (l r : List ℕ) → seen left ≡ Some l → seen right ≡ Some r → IsWhyOf l r fault.why
+  pub cause : CausesWhy fault.why (counts_of at left right) (counts_of at fault.left fault.right)
+  pub is_why :
+      (l r : List ℕ) → (at left).seen ≡ Some l → (at right).seen ≡ Some r
+      → IsWhyOf l r fault.why
   pub stays :
       (fault.why ≢ why.DiskFault) → (l r a b : List ℕ)
-      → seen left ≡ Some l → seen right ≡ Some r → seen fault.left ≡ Some a → seen fault.right ≡ Some b
+      → (at left).seen ≡ Some l → (at right).seen ≡ Some r
+      → (at fault.left).seen ≡ Some a → (at fault.right).seen ≡ Some b
       → state_on a b ≡ state_on l r
   pub reads :
-      (l r a b : List ℕ) (s : State) → seen left ≡ Some l → seen right ≡ Some r → IsKept l r s
-      → seen fault.left ≡ Some a → seen fault.right ≡ Some b
+      (l r a b : List ℕ) (s : State) → (at left).seen ≡ Some l → (at right).seen ≡ Some r
+      → IsKept l r s → (at fault.left).seen ≡ Some a → (at fault.right).seen ≡ Some b
       → IsRecovered l r s a b

@@ -1,6 +1,7 @@
 -- What a store keeps of its journal, beside what callers see.
 use Rattle.std.specs.Prelude.{◌≡◌, ◌≤◌, ℕ, List, length, Option, None, IfSome}
 use Rattle.liq_types.specs.declared.events.ListChange.{ListChange}
+use Rattle.liq_outside.specs.At.{DiskAt}
 use Rattle.liq_core.specs.Core.{Core}
 use Rattle.liq_journal.specs.Bodies.{IsJournalOf}
 use Rattle.liq_journal.specs.Crash.{is_odd}
@@ -12,7 +13,8 @@ use Rattle.liq_store.specs.Keeping.{IsInOrder}
 use Rattle.liq_store.specs.Stored.{Stored}
 
 -- as a store's fields are seen
-abbrev pub stored : {D : Type 0} → Side → JournalOn D → D → Core → Option ℕ → List ListChange → Stored D
+abbrev pub stored : {D : Type 0} → Side → JournalOn D → D → Core → Option ℕ → List ListChange
+    → Stored D
 stored side taken beside core stopped changes =
     record {
       left = on side taken.disk beside;
@@ -32,13 +34,13 @@ pub record HasRecords (generation start count : ℕ) (bytes : List ℕ) : Type 0
 
 -- The journal has the protocol's generation, and as many records as it counts; while the store is not stopped no more,
 -- and a 0 behind them.
-pub record IsWithin
-    {D : Type 0} (seen : D → Option (List ℕ)) (moment : D → ℕ) (left_at : D → ℕ → List ℕ → Type 0)
-    (side : Side) (taken : JournalOn D) (beside : D) (core : Core) (stopped : Option ℕ)
-    (changes : List ListChange) : Type 0 where
-  pub order : IsInOrder seen moment left_at (stored side taken beside core stopped changes)
+pub record IsWithin {D : Type 0} (at : D → DiskAt) (side : Side) (taken : JournalOn D) (beside : D)
+    (core : Core) (stopped : Option ℕ) (changes : List ListChange) : Type 0 where
+  pub order : IsInOrder at (stored side taken beside core stopped changes)
   pub generation_is : taken.generation ≡ core.image.generation
   pub parity_is : is_odd taken.generation ≡ has_odd side
   pub count_is : taken.count ≡ core.records
-  pub told : IfSome (seen taken.disk) (HasRecords taken.generation taken.start taken.count)
-  pub settled : stopped ≡ None → IfSome (seen taken.disk) (IsSettled taken.generation taken.start taken.count)
+  pub told : IfSome (at taken.disk).seen (HasRecords taken.generation taken.start taken.count)
+  pub settled :
+      stopped ≡ None
+      → IfSome (at taken.disk).seen (IsSettled taken.generation taken.start taken.count)

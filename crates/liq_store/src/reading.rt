@@ -3,7 +3,7 @@ ghost use Rattle.std.specs.Prelude.{◌≡◌, ◌≤◌, ◌-◌, Some, List, �
 ghost use Rattle.std.specs.List.{All};
 ghost use Rattle.liq_types.specs.declared.requests.Command.{Command};
 ghost use Rattle.liq_journal.specs.Bodies.{IsJournalOf};
-ghost use Rattle.liq_journal.specs.Looked.{Looked};
+ghost use Rattle.liq_outside.specs.Disk.{Looked};
 ghost use Rattle.liq_journal.specs.Written.{Written, is_rotate};
 ghost use Rattle.liq_records.specs.Reading.{CountsReading, IsReadable, IsRecordNumber};
 ghost use Rattle.liq_store.specs.Answering.{IsUnreadable};
@@ -19,14 +19,21 @@ use std::alloc::Global;
 // The command of the record of this number.
 pub fn read_command<D: Disk>(journal: &mut Journal<D>, index: u64) -> Result<Command, AcceptedFault>
     requires there { IsRecordNumber journal.old.count index }
-    ensures looked { Looked D.seen D.moment D.left_at journal.old.disk journal.new.disk }
+    ensures looked { Looked D.at journal.old.disk journal.new.disk }
     ensures same { journal.new ≡ record journal.old { disk = journal.new.disk } }
-    ensures command { IfOk result (λ c. (held : List ℕ) (w : Written) → D.seen journal.old.disk ≡ Some held → IsJournalOf journal.old.generation journal.old.start held w → index ≤ length w.commands
+    ensures command { IfOk result (λ c. (held : List ℕ) (w : Written)
+        → (D.at journal.old.disk).seen ≡ Some held
+        → IsJournalOf journal.old.generation journal.old.start held w → index ≤ length w.commands
         → slice_get w.commands (index - 1) ≡ Some c) }
     ensures no_rotation { IfOk result (λ c. is_rotate c.call ≡ false) }
-    ensures damaged { IfErr result (IsUnreadable journal.old.generation journal.old.start journal.old.count) }
-    ensures readable { IfErr result (λ why. (held : List ℕ) (w : Written) → D.seen journal.old.disk ≡ Some held → IsJournalOf journal.old.generation journal.old.start held w → index ≤ length w.commands → IsReadable why) }
-    ensures cause { CountsReading result (D.faults journal.old.disk) (D.faults journal.new.disk) }
+    ensures damaged { IfErr result
+        (IsUnreadable journal.old.generation journal.old.start journal.old.count) }
+    ensures readable { IfErr result (λ why. (held : List ℕ) (w : Written)
+        → (D.at journal.old.disk).seen ≡ Some held
+        → IsJournalOf journal.old.generation journal.old.start held w → index ≤ length w.commands
+        → IsReadable why) }
+    ensures cause { CountsReading result (D.at journal.old.disk).faults
+        (D.at journal.new.disk).faults }
 {
     let body = match journal.body(index) {
         Ok(body) => body,
@@ -44,15 +51,23 @@ pub fn read_commands<D: Disk>(
     alloc: Global,
     journal: &mut Journal<D>,
 ) -> Result<Vec<Command>, AcceptedFault>
-    ensures looked { Looked D.seen D.moment D.left_at journal.old.disk journal.new.disk }
+    ensures looked { Looked D.at journal.old.disk journal.new.disk }
     ensures same { journal.new ≡ record journal.old { disk = journal.new.disk } }
-    ensures commands { IfOk result (λ list. (held : List ℕ) (w : Written) → D.seen journal.old.disk ≡ Some held → IsJournalOf journal.old.generation journal.old.start held w → journal.old.count ≤ length w.commands
-        → list.items ≡ take journal.old.count w.commands) }
+    ensures commands { IfOk result (λ list. (held : List ℕ) (w : Written)
+        → (D.at journal.old.disk).seen ≡ Some held
+        → IsJournalOf journal.old.generation journal.old.start held w
+        → journal.old.count ≤ length w.commands → list.items ≡ take journal.old.count w.commands) }
     ensures count { IfOk result (λ list. length list.items ≡ journal.old.count) }
-    ensures no_rotation { IfOk result (λ list. All (λ (c : Command). is_rotate c.call ≡ false) list.items) }
-    ensures damaged { IfErr result (IsUnreadable journal.old.generation journal.old.start journal.old.count) }
-    ensures readable { IfErr result (λ why. (held : List ℕ) → D.seen journal.old.disk ≡ Some held → HasRecords journal.old.generation journal.old.start journal.old.count held → IsReadable why) }
-    ensures cause { CountsReading result (D.faults journal.old.disk) (D.faults journal.new.disk) }
+    ensures no_rotation { IfOk result (λ list. All
+        (λ (c : Command). is_rotate c.call ≡ false) list.items) }
+    ensures damaged { IfErr result
+        (IsUnreadable journal.old.generation journal.old.start journal.old.count) }
+    ensures readable { IfErr result (λ why. (held : List ℕ)
+        → (D.at journal.old.disk).seen ≡ Some held
+        → HasRecords journal.old.generation journal.old.start journal.old.count held
+        → IsReadable why) }
+    ensures cause { CountsReading result (D.at journal.old.disk).faults
+        (D.at journal.new.disk).faults }
 {
     let mut commands = Vec::new(alloc);
     for done in 0..journal.records() {

@@ -1,8 +1,7 @@
 // One disk, whole: its own bytes tested, and the commands of its journal made again.
 ghost use Rattle.std.specs.Prelude.{◌≡◌, ◌↔◌, Some, Ok, List, ℕ, true, length, IfOk, IfSome, IsSome};
-ghost use Rattle.liq_outside.specs.Disk.{GoesOn};
+ghost use Rattle.liq_outside.specs.Disk.{GoesOn, Looked};
 ghost use Rattle.liq_journal.specs.Bodies.{IsJournalOf};
-ghost use Rattle.liq_journal.specs.Looked.{Looked};
 ghost use Rattle.liq_journal.specs.Opened.{CrashOfOpen, ReadsOfOpen};
 ghost use Rattle.liq_journal.specs.Written.{Written, found_on, is_generation};
 ghost use Rattle.liq_store.specs.Keeping.{IsAtRest};
@@ -39,12 +38,12 @@ fn hold<D: Disk>(
     journal: Journal<D>,
     checkpoint: Vec<u8>,
 ) -> Result<Stood<D>, StandFault<D>>
-    ensures looked { Looked D.seen D.moment D.left_at journal.disk (disk_in result) }
-    ensures holds { (held : List ℕ) (w : Written) → D.seen journal.disk ≡ Some held
+    ensures looked { Looked D.at journal.disk (disk_in result) }
+    ensures holds { (held : List ℕ) (w : Written) → (D.at journal.disk).seen ≡ Some held
         → IsJournalOf journal.generation journal.start held w → w.limit ≡ journal.limit
         → w.checkpoint ≡ checkpoint.items → length w.commands ≡ journal.count → HoldsTo w result }
     ensures journal { Continues journal result }
-    ensures cause { CountsStand result (D.faults journal.disk) (D.faults (disk_in result)) }
+    ensures cause { CountsStand result (D.at journal.disk).faults (D.at (disk_in result)).faults }
 {
     let mut journal = journal;
     let mut protocol = match base(alloc, journal.generation(), journal.limit(), &checkpoint) {
@@ -70,19 +69,20 @@ fn hold<D: Disk>(
 // Opens and tests a disk, whole, and settles it. It begins with a sync.
 pub fn stand<D: Disk>(alloc: Global, disk: D, odd: bool) -> Result<Stood<D>, StandFault<D>>
     // What is found is what the disk is, and it is left so.
-    ensures found { (held : List ℕ) → D.seen disk ≡ Some held → IsFoundOn odd held result }
-    ensures left { IfSome (D.seen (disk_in result)) (λ after. IsLeftOn after result) }
-    ensures same { IsFaultless result → (held after : List ℕ) → D.seen disk ≡ Some held → D.seen (disk_in result) ≡ Some after → found_on odd after ≡ found_on odd held }
-    ensures shut { IsFaultless result → (held after : List ℕ) → D.seen disk ≡ Some held
-        → D.seen (disk_in result) ≡ Some after → OnlyShuts odd held after }
-    ensures rest { IsFaultless result → IsAtRest D.seen D.moment D.left_at (disk_in result) }
+    ensures found { (held : List ℕ) → (D.at disk).seen ≡ Some held → IsFoundOn odd held result }
+    ensures left { IfSome (D.at (disk_in result)).seen (λ after. IsLeftOn after result) }
+    ensures same { IsFaultless result → (held after : List ℕ) → (D.at disk).seen ≡ Some held
+        → (D.at (disk_in result)).seen ≡ Some after → found_on odd after ≡ found_on odd held }
+    ensures shut { IsFaultless result → (held after : List ℕ) → (D.at disk).seen ≡ Some held
+        → (D.at (disk_in result)).seen ≡ Some after → OnlyShuts odd held after }
+    ensures rest { IsFaultless result → IsAtRest D.at (disk_in result) }
     ensures journal { IfOk result (IsCounted odd) }
 
-    ensures crash { CrashOfOpen D.seen D.moment D.left_at disk (disk_in result) odd }
-    ensures reads { ReadsOfOpen D.seen disk (disk_in result) odd }
-    ensures telling { IsSome (D.seen (disk_in result)) ↔ IsSome (D.seen disk) }
-    ensures time { GoesOn D.moment D.left_at disk (disk_in result) }
-    ensures cause { CountsStand result (D.faults disk) (D.faults (disk_in result)) }
+    ensures crash { CrashOfOpen D.at disk (disk_in result) odd }
+    ensures reads { ReadsOfOpen D.at disk (disk_in result) odd }
+    ensures telling { IsSome (D.at (disk_in result)).seen ↔ IsSome (D.at disk).seen }
+    ensures time { GoesOn D.at disk (disk_in result) }
+    ensures cause { CountsStand result (D.at disk).faults (D.at (disk_in result)).faults }
 {
     match Journal::open(alloc, disk, odd) {
         Ok((journal, checkpoint)) => hold(alloc, journal, checkpoint),

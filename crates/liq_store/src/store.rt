@@ -2,7 +2,7 @@
 ghost use Rattle.std.specs.Prelude.{◌≡◌, ◌≢◌, ◌↔◌, ◌+◌, ◌++◌, [], min, Some, None, Ok, Err, List, ℕ, false};
 ghost use Rattle.std.specs.Prelude.{length, take, IfOk, IfErr, IfSome, IsSome, true};
 ghost use Rattle.std.specs.List.{All};
-ghost use Rattle.liq_outside.specs.Disk.{GoesOn, LeavesOnly, LeftNow, Only};
+ghost use Rattle.liq_outside.specs.Disk.{GoesOn, LeavesOnly, LeftNow, Looked, Only};
 ghost use Rattle.liq_outside.specs.Faults.{count_most};
 ghost use Rattle.liq_outside.specs.Showings.{Notes};
 ghost use Rattle.liq_types.specs.declared.requests.Command.{Command};
@@ -14,7 +14,6 @@ ghost use Rattle.liq_core.specs.Entries.{told_whole};
 ghost use Rattle.liq_rules.specs.View.{all_followed, view_of};
 ghost use Rattle.liq_journal.specs.Causes.{Counted};
 ghost use Rattle.liq_journal.specs.declared.damage.Damage.{Damage};
-ghost use Rattle.liq_journal.specs.Looked.{Looked};
 ghost use Rattle.liq_journal.specs.Opened.{IsUnshut, OpenLeaves};
 ghost use Rattle.liq_journal.specs.Written.{Absent, Open, Written, found_on, is_rotate};
 ghost use Rattle.liq_pairs.specs.declared.side.Side.{Side};
@@ -57,7 +56,7 @@ use std::sync::ledger::Blank;
 
 // The sum of both disks' faults, as far as a count goes.
 fn sum_of_faults<D: Disk>(taken: &Journal<D>, beside: &D) -> u64
-    ensures { result ≡ min (D.faults taken.now.disk + D.faults beside.now) count_most }
+    ensures { result ≡ min ((D.at taken.now.disk).faults + (D.at beside.now).faults) count_most }
 {
     taken.faults().saturating_add(beside.faults())
 }
@@ -99,7 +98,7 @@ impl<D: Disk> Model for Store<D> {
 
     ghost view = { λ s. stored s.side s.taken s.beside s.protocol s.stopped s.changes.items };
 
-    ghost invariant = { λ s. IsWithin D.seen D.moment D.left_at s.side s.taken s.beside s.protocol s.stopped s.changes.items };
+    ghost invariant = { λ s. IsWithin D.at s.side s.taken s.beside s.protocol s.stopped s.changes.items };
 }
 
 impl<D: Disk> Store<D> {
@@ -115,39 +114,53 @@ impl<D: Disk> Store<D> {
     /// opened then, and the damage stays. The changes then tell the list to whoever has seen nothing.
     pub fn open(alloc: Global, left: D, right: D) -> Result<Store<D>, StoreFault<D>>
         // The state is the one for which the disks stand; where there is none, nothing is opened. Either way the counts tell the cause.
-        ensures opened { IfOk result (OpensOn D.seen D.faults left right) }
-        ensures not_opened { IfErr result (IsNotOpened D.seen D.faults left right) }
-        ensures order { IfOk result (IsInOrder D.seen D.moment D.left_at) }
+        ensures opened { IfOk result (OpensOn D.at left right) }
+        ensures not_opened { IfErr result (IsNotOpened D.at left right) }
+        ensures order { IfOk result (IsInOrder D.at) }
         // The words of which keys are made, and then each trove in the list's order: who follows them from nothing has the list.
-        ensures told { IfOk result (λ store. store.changes ≡ told_whole store.core.image store.core.list) }
-        ensures followed { IfOk result (λ store. (s : State) → StandsFor store.core s → all_followed (view_of opening) store.changes ≡ view_of s) }
+        ensures told { IfOk result (λ store. store.changes
+            ≡ told_whole store.core.image store.core.list) }
+        ensures followed { IfOk result (λ store. (s : State) → StandsFor store.core s
+            → all_followed (view_of opening) store.changes ≡ view_of s) }
         // A disk on which none is open has no other byte than 0 at place 0, if it has one.
-        ensures shut { IfOk result (λ store. IfSome (D.seen (disk_beside store)) (λ now. found_on (has_odd (other store.side)) now ≡ Absent → IsUnshut now → ⊥)) }
+        ensures shut { IfOk result (λ store. IfSome (D.at (disk_beside store)).seen
+            (λ now. found_on (has_odd (other store.side)) now ≡ Absent → IsUnshut now → ⊥)) }
 
         // Where nothing is opened and no disk met a fault nothing is pending: both disks are synced before either is judged.
         ensures rests { IfErr result (λ e. (e.why ≢ StoreWhy.DiskFault)
-            → IsAtRest D.seen D.moment D.left_at e.left × IsAtRest D.seen D.moment D.left_at e.right) }
+            → IsAtRest D.at e.left × IsAtRest D.at e.right) }
 
-        // And where one of them is damaged each tells its bytes as they were, or with a 0 at the one
+        // Where one of them was damaged, and no disk met a fault, both tell their bytes as they were, or with a 0 at the one
         // place that an opening shuts.
         ensures damaged { IfErr result (λ e. (e.why ≢ StoreWhy.DiskFault)
-            → (l r a b : List ℕ) (first : Side × Damage) → D.seen left ≡ Some l → D.seen right ≡ Some r
-            → state_on l r ≡ Err first → D.seen e.left ≡ Some a → D.seen e.right ≡ Some b
+            → (l r a b : List ℕ) (first : Side × Damage)
+            → (D.at left).seen ≡ Some l → (D.at right).seen ≡ Some r → state_on l r ≡ Err first
+            → (D.at e.left).seen ≡ Some a → (D.at e.right).seen ≡ Some b
             → OnlyShuts true l a × OnlyShuts false r b) }
 
         // Of two disks that are kept for a state a stop leaves two that are kept for it, or for it after the command that they held
         // unfinished; and so does a fault, whatever was pending.
-        ensures recovers { (l r : List ℕ) (s : State) → D.seen left ≡ Some l → D.seen right ≡ Some r → Only l (LeftNow D.moment D.left_at left) → Only r (LeftNow D.moment D.left_at right) → IsKept l r s
-            → LeavesPairs D.moment D.left_at left right (left_after result) (right_after result) (IsRecovered l r s) }
-        ensures reads { IfOk result (λ store. (l r a b : List ℕ) (s : State) → D.seen left ≡ Some l → D.seen right ≡ Some r → IsKept l r s → D.seen store.left ≡ Some a → D.seen store.right ≡ Some b → IsRecovered l r s a b) }
+        ensures recovers { (l r : List ℕ) (s : State) → (D.at left).seen ≡ Some l
+            → (D.at right).seen ≡ Some r → Only l (LeftNow D.at left) → Only r (LeftNow D.at right)
+            → IsKept l r s
+            → LeavesPairs D.at left right (left_after result) (right_after result)
+            (IsRecovered l r s) }
+        ensures reads { IfOk result (λ store. (l r a b : List ℕ) (s : State)
+            → (D.at left).seen ≡ Some l → (D.at right).seen ≡ Some r → IsKept l r s
+            → (D.at store.left).seen ≡ Some a → (D.at store.right).seen ≡ Some b
+            → IsRecovered l r s a b) }
 
         // Each disk by itself.
-        ensures left_leaves { (l r : List ℕ) → D.seen left ≡ Some l → D.seen right ≡ Some r → Only l (LeftNow D.moment D.left_at left) → LeavesOnly D.moment D.left_at left (left_after result) (LeftLeaves l r) }
-        ensures right_leaves { (r : List ℕ) → D.seen right ≡ Some r → Only r (LeftNow D.moment D.left_at right) → LeavesOnly D.moment D.left_at right (right_after result) (OpenLeaves false r) }
-        ensures left_telling { IsSome (D.seen (left_after result)) ↔ IsSome (D.seen left) }
-        ensures right_telling { IsSome (D.seen (right_after result)) ↔ IsSome (D.seen right) }
-        ensures left_time { GoesOn D.moment D.left_at left (left_after result) }
-        ensures right_time { GoesOn D.moment D.left_at right (right_after result) }
+        ensures left_leaves { (l r : List ℕ) → (D.at left).seen ≡ Some l
+            → (D.at right).seen ≡ Some r → Only l (LeftNow D.at left)
+            → LeavesOnly D.at left (left_after result) (LeftLeaves l r) }
+        ensures right_leaves { (r : List ℕ) → (D.at right).seen ≡ Some r
+            → Only r (LeftNow D.at right)
+            → LeavesOnly D.at right (right_after result) (OpenLeaves false r) }
+        ensures left_telling { IsSome (D.at (left_after result)).seen ↔ IsSome (D.at left).seen }
+        ensures right_telling { IsSome (D.at (right_after result)).seen ↔ IsSome (D.at right).seen }
+        ensures left_time { GoesOn D.at left (left_after result) }
+        ensures right_time { GoesOn D.at right (right_after result) }
     {
         let left = stand(alloc, left, true);
         let right = stand(alloc, right, false);
@@ -164,21 +177,27 @@ impl<D: Disk> Store<D> {
     /// that one. After `NoMemory` all is as before. A hint is asked for only once the guide of the list was let go.
     pub fn call<H: HintSource + Drop>(&mut self, request: &Request, hint: H) -> Answer
         // A store that is stopped answers that, to queries too, and stays as it is.
-        ensures stopped { (sum : ℕ) → self.old.stopped ≡ Some sum → (result ≡ Answer.Stopped sum) × (self.new ≡ self.old) }
+        ensures stopped { (sum : ℕ) → self.old.stopped ≡ Some sum → (result ≡ Answer.Stopped sum)
+            × (self.new ≡ self.old) }
 
         // One that isn't replies by the step. Without memory or after a fault there is no step.
-        ensures step { self.old.stopped ≡ None → (s : State) → StandsFor self.old.core s → Answers s request.now result self.new.core }
+        ensures step { self.old.stopped ≡ None → (s : State) → StandsFor self.old.core s
+            → Answers s request.now result self.new.core }
 
-        ensures stops { self.new.stopped ≡ stopped_after self.old.stopped result (record { left = D.faults self.new.left; right = D.faults self.new.right }) }
+        ensures stops { self.new.stopped ≡ stopped_after self.old.stopped result
+            (record { left = (D.at self.new.left).faults; right = (D.at self.new.right).faults }) }
         // An accepted command that is answered tells its changes, and nothing else tells any.
-        ensures told { (s : State) → StandsFor self.old.core s → self.new.changes ≡ self.old.changes ++ told s request.now result }
+        ensures told { (s : State) → StandsFor self.old.core s
+            → self.new.changes ≡ self.old.changes ++ told s request.now result }
 
-        ensures cause { CausesAnswer result (record { left = D.faults self.old.left; right = D.faults self.old.right }) (record { left = D.faults self.new.left; right = D.faults self.new.right }) }
+        ensures cause { CausesAnswer result
+            (record { left = (D.at self.old.left).faults; right = (D.at self.old.right).faults })
+            (record { left = (D.at self.new.left).faults; right = (D.at self.new.right).faults }) }
 
         // Only an accepted command is written. A stop leaves two disks that are kept for the state before the call or
         // after it; after a reply, by `order`, for that after it.
-        ensures disks { WritesOn D.seen D.moment D.left_at self.old request.now result self.new }
-        ensures order { IsInOrder D.seen D.moment D.left_at self.new }
+        ensures disks { WritesOn D.at self.old request.now result self.new }
+        ensures order { IsInOrder D.at self.new }
     {
         if let Some(faults) = self.stopped {
             return Answer::Stopped { faults };
@@ -194,12 +213,17 @@ impl<D: Disk> Store<D> {
     fn carry_out<H: HintSource + Drop>(&mut self, request: &Request, hint: H) -> Answer
         requires going { self.old.stopped ≡ None }
         requires command { (query : Query) → request.now ≢ Ask query }
-        ensures step { (s : State) → StandsFor self.old.core s → Answers s request.now result self.new.core }
-        ensures stops { self.new.stopped ≡ stopped_after self.old.stopped result (record { left = D.faults self.new.left; right = D.faults self.new.right }) }
-        ensures told { (s : State) → StandsFor self.old.core s → self.new.changes ≡ self.old.changes ++ told s request.now result }
-        ensures cause { CausesAnswer result (record { left = D.faults self.old.left; right = D.faults self.old.right }) (record { left = D.faults self.new.left; right = D.faults self.new.right }) }
-        ensures disks { WritesOn D.seen D.moment D.left_at self.old request.now result self.new }
-        ensures order { IsInOrder D.seen D.moment D.left_at self.new }
+        ensures step { (s : State) → StandsFor self.old.core s
+            → Answers s request.now result self.new.core }
+        ensures stops { self.new.stopped ≡ stopped_after self.old.stopped result
+            (record { left = (D.at self.new.left).faults; right = (D.at self.new.right).faults }) }
+        ensures told { (s : State) → StandsFor self.old.core s
+            → self.new.changes ≡ self.old.changes ++ told s request.now result }
+        ensures cause { CausesAnswer result
+            (record { left = (D.at self.old.left).faults; right = (D.at self.old.right).faults })
+            (record { left = (D.at self.new.left).faults; right = (D.at self.new.right).faults }) }
+        ensures disks { WritesOn D.at self.old request.now result self.new }
+        ensures order { IsInOrder D.at self.new }
     {
         let command = match request {
             Request::Do(command) => command,
@@ -249,7 +273,7 @@ impl<D: Disk> Store<D> {
     /// The sum of both disks' faults after the first call that met one, or none.
     pub fn stopped(&self) -> Option<u64>
         ensures sum { result ≡ self.now.stopped }
-        ensures order { IsInOrder D.seen D.moment D.left_at self.now }
+        ensures order { IsInOrder D.at self.now }
     {
         self.stopped
     }
@@ -272,21 +296,31 @@ impl<D: Disk> Store<D> {
     ///
     /// After `DiskFault` the store is stopped. `Damaged` never comes where the disk tells its content.
     pub fn accepted(&mut self) -> Result<Vec<Command>, AcceptedFault>
-        ensures commands { IfOk result (λ list. (held : List ℕ) (w : Written) → D.seen (taken_disk self.old) ≡ Some held → found_on (has_odd self.old.side) held ≡ Open w → list.items ≡ take self.old.core.records w.commands) }
-        ensures all { self.old.stopped ≡ None → IfOk result (λ list. (held : List ℕ) (w : Written) → D.seen (taken_disk self.old) ≡ Some held → found_on (has_odd self.old.side) held ≡ Open w → list.items ≡ w.commands) }
+        ensures commands { IfOk result (λ list. (held : List ℕ) (w : Written)
+            → (D.at (taken_disk self.old)).seen ≡ Some held
+            → found_on (has_odd self.old.side) held ≡ Open w
+            → list.items ≡ take self.old.core.records w.commands) }
+        ensures all { self.old.stopped ≡ None → IfOk result (λ list. (held : List ℕ) (w : Written)
+            → (D.at (taken_disk self.old)).seen ≡ Some held
+            → found_on (has_odd self.old.side) held ≡ Open w → list.items ≡ w.commands) }
         ensures count { IfOk result (λ list. length list.items ≡ self.old.core.records) }
-        ensures no_rotation { IfOk result (λ list. All (λ (c : Command). is_rotate c.call ≡ false) list.items) }
-        ensures damaged { IfErr result (IsUnreadable self.old.core.image.generation self.old.start self.old.core.records) }
-        ensures readable { IsSome (D.seen (taken_disk self.old)) → IfErr result IsReadable }
-        ensures looked { Looked D.seen D.moment D.left_at (taken_disk self.old) (taken_disk self.new) }
+        ensures no_rotation { IfOk result (λ list. All
+            (λ (c : Command). is_rotate c.call ≡ false) list.items) }
+        ensures damaged { IfErr result
+            (IsUnreadable self.old.core.image.generation self.old.start self.old.core.records) }
+        ensures readable { IsSome (D.at (taken_disk self.old)).seen → IfErr result IsReadable }
+        ensures looked { Looked D.at (taken_disk self.old) (taken_disk self.new) }
         ensures beside { disk_beside self.new ≡ disk_beside self.old }
         ensures side { self.new.side ≡ self.old.side }
         ensures start { self.new.start ≡ self.old.start }
         ensures core { self.new.core ≡ self.old.core }
         ensures changes { self.new.changes ≡ self.old.changes }
-        ensures stops { self.new.stopped ≡ stopped_after_reading self.old.stopped result (record { left = D.faults self.new.left; right = D.faults self.new.right }) }
-        ensures cause { CausesAccepted result (record { left = D.faults self.old.left; right = D.faults self.old.right }) (record { left = D.faults self.new.left; right = D.faults self.new.right }) }
-        ensures order { IsInOrder D.seen D.moment D.left_at self.new }
+        ensures stops { self.new.stopped ≡ stopped_after_reading self.old.stopped result
+            (record { left = (D.at self.new.left).faults; right = (D.at self.new.right).faults }) }
+        ensures cause { CausesAccepted result
+            (record { left = (D.at self.old.left).faults; right = (D.at self.old.right).faults })
+            (record { left = (D.at self.new.left).faults; right = (D.at self.new.right).faults }) }
+        ensures order { IsInOrder D.at self.new }
     {
         match read_commands(self.alloc, &mut self.taken) {
             Ok(commands) => Ok(commands),
@@ -311,7 +345,7 @@ impl<D: Disk> Store<D> {
     /// Lets the changes go, but for room for a few later ones. All else stays.
     pub fn clear_changes(&mut self)
         ensures cleared { self.new ≡ record self.old { changes = [] } }
-        ensures order { IsInOrder D.seen D.moment D.left_at self.new }
+        ensures order { IsInOrder D.at self.new }
     {
         clear(self.alloc, &mut self.changes);
     }
@@ -326,9 +360,10 @@ impl<D: Disk> Store<D> {
 
     /// Shows a sink both disks as they are now, the left one first. It is no device call.
     pub fn show<K: Sink>(&self, out: &mut K)
-        ensures same { K.held out.new ≡ K.held out.old }
-        ensures faults { K.faults out.new ≡ K.faults out.old }
-        ensures shown { Notes D.moment (K.held out.old) self.now.left self.now.right (K.shown out.old) (K.shown out.new) }
+        ensures same { (K.at out.new).held ≡ (K.at out.old).held }
+        ensures faults { (K.at out.new).faults ≡ (K.at out.old).faults }
+        ensures shown { Notes D.at (K.at out.old).held self.now.left self.now.right
+            (K.at out.old).shown (K.at out.new).shown }
     {
         match self.side {
             Side::Left => out.show(self.taken.disk(), &self.beside),
@@ -340,9 +375,11 @@ impl<D: Disk> Store<D> {
     pub fn close(self) -> (D, D)
         ensures left { result.0 ≡ self.left }
         ensures right { result.1 ≡ self.right }
-        ensures order { IsInOrder D.seen D.moment D.left_at self }
+        ensures order { IsInOrder D.at self }
         // They stand for the state of a store that met no fault: so the next opening has it again.
-        ensures state { self.stopped ≡ None → (l r : List ℕ) (s : State) → D.seen result.0 ≡ Some l → D.seen result.1 ≡ Some r → StandsFor self.core s → StandFor l r s }
+        ensures state { self.stopped ≡ None → (l r : List ℕ) (s : State)
+            → (D.at result.0).seen ≡ Some l → (D.at result.1).seen ≡ Some r
+            → StandsFor self.core s → StandFor l r s }
     {
         let Store {
             alloc: _,
@@ -367,18 +404,21 @@ fn begin_told<D: Disk>(
     left: Stood<D>,
     right: Stood<D>,
 ) -> Result<Store<D>, StoreFault<D>>
-    requires left { IsStoodOn D.seen D.moment D.left_at true left }
-    requires right { IsStoodOn D.seen D.moment D.left_at false right }
-    ensures opened { IfOk result (OpensOn D.seen D.faults (disk_of left) (disk_of right)) }
-    ensures order { IfOk result (IsInOrder D.seen D.moment D.left_at) }
-    ensures told { IfOk result (λ store. store.changes ≡ told_whole store.core.image store.core.list) }
-    ensures followed { IfOk result (λ store. (s : State) → StandsFor store.core s → all_followed (view_of opening) store.changes ≡ view_of s) }
-    ensures shut { IfOk result (λ store. IfSome (D.seen (disk_beside store)) (λ now. found_on (has_odd (other store.side)) now ≡ Absent → IsUnshut now → ⊥)) }
-    ensures left { BeginsLeft D.seen D.moment D.left_at left right (left_after result) }
+    requires left { IsStoodOn D.at true left }
+    requires right { IsStoodOn D.at false right }
+    ensures opened { IfOk result (OpensOn D.at (disk_of left) (disk_of right)) }
+    ensures order { IfOk result (IsInOrder D.at) }
+    ensures told { IfOk result (λ store. store.changes
+        ≡ told_whole store.core.image store.core.list) }
+    ensures followed { IfOk result (λ store. (s : State) → StandsFor store.core s
+        → all_followed (view_of opening) store.changes ≡ view_of s) }
+    ensures shut { IfOk result (λ store. IfSome (D.at (disk_beside store)).seen
+        (λ now. found_on (has_odd (other store.side)) now ≡ Absent → IsUnshut now → ⊥)) }
+    ensures left { BeginsLeft D.at left right (left_after result) }
     ensures right { right_after result ≡ disk_of right }
-    ensures cause { IfErr result (IsUnbegun D.seen D.faults (disk_of left) (disk_of right)) }
+    ensures cause { IfErr result (IsUnbegun D.at (disk_of left) (disk_of right)) }
     ensures rests { IfErr result (λ e. (e.why ≢ StoreWhy.DiskFault)
-        → IsAtRest D.seen D.moment D.left_at e.left × IsAtRest D.seen D.moment D.left_at e.right) }
+        → IsAtRest D.at e.left × IsAtRest D.at e.right) }
 {
     match begin(alloc, left, right) {
         Ok(store) => with_list(store),
@@ -389,10 +429,13 @@ fn begin_told<D: Disk>(
 // The store, with its list as others follow it from nothing. Where there is no memory for that, its disks.
 fn with_list<D: Disk>(store: Store<D>) -> Result<Store<D>, StoreFault<D>>
     ensures store { IfOk result (λ listed. listed ≡ record store { changes = listed.changes }) }
-    ensures order { IfOk result (IsInOrder D.seen D.moment D.left_at) }
-    ensures told { IfOk result (λ listed. listed.changes ≡ told_whole store.core.image store.core.list) }
-    ensures followed { IfOk result (λ listed. (s : State) → StandsFor store.core s → all_followed (view_of opening) listed.changes ≡ view_of s) }
-    ensures err { IfErr result (λ e. (e.left ≡ store.left) × (e.right ≡ store.right) × (e.why ≡ StoreWhy.NoMemory)) }
+    ensures order { IfOk result (IsInOrder D.at) }
+    ensures told { IfOk result (λ listed. listed.changes
+        ≡ told_whole store.core.image store.core.list) }
+    ensures followed { IfOk result (λ listed. (s : State) → StandsFor store.core s
+        → all_followed (view_of opening) listed.changes ≡ view_of s) }
+    ensures err { IfErr result (λ e. (e.left ≡ store.left) × (e.right ≡ store.right)
+        × (e.why ≡ StoreWhy.NoMemory)) }
 {
     let mut store = store;
     match store.protocol().list(store.alloc) {
@@ -411,15 +454,16 @@ fn with_list<D: Disk>(store: Store<D>) -> Result<Store<D>, StoreFault<D>>
 // The store of two disks with which nothing is wrong. Of two journals the one of the greater generation
 // is taken; where there is none, the first is created on the left disk.
 fn begin<D: Disk>(alloc: Global, left: Stood<D>, right: Stood<D>) -> Result<Store<D>, StoreFault<D>>
-    requires left { IsStoodOn D.seen D.moment D.left_at true left }
-    requires right { IsStoodOn D.seen D.moment D.left_at false right }
-    ensures opened { IfOk result (OpensOn D.seen D.faults (disk_of left) (disk_of right)) }
-    ensures order { IfOk result (IsInOrder D.seen D.moment D.left_at) }
-    ensures shut { IfOk result (λ store. IfSome (D.seen (disk_beside store)) (λ now. found_on (has_odd (other store.side)) now ≡ Absent → IsUnshut now → ⊥)) }
+    requires left { IsStoodOn D.at true left }
+    requires right { IsStoodOn D.at false right }
+    ensures opened { IfOk result (OpensOn D.at (disk_of left) (disk_of right)) }
+    ensures order { IfOk result (IsInOrder D.at) }
+    ensures shut { IfOk result (λ store. IfSome (D.at (disk_beside store)).seen
+        (λ now. found_on (has_odd (other store.side)) now ≡ Absent → IsUnshut now → ⊥)) }
     ensures fault { IfErr result (λ e. e.why ≡ StoreWhy.DiskFault) }
-    ensures left { BeginsLeft D.seen D.moment D.left_at left right (left_after result) }
+    ensures left { BeginsLeft D.at left right (left_after result) }
     ensures right { right_after result ≡ disk_of right }
-    ensures cause { IfErr result (λ e. Counted (D.faults (disk_of left)) (D.faults e.left)) }
+    ensures cause { IfErr result (λ e. Counted (D.at (disk_of left)).faults (D.at e.left).faults) }
 {
     match left {
         Stood::Nothing(left) => match right {
@@ -456,14 +500,14 @@ fn go_on<D: Disk>(
     protocol: Guided,
     aside: Stood<D>,
 ) -> Store<D>
-    requires taken { IsStoodOn D.seen D.moment D.left_at (has_odd side) (Holding taken protocol) }
-    requires aside { IsStoodOn D.seen D.moment D.left_at (has_odd (other side)) aside }
+    requires taken { IsStoodOn D.at (has_odd side) (Holding taken protocol) }
+    requires aside { IsStoodOn D.at (has_odd (other side)) aside }
     requires earlier { IsEarlier taken.generation aside }
     ensures store { result ≡ stored side taken (disk_of aside) protocol None [] }
-    ensures opened { OpensOn D.seen D.faults
-        (on side taken.disk (disk_of aside)) (on side (disk_of aside) taken.disk) result }
-    ensures order { IsInOrder D.seen D.moment D.left_at result }
-    ensures shut { IfSome (D.seen (disk_beside result))
+    ensures opened { OpensOn D.at (on side taken.disk (disk_of aside))
+        (on side (disk_of aside) taken.disk) result }
+    ensures order { IsInOrder D.at result }
+    ensures shut { IfSome (D.at (disk_beside result)).seen
         (λ now. found_on (has_odd (other side)) now ≡ Absent → IsUnshut now → ⊥) }
 {
     begin_on(alloc, side, taken, disk_of(aside), protocol)
@@ -477,7 +521,7 @@ fn begin_on<D: Disk>(
     beside: D,
     protocol: Guided,
 ) -> Store<D>
-    requires { IsWithin D.seen D.moment D.left_at side taken beside protocol None [] }
+    requires { IsWithin D.at side taken beside protocol None [] }
     ensures { result ≡ stored side taken beside protocol None [] }
 {
     Store {
@@ -493,16 +537,17 @@ fn begin_on<D: Disk>(
 
 // The store of two disks on which no journal is open.
 fn begin_anew<D: Disk>(alloc: Global, left: D, right: D) -> Result<Store<D>, StoreFault<D>>
-    requires left { IfSome (D.seen left) (λ now. IsUnshut now → ⊥) }
-    requires right { IfSome (D.seen right) (λ now. IsUnshut now → ⊥) }
-    requires rests { IsAtRest D.seen D.moment D.left_at right }
-    ensures opened { IfOk result (OpensOn D.seen D.faults left right) }
-    ensures order { IfOk result (IsInOrder D.seen D.moment D.left_at) }
-    ensures shut { IfOk result (λ store. IfSome (D.seen (disk_beside store)) (λ now. found_on (has_odd (other store.side)) now ≡ Absent → IsUnshut now → ⊥)) }
+    requires left { IfSome (D.at left).seen (λ now. IsUnshut now → ⊥) }
+    requires right { IfSome (D.at right).seen (λ now. IsUnshut now → ⊥) }
+    requires rests { IsAtRest D.at right }
+    ensures opened { IfOk result (OpensOn D.at left right) }
+    ensures order { IfOk result (IsInOrder D.at) }
+    ensures shut { IfOk result (λ store. IfSome (D.at (disk_beside store)).seen
+        (λ now. found_on (has_odd (other store.side)) now ≡ Absent → IsUnshut now → ⊥)) }
     ensures fault { IfErr result (λ e. e.why ≡ StoreWhy.DiskFault) }
-    ensures left { Creates D.seen D.moment D.left_at left (left_after result) }
+    ensures left { Creates D.at left (left_after result) }
     ensures right { right_after result ≡ right }
-    ensures cause { IfErr result (λ e. Counted (D.faults left) (D.faults e.left)) }
+    ensures cause { IfErr result (λ e. Counted (D.at left).faults (D.at e.left).faults) }
 {
     match Journal::create(left, 1, &[]) {
         Ok(taken) => {

@@ -3,6 +3,7 @@ use Rattle.std.proofs.Common.{◌≡◌, ◌≢◌, ℕ, List, Option, Some, Non
 use Rattle.std.specs.Prelude.{◌⊎◌, ◌↔◌, IsSome}
 use Rattle.liq_types.specs.declared.requests.Command.{Command}
 use Rattle.liq_types.specs.State.{State, opening_with}
+use Rattle.liq_outside.specs.At.{DiskAt}
 use Rattle.liq_rules.specs.Events.{events}
 use Rattle.liq_pairs.specs.declared.side.Side.{Side}
 use Rattle.liq_pairs.specs.declared.side.Side.TheVariants.{Left, Right}
@@ -71,21 +72,25 @@ audit_holds (Err halt) s commands h = tt
 
 -- ---- the disks
 
-module _ {D : Type 0} (seen : D → Option (List ℕ)) where
-  pub stand_too : (l r : List ℕ) (start : State) (ol or nl nr : D) → seen nl ≡ seen ol → seen nr ≡ seen or → DisksStay seen (Ok tt) l r start ol or → DisksStay seen (Ok tt) l r start nl nr
+module _ {D : Type 0} (at : D → DiskAt) where
+  pub stand_too : (l r : List ℕ) (start : State) (ol or nl nr : D) → (at nl).seen ≡ (at ol).seen
+      → (at nr).seen ≡ (at or).seen → DisksStay at (Ok tt) l r start ol or → DisksStay at (Ok tt) l r start nl nr
   stand_too l r start ol or nl nr left right stand a b told_a told_b = stand a b (sym left ∙ told_a) (sym right ∙ told_b)
 
-  on_tells : (side : Side) (l r : D) → IsSome (seen l) → IsSome (seen r) → IsSome (seen (on side l r))
+  on_tells : (side : Side) (l r : D) → IsSome (at l).seen → IsSome (at r).seen → IsSome (at (on side l r)).seen
   on_tells Left l r left right = left
   on_tells Right l r left right = right
 
   -- one that was only looked at tells them where it did before
-  pub tells_still : (old mid new : D) → (IsSome (seen mid) ↔ IsSome (seen old)) → seen new ≡ seen mid
-      → (IsSome (seen new) ↔ IsSome (seen old))
+  pub tells_still : (old mid new : D) → (IsSome (at mid).seen ↔ IsSome (at old).seen) → (at new).seen ≡ (at mid).seen
+      → (IsSome (at new).seen ↔ IsSome (at old).seen)
   tells_still old mid new telling same =
-      subst (λ (o : Option (List ℕ)). IsSome o ↔ IsSome (seen old)) (sym same) telling
+      subst (λ (o : Option (List ℕ)). IsSome o ↔ IsSome (at old).seen) (sym same) telling
 
   -- the one that is taken tells its bytes where both did before
-  pub taken_tells : (side : Side) (ol or nl nr : D) → (IsSome (seen nl) ↔ IsSome (seen ol)) → (IsSome (seen nr) ↔ IsSome (seen or)) → (l r : List ℕ) → seen ol ≡ Some l → seen or ≡ Some r → (now : List ℕ) × (seen (on side nl nr) ≡ Some now)
+  pub taken_tells : (side : Side) (ol or nl nr : D) → (IsSome (at nl).seen ↔ IsSome (at ol).seen)
+      → (IsSome (at nr).seen ↔ IsSome (at or).seen) → (l r : List ℕ) → (at ol).seen ≡ Some l → (at or).seen ≡ Some r
+      → (now : List ℕ) × ((at (on side nl nr)).seen ≡ Some now)
   taken_tells side ol or nl nr left right l r told_l told_r =
-      some_of (seen (on side nl nr)) (on_tells side nl nr (left.1 (is_some_of (seen ol) l told_l)) (right.1 (is_some_of (seen or) r told_r)))
+      some_of (at (on side nl nr)).seen
+      (on_tells side nl nr (left.1 (is_some_of (at ol).seen l told_l)) (right.1 (is_some_of (at or).seen r told_r)))

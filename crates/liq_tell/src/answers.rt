@@ -43,12 +43,12 @@ pub fn write_answers<K: Sink, D: Disk>(
 ) -> Result<(), Halt>
     requires going { store.old.stopped ≡ None }
     requires few { AreFew asked.now }
-    ensures written { OfJournal D.seen store.old (λ s commands.
-        WritesAnswers s commands asked.now result (K.held out.old) (K.held out.new)) }
+    ensures written { OfJournal D.at store.old (λ s commands.
+        WritesAnswers s commands asked.now result (K.at out.old).held (K.at out.new).held) }
     ensures no_source { result ≢ Err Halt.ReadFault }
     ensures no_line { (number : ℕ) → result ≢ Err (Halt.BadLine number) }
-    ensures sink { WriteCause result (K.faults out.old) (K.faults out.new) }
-    ensures disks { OnlyLooks D.seen D.faults D.moment D.left_at store.old store.new result }
+    ensures sink { WriteCause result (K.at out.old).faults (K.at out.new).faults }
+    ensures disks { OnlyLooks D.at store.old store.new result }
 {
     let whole = whole_journal(store)?;
     write_answered(alloc, whole.limit, &whole.commands, asked, whole.side, out)
@@ -68,11 +68,12 @@ fn write_answered<K: Sink>(
     requires no_rotation { All (λ (c : Command). is_rotate c.call ≡ false) commands.now }
     requires few { AreFew asked.now }
     ensures written { (s : State) → replay 1 (opening_with limit) commands.now ≡ Ok s
-        → WritesText (Ok (asked_text asked.now limit commands.now)) result (K.held out.old) (K.held out.new) }
+        → WritesText (Ok (asked_text asked.now limit commands.now)) result (K.at out.old).held
+        (K.at out.new).held }
     ensures no_disk { result ≢ Err Halt.DiskFault }
     ensures no_source { result ≢ Err Halt.ReadFault }
     ensures no_line { (number : ℕ) → result ≢ Err (Halt.BadLine number) }
-    ensures sink { WriteCause result (K.faults out.old) (K.faults out.new) }
+    ensures sink { WriteCause result (K.at out.old).faults (K.at out.new).faults }
 {
     match answered(alloc, limit, commands, asked) {
         Ok(text) => write_text(out, &text),
@@ -94,7 +95,8 @@ fn answered(
     ensures text { IfOk result (λ text. text.items ≡ asked_text asked.now limit commands.now) }
     ensures damaged { (damage : Damage) → result ≡ Err (ReplayFault.Damaged damage)
         → replay 1 (opening_with limit) commands.now ≡ Err damage }
-    ensures whole { OnOk result ((damage : Damage) → replay 1 (opening_with limit) commands.now ≡ Err damage → ⊥) }
+    ensures whole { OnOk result
+        ((damage : Damage) → replay 1 (opening_with limit) commands.now ≡ Err damage → ⊥) }
 {
     match asked {
         Asked::Stakes(lines) => staked(alloc, limit, commands, lines),

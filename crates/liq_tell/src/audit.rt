@@ -28,12 +28,12 @@ pub fn write_audit<K: Sink, D: Disk>(
     out: &mut K,
 ) -> Result<(), Halt>
     requires going { store.old.stopped ≡ None }
-    ensures written { OfJournal D.seen store.old (λ s commands.
-        WritesAudit s commands result (K.held out.old) (K.held out.new)) }
+    ensures written { OfJournal D.at store.old (λ s commands.
+        WritesAudit s commands result (K.at out.old).held (K.at out.new).held) }
     ensures no_source { result ≢ Err Halt.ReadFault }
     ensures no_line { (number : ℕ) → result ≢ Err (Halt.BadLine number) }
-    ensures sink { WriteCause result (K.faults out.old) (K.faults out.new) }
-    ensures disks { OnlyLooks D.seen D.faults D.moment D.left_at store.old store.new result }
+    ensures sink { WriteCause result (K.at out.old).faults (K.at out.new).faults }
+    ensures disks { OnlyLooks D.at store.old store.new result }
 {
     let whole = whole_journal(store)?;
     write_review(alloc, whole.limit, &whole.commands, whole.side, out)
@@ -49,13 +49,14 @@ fn write_review<K: Sink>(
 ) -> Result<(), Halt>
     requires limit { IsLimit limit }
     requires no_rotation { All (λ (c : Command). is_rotate c.call ≡ false) commands.now }
-    ensures written { (s : State) → s.limit ≡ limit → replay 1 (opening_with limit) commands.now ≡ Ok s
-        → WritesText (reviewed limit commands.now) result (K.held out.old) (K.held out.new)
+    ensures written { (s : State) → s.limit ≡ limit
+        → replay 1 (opening_with limit) commands.now ≡ Ok s
+        → WritesText (reviewed limit commands.now) result (K.at out.old).held (K.at out.new).held
         × AuditHolds result s commands.now }
     ensures no_disk { result ≢ Err Halt.DiskFault }
     ensures no_source { result ≢ Err Halt.ReadFault }
     ensures no_line { (number : ℕ) → result ≢ Err (Halt.BadLine number) }
-    ensures sink { WriteCause result (K.faults out.old) (K.faults out.new) }
+    ensures sink { WriteCause result (K.at out.old).faults (K.at out.new).faults }
 {
     match review(alloc, limit, commands) {
         Ok(text) => write_text(out, &text),

@@ -28,15 +28,16 @@ pub(crate) struct Whole {
 /// there it stops.
 pub(crate) fn whole_journal<D: Disk>(store: &mut Store<D>) -> Result<Whole, Halt>
     requires going { store.old.stopped ≡ None }
-    ensures found { OfJournal D.seen store.old (λ s commands. FindsWhole s commands result) }
+    ensures found { OfJournal D.at store.old (λ s commands. FindsWhole s commands result) }
     // They stand on the disk that the store took.
     ensures side { IfOk result (λ whole. whole.side ≡ store.old.side) }
     ensures limit { IfOk result (λ whole. IsLimit whole.limit) }
-    ensures no_rotation { IfOk result (λ whole. All (λ (c : Command). is_rotate c.call ≡ false) whole.commands.items) }
+    ensures no_rotation { IfOk result
+        (λ whole. All (λ (c : Command). is_rotate c.call ≡ false) whole.commands.items) }
     ensures no_source { result ≢ Err Halt.ReadFault }
     ensures no_line { (number : ℕ) → result ≢ Err (Halt.BadLine number) }
     ensures no_sink { result ≢ Err Halt.WriteFault }
-    ensures disks { OnlyLooks D.seen D.faults D.moment D.left_at store.old store.new result }
+    ensures disks { OnlyLooks D.at store.old store.new result }
 {
     let generation = store.protocol().generation();
     if !has_all_commands(generation) {
@@ -65,11 +66,13 @@ fn limit_of(protocol: &Protocol) -> u64
 fn kept_commands<D: Disk>(store: &mut Store<D>, side: Side) -> Result<Vec<Command>, Halt>
     requires going { store.old.stopped ≡ None }
     ensures commands { (held : List ℕ) (w : Written)
-        → D.seen (taken_disk store.old) ≡ Some held → found_on (has_odd store.old.side) held ≡ Open w
+        → (D.at (taken_disk store.old)).seen ≡ Some held
+        → found_on (has_odd store.old.side) held ≡ Open w
         → IfOk result (λ commands. commands.items ≡ w.commands) }
-    ensures no_rotation { IfOk result (λ commands. All (λ (c : Command). is_rotate c.call ≡ false) commands.items) }
+    ensures no_rotation { IfOk result
+        (λ commands. All (λ (c : Command). is_rotate c.call ≡ false) commands.items) }
     // Where the disk tells its bytes no record is unreadable.
-    ensures fault { IsSome (D.seen (taken_disk store.old))
+    ensures fault { IsSome (D.at (taken_disk store.old)).seen
         → IfErr result (λ halt. (halt ≡ Halt.NoMemory) ⊎ (halt ≡ Halt.DiskFault)) }
     // A record that is none is told as damage of the disk of this side, at its number.
     ensures damaged { (which : Side) (number : ℕ) → result ≡ Err (Halt.Damaged which number)
@@ -77,7 +80,7 @@ fn kept_commands<D: Disk>(store: &mut Store<D>, side: Side) -> Result<Vec<Comman
     ensures no_source { result ≢ Err Halt.ReadFault }
     ensures no_line { (number : ℕ) → result ≢ Err (Halt.BadLine number) }
     ensures no_sink { result ≢ Err Halt.WriteFault }
-    ensures disks { OnlyLooks D.seen D.faults D.moment D.left_at store.old store.new result }
+    ensures disks { OnlyLooks D.at store.old store.new result }
 {
     match store.accepted() {
         Ok(commands) => Ok(commands),

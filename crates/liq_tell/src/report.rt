@@ -18,12 +18,12 @@ use std::alloc::Global;
 /// Writes the report of what stands, as a line.
 pub fn write_report<K: Sink>(alloc: Global, protocol: &Protocol, out: &mut K) -> Result<(), Halt>
     ensures written { (s : State) → StandsFor protocol.now s
-        → WritesText (Ok (reported s)) result (K.held out.old) (K.held out.new) }
+        → WritesText (Ok (reported s)) result (K.at out.old).held (K.at out.new).held }
     ensures no_disk { result ≢ Err Halt.DiskFault }
     ensures no_source { result ≢ Err Halt.ReadFault }
     ensures no_number { (number : ℕ) → (result ≢ Err (Halt.BadLine number))
         × (result ≢ Err (Halt.Limit number)) × (result ≢ Err (Halt.Rotated number)) }
-    ensures sink { WriteCause result (K.faults out.old) (K.faults out.new) }
+    ensures sink { WriteCause result (K.at out.old).faults (K.at out.new).faults }
 {
     let line = line_of(alloc, protocol)?;
     write_text(out, &line)
@@ -31,7 +31,8 @@ pub fn write_report<K: Sink>(alloc: Global, protocol: &Protocol, out: &mut K) ->
 
 /// The report of what stands, with its line end.
 fn line_of(alloc: Global, protocol: &Protocol) -> Result<Vec<u8>, NoMemory>
-    ensures { IfOk result (λ line. (s : State) → StandsFor protocol.now s → line.items ≡ reported s) }
+    ensures { IfOk result
+        (λ line. (s : State) → StandsFor protocol.now s → line.items ≡ reported s) }
 {
     let mut line = report(alloc, protocol)?;
     match line.push(LINE_END) {

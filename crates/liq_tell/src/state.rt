@@ -23,12 +23,12 @@ use std::alloc::{AllocError, Global};
 /// Writes the text of what stands.
 pub fn write_standing<K: Sink>(alloc: Global, protocol: &Protocol, out: &mut K) -> Result<(), Halt>
     ensures written { (s : State) → StandsFor protocol.now s
-        → WritesText (Ok (standing s)) result (K.held out.old) (K.held out.new) }
+        → WritesText (Ok (standing s)) result (K.at out.old).held (K.at out.new).held }
     ensures no_disk { result ≢ Err Halt.DiskFault }
     ensures no_source { result ≢ Err Halt.ReadFault }
     ensures no_number { (number : ℕ) → (result ≢ Err (Halt.BadLine number))
         × (result ≢ Err (Halt.Limit number)) × (result ≢ Err (Halt.Rotated number)) }
-    ensures sink { WriteCause result (K.faults out.old) (K.faults out.new) }
+    ensures sink { WriteCause result (K.at out.old).faults (K.at out.new).faults }
 {
     let text = text_of(alloc, protocol)?;
     write_text(out, &text)
@@ -37,7 +37,8 @@ pub fn write_standing<K: Sink>(alloc: Global, protocol: &Protocol, out: &mut K) 
 /// The text of what stands.
 #[tactic(auto, unfolding(crate::specs::State::standing))]
 fn text_of(alloc: Global, protocol: &Protocol) -> Result<Vec<u8>, NoMemory>
-    ensures { IfOk result (λ text. (s : State) → StandsFor protocol.now s → text.items ≡ standing s) }
+    ensures { IfOk result
+        (λ text. (s : State) → StandsFor protocol.now s → text.items ≡ standing s) }
 {
     let mut text = Vec::new(alloc);
     put_reply(&protocol.query(&Query::System), &mut text)?;
@@ -49,8 +50,10 @@ fn text_of(alloc: Global, protocol: &Protocol) -> Result<Vec<u8>, NoMemory>
 
 /// The lines of the Stability Pool's words and of the journal, which stand behind the two replies.
 fn pool_and_journal(alloc: Global, protocol: &Protocol) -> Result<String, AllocError>
-    ensures { IfOk result (λ lines. (s : State) → StandsFor protocol.now s
-        → reply_line (step s (Ask System)).1 ++ reply_line (step s (Ask Pools)).1 ++ string_bytes lines ≡ standing s) }
+    ensures { IfOk result
+        (λ lines. (s : State) → StandsFor protocol.now s
+        → reply_line (step s (Ask System)).1 ++ reply_line (step s (Ask Pools)).1
+        ++ string_bytes lines ≡ standing s) }
 {
     let words = protocol.pool_words();
     let (p, scale, epoch, sum) = (words.p, words.scale, words.epoch, words.sum);

@@ -46,19 +46,21 @@ pub fn tell_on<K: Sink, D: Disk>(
     requires { HasFewLines what }
     // Of the state for which the disks stand, and of the commands that lead to it, the text is told. They stand for it
     // then.
-    ensures told { OfState D.seen left right (λ l r start. EndsTelling what start (commands_on l r) result.end
-        (Rose (K.faults out.old) (K.faults out.new)) (K.held out.old) (K.held out.new)
-        × DisksStay D.seen result.end l r start result.left result.right) }
+    ensures told { OfState D.at left right
+        (λ l r start. EndsTelling what start (commands_on l r) result.end
+        (Rose (K.at out.old).faults (K.at out.new).faults) (K.at out.old).held (K.at out.new).held
+        × DisksStay D.at result.end l r start result.left result.right) }
     // What a crash at some moment may have left of both is that of an opening.
-    ensures past { OfState D.seen left right (λ l r start. LeavesOfRun D.seen D.moment D.left_at left right
+    ensures past { OfState D.at left right (λ l r start. LeavesOfRun D.at left right
         (IsFaultOfTelling result.end) l r start [] result.left result.right) }
     // Of damaged disks nothing is told.
-    ensures damaged { OfDamage D.seen left right (λ l r side damage.
-        StopsDamaged D.seen D.moment D.left_at left right l r side damage result.end
-        (Rose (K.faults out.old) (K.faults out.new)) (K.held out.old) (K.held out.new) result.left result.right) }
+    ensures damaged { OfDamage D.at left right
+        (λ l r side damage. StopsDamaged D.at left right l r side damage result.end
+        (Rose (K.at out.old).faults (K.at out.new).faults) (K.at out.old).held (K.at out.new).held
+        result.left result.right) }
     ensures ends { MayEnd what result.end }
-    ensures sink { LastCause result.end (K.faults out.old) (K.faults out.new) }
-    ensures disks { DisksGoOn D.seen D.faults D.moment D.left_at left right result.end result.left result.right }
+    ensures sink { LastCause result.end (K.at out.old).faults (K.at out.new).faults }
+    ensures disks { DisksGoOn D.at left right result.end result.left result.right }
 {
     let ending = tell(alloc, what, out, left, right);
     tell_last(out, ending.end);
@@ -68,16 +70,16 @@ pub fn tell_on<K: Sink, D: Disk>(
 /// Tells a text of two disks.
 fn tell<K: Sink, D: Disk>(alloc: Global, what: Told, out: &mut K, left: D, right: D) -> Ending<D>
     requires { HasFewLines what }
-    ensures told { OfState D.seen left right (λ l r start.
-        WritesTold what start (commands_on l r) result.end (K.held out.old) (K.held out.new)
-        × DisksStay D.seen result.end l r start result.left result.right) }
-    ensures past { OfState D.seen left right (λ l r start. LeavesOfRun D.seen D.moment D.left_at left right
+    ensures told { OfState D.at left right (λ l r start.
+        WritesTold what start (commands_on l r) result.end (K.at out.old).held (K.at out.new).held
+        × DisksStay D.at result.end l r start result.left result.right) }
+    ensures past { OfState D.at left right (λ l r start. LeavesOfRun D.at left right
         (IsFaultOfTelling result.end) l r start [] result.left result.right) }
-    ensures damaged { OfDamage D.seen left right (λ l r side damage. (out.new ≡ out.old)
-        × LeavesDamaged D.seen D.moment D.left_at left right l r side damage result.end result.left result.right) }
+    ensures damaged { OfDamage D.at left right (λ l r side damage. (out.new ≡ out.old)
+        × LeavesDamaged D.at left right l r side damage result.end result.left result.right) }
     ensures ends { MayEnd what result.end }
-    ensures sink { WriteCause result.end (K.faults out.old) (K.faults out.new) }
-    ensures disks { DisksGoOn D.seen D.faults D.moment D.left_at left right result.end result.left result.right }
+    ensures sink { WriteCause result.end (K.at out.old).faults (K.at out.new).faults }
+    ensures disks { DisksGoOn D.at left right result.end result.left result.right }
 {
     commands_lead_to_the_state();
     journals_keep_their_limit();
@@ -99,11 +101,11 @@ fn write_told<K: Sink, D: Disk>(
 ) -> Result<(), Halt>
     requires going { store.old.stopped ≡ None }
     requires few { HasFewLines what.now }
-    ensures written { OfJournal D.seen store.old (λ s commands.
-        WritesTold what.now s commands result (K.held out.old) (K.held out.new)) }
+    ensures written { OfJournal D.at store.old (λ s commands.
+        WritesTold what.now s commands result (K.at out.old).held (K.at out.new).held) }
     ensures ends { MayEnd what.now result }
-    ensures sink { WriteCause result (K.faults out.old) (K.faults out.new) }
-    ensures disks { OnlyLooks D.seen D.faults D.moment D.left_at store.old store.new result }
+    ensures sink { WriteCause result (K.at out.old).faults (K.at out.new).faults }
+    ensures disks { OnlyLooks D.at store.old store.new result }
 {
     match what {
         Told::State => write_standing(alloc, store.protocol(), out),

@@ -18,9 +18,16 @@ use std::test::Fail;
 // the journal of the two commands.
 fn two_records<D: Disk>(disk: D, first: &Command, second: &Command) -> Result<Journal<D>, D>
     requires hints { HasHints first.now.call × HasHints second.now.call }
-    requires no_rotation { (is_rotate first.now.call ≡ false) × (is_rotate second.now.call ≡ false) }
-    ensures { IfOk result (λ j. (held : List ℕ) → D.seen disk ≡ Some held
-        → (after : List ℕ) × (D.seen j.disk ≡ Some after) × Stands true after (record { generation = 1; limit = LIM; checkpoint = []; commands = first.now ∷ second.now ∷ [] })) }
+    requires no_rotation { (is_rotate first.now.call ≡ false)
+        × (is_rotate second.now.call ≡ false) }
+    ensures { IfOk result (λ j. (held : List ℕ) → (D.at disk).seen ≡ Some held
+        → (after : List ℕ) × ((D.at j.disk).seen ≡ Some after)
+        × Stands true after (record {
+          generation = 1;
+          limit = LIM;
+          checkpoint = [];
+          commands = first.now ∷ second.now ∷ [];
+        })) }
 {
     let mut journal = match Journal::create(disk, 1, &[]) {
         Ok(journal) => journal,

@@ -1,6 +1,7 @@
 //! Sources and sinks: that each form works over real bytes, and that each fault is counted.
 
 use crate::checks::shows;
+use crate::disks::disk;
 use liq_outside::{MemorySink, MemorySource, Sink, Source, StdSink, StdSource};
 use std::alloc::{AllocError, Global};
 use std::io::{self, ErrorKind, Read};
@@ -100,6 +101,20 @@ fn a_memory_sink_holds_what_did_not_fail(rt: HostRuntime) -> Result<(), Fail> {
     let is_held = sink.bytes() == b"abefg".as_slice();
     let is_right = is_held && (failed, sink.faults()) == (1, 1);
     shows(&rt, "a sink holds the others", is_right);
+    Ok(())
+}
+
+// Where memory is ample it tells what it was shown, behind a write that failed too.
+#[test]
+fn a_memory_sink_tells_what_it_was_shown(rt: HostRuntime) -> Result<(), Fail> {
+    let alloc = rt.alloc();
+    let mut sink = MemorySink::new(alloc, [0].to_vec(alloc)?);
+    let (left, right) = (disk(alloc, b"", &[])?, disk(alloc, b"", &[])?);
+    sink.show(&left, &right);
+    let _ = write_each(&mut sink, &[b"ab", b"cd"]);
+    sink.show(&left, &right);
+    let is_told = sink.tells();
+    shows(&rt, "a sink tells what it was shown", is_told);
     Ok(())
 }
 

@@ -29,7 +29,8 @@ impl<D: Disk, O: Origin> Service<D, O> {
         requires own { IsSeatOf self.now seat }
         ensures own { IsSeatOf self.now result.0 }
         ensures session { session_at result.0 ≡ session_at seat }
-        ensures answered { Answered O.state (session_at seat) (calls_at seat) request.now result.1 (items_seen seat) (items_seen result.0) }
+        ensures answered { Answered O.state (session_at seat) (calls_at seat) request.now result.1
+            (items_seen seat) (items_seen result.0) }
         ensures limited { IsLimited result.1 (items_seen result.0) }
         ensures legal { IsLegal O.state (entries_of (items_seen result.0)) }
     {

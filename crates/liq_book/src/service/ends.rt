@@ -25,11 +25,17 @@ impl<D: Disk, O: Origin> Service<D, O> {
         mut seats: Vec<BookSeat<O>>,
     ) -> Result<Closed<D, O>, StillOut<D, O>>
         requires own { All (IsSeatOf self) seats.items }
-        ensures count { MatchResult result (λ closed. sessions_of self ≤ length seats.items) (λ out. length seats.items < sessions_of self) }
-        ensures out { MatchResult result (λ closed. Unit {0}) (λ out. (out.service ≡ self) × (out.seats.items ≡ seats.items) × (out.missing ≡ sessions_of self - length seats.items)) }
-        ensures book { IfOk result (λ closed. IsBook D.seen D.faults D.moment D.left_at O.state O.left O.right (booked_by closed)) }
-        ensures seen { IfOk result (λ closed. All (λ seat. Behind session_of (items_left closed) (session_at seat ∷ []) (items_seen seat)) seats.items) }
-        ensures sessions { IfOk result (λ closed. Within session_of (sessions_of self) (items_left closed)) }
+        ensures count { MatchResult result (λ closed. sessions_of self ≤ length seats.items)
+            (λ out. length seats.items < sessions_of self) }
+        ensures out { MatchResult result (λ closed. Unit {0})
+            (λ out. (out.service ≡ self) × (out.seats.items ≡ seats.items)
+            × (out.missing ≡ sessions_of self - length seats.items)) }
+        ensures book { IfOk result
+            (λ closed. IsBook D.at O.state O.left O.right (booked_by closed)) }
+        ensures seen { IfOk result (λ closed. All (λ seat. Behind session_of (items_left closed)
+            (session_at seat ∷ []) (items_seen seat)) seats.items) }
+        ensures sessions { IfOk result
+            (λ closed. Within session_of (sessions_of self) (items_left closed)) }
     {
         let given = seats.len();
         if given < self.sessions as usize {
@@ -64,7 +70,8 @@ fn gathered<D: Disk, O: Origin>(
     ensures own { seat_id result ≡ lock_id lock.now }
     ensures shares { shares_of result ≡ shares_of joined + length seats.items }
     ensures behind { Behind session_of (seen_of result) (stands_of joined) (seen_of joined) }
-    ensures behind_seats { All (λ seat. Behind session_of (seen_of result) (session_at seat ∷ []) (items_seen seat)) seats.items }
+    ensures behind_seats { All (λ seat. Behind session_of (seen_of result) (session_at seat ∷ [])
+        (items_seen seat)) seats.items }
 {
     let Some(next) = seats.pop() else {
         return joined;

@@ -34,7 +34,7 @@ impl<D: Disk, O: Origin> Service<D, O> {
     ) -> Result<(Service<D, O>, Vec<BookSeat<O>>, Vec<Finder<Pane>>), Store<D>>
         requires some { 1 ≤ sessions }
         requires going { store.stopped ≡ None }
-        requires origin { IsAtOrigin D.seen D.faults D.moment D.left_at O.state O.left O.right store }
+        requires origin { IsAtOrigin D.at O.state O.left O.right store }
         requires listed { TellsList store }
         ensures sessions { IfOk result (λ made. sessions_of made.0 ≡ sessions) }
         ensures count { IfOk result (λ made. length made.1.items ≡ sessions) }
@@ -74,7 +74,8 @@ fn opened<W: Wait>(
 ) -> Result<(Publisher, Vec<Finder<Pane>>, Finder<Pane>), NoMemory>
     ensures opened { IfOk result (λ made. HasOpened changes.now made.0) }
     ensures count { IfOk result (λ made. length made.1.items ≡ sessions) }
-    ensures fresh { IfOk result (λ made. All (λ f. IsFresh made.0 f.window × (f.last ≡ 0)) made.1.items) }
+    ensures fresh { IfOk result
+        (λ made. All (λ f. IsFresh made.0 f.window × (f.last ≡ 0)) made.1.items) }
 {
     let room = Vec::with_capacity(alloc, sessions as usize)?;
     let mut publisher = Publisher::alone(alloc, u32::from(sessions) + 1)?;

@@ -30,7 +30,8 @@ impl<D: Disk, O: Origin> Service<D, O> {
         ensures session { session_at result.0 ≡ session_at seat }
         ensures calls { calls_at result.0 ≡ calls_at seat }
         ensures others { SeesOthers (session_at seat) (items_seen seat) (items_seen result.0) }
-        ensures sent { IfOk result.1 (λ sent. sent.number ≡ length (entries_of (items_seen result.0))) }
+        ensures sent { IfOk result.1
+            (λ sent. sent.number ≡ length (entries_of (items_seen result.0))) }
     {
         let (session, calls) = (seat.session, seat.calls);
         let (held, mut book) = self.lock.take(rt, seat.seat);

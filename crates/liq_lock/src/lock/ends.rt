@@ -12,8 +12,10 @@ impl<T: Chronicle> Lock<T> {
     /// the seats. `StillShared` comes exactly where the seat has fewer shares than there were seats made.
     pub fn close(self, seat: LockSeat<T::Item>) -> Result<T, StillShared<T>>
         requires own { seat_id seat ≡ lock_id self }
-        ensures shares { MatchResult result (λ x. shares_of seat ≡ lock_seats self) (λ e. shares_of seat < lock_seats self) }
-        ensures value { MatchResult result (λ x. T.history x ≡ seen_of seat) (λ e. (e.lock ≡ self) × (e.seat ≡ seat) × (e.shares ≡ shares_of seat)) }
+        ensures shares { MatchResult result (λ x. shares_of seat ≡ lock_seats self)
+            (λ e. shares_of seat < lock_seats self) }
+        ensures value { MatchResult result (λ x. T.history x ≡ seen_of seat)
+            (λ e. (e.lock ≡ self) × (e.seat ≡ seat) × (e.shares ≡ shares_of seat)) }
         ensures makers { IfOk result (λ x. Within T.maker (lock_seats self) (T.history x)) }
     {
         let shares = seat.shares;

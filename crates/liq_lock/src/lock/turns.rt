@@ -106,7 +106,8 @@ impl<T: Chronicle> Lock<T> {
         requires one { length badge.views ≡ 1 }
         requires at_rest { is_at_rest (view_in badge.views) ≡ true }
         ensures own { result.0.table_id ≡ lock_id self.now }
-        ensures drew { (t : _) × (result.0.me ≡ (drew (view_in badge.views) t, [])) × (result.1 ≡ t % 2 ^ 64) }
+        ensures drew { (t : _) × (result.0.me ≡ (drew (view_in badge.views) t, []))
+            × (result.1 ≡ t % 2 ^ 64) }
     {
         let mut seat = badge.into_seat();
         let number = self.table.shared.fetch_add::<Draw>(&mut seat, TICKET, 1);

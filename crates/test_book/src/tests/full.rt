@@ -152,7 +152,7 @@ fn run_two<D: Disk + Drop + Send, O: Origin + Send + Sync, R: Abort + Threads + 
     store: Store<D>,
 ) -> Answered
     requires going { store.stopped ≡ None }
-    requires origin { IsAtOrigin D.seen D.faults D.moment D.left_at O.state O.left O.right store }
+    requires origin { IsAtOrigin D.at O.state O.left O.right store }
     requires listed { TellsList store }
 {
     let first = script(rt, alloc, 1, ENTRIES);

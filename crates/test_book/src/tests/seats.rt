@@ -147,7 +147,7 @@ fn two_seats<D: Disk + Drop, O: Origin, R: Abort + Wait>(
     store: Store<D>,
 ) -> Seen
     requires going { store.stopped ≡ None }
-    requires origin { IsAtOrigin D.seen D.faults D.moment D.left_at O.state O.left O.right store }
+    requires origin { IsAtOrigin D.at O.state O.left O.right store }
     requires listed { TellsList store }
 {
     let Ok((service, seats, mut finders)) = Service::<D, O>::new(rt, alloc, store, 2) else {

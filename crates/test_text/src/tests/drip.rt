@@ -49,11 +49,7 @@ impl Drip {
 }
 
 impl Sink for Drip {
-    ghost held = { λ s. Some s.bytes.items };
-
-    ghost faults = { λ s. s.faults };
-
-    ghost shown = { λ _. None };
+    ghost at = { λ s. record { held = Some s.bytes.items; shown = None; faults = s.faults } };
 
     fn show<D: Disk>(&mut self, _left: &D, _right: &D) {}
 

@@ -1,4 +1,4 @@
-use Rattle.std.proofs.Common.{◌≡◌, List, ◌∷◌, ◌++◌, map, ap, sym, subst, ◌∙◌, append_assoc}
+use Rattle.std.proofs.Common.{List, ◌++◌, map, ap, sym, subst, ◌∙◌, append_assoc}
 use Rattle.liq_rules.specs.Recorded.{recorded}
 use Rattle.liq_views.specs.declared.rule.Sight.{Sight}
 use Rattle.liq_views.specs.Batches.{Given, version_after}

@@ -10,16 +10,19 @@ use Rattle.liq_ends.proofs.ending.tell_last.Goals as goal
 
 pub returns-in-Err-clause-told : goal.returns-in-Err-clause-told
 returns-in-Err-clause-told g c text before count fewer wrote =
-    let faults = g.K.Sink.faults in
-    let held = g.K.Sink.held in
+    let at = g.K.Sink.at in
     let halt = c.in-Err.halt in
     let after = c.write_last.new.out in
     let now = c.args.out.now in
-    subst (λ (e : Result (Unit {0}) Halt). TellsAll text e (Rose count (faults after)) before (held after)) (sym c.in-Err.is)
-    (all_halted halt text (Rose count (faults after)) before (held now) (held after) (subst (λ (e : Result (Unit {0}) Halt). WritesAll text e before (held now)) c.in-Err.is wrote)
-    (adds_weaker (last halt) (Rose (faults now) (faults after)) (Rose count (faults after)) (held now) (held after)
-    (rose_later count (faults now) (faults after) fewer) c.write_last.ensures.written))
+    subst (λ (e : Result (Unit {0}) Halt). TellsAll text e (Rose count (at after).faults) before (at after).held)
+    (sym c.in-Err.is)
+    (all_halted halt text (Rose count (at after).faults) before (at now).held (at after).held
+    (subst (λ (e : Result (Unit {0}) Halt). WritesAll text e before (at now).held) c.in-Err.is wrote)
+    (adds_weaker (last halt) (Rose (at now).faults (at after).faults) (Rose count (at after).faults) (at now).held
+    (at after).held
+    (rose_later count (at now).faults (at after).faults fewer) c.write_last.ensures.written))
 
 pub returns-in_default-clause-told : goal.returns-in_default-clause-told
 returns-in_default-clause-told g c text before count fewer wrote =
-    all_well c.args.end text (Rose count (g.K.Sink.faults c.args.out.now)) before (g.K.Sink.held c.args.out.now) c.in_default.not-Err wrote
+    all_well c.args.end text (Rose count (g.K.Sink.at c.args.out.now).faults) before
+    (g.K.Sink.at c.args.out.now).held c.in_default.not-Err wrote

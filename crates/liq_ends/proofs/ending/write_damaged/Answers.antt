@@ -8,8 +8,12 @@ use Rattle.liq_ends.proofs.ending.write_damaged.Goals as goal
 
 pub returns-in-Left-clause-ok : goal.returns-in-Left-clause-ok
 returns-in-Left-clause-ok g c =
-    subst (λ (side : Side). OnOk c.write_numbered.result (Writes (g.K.Sink.held c.args.out.now) (last (Damaged side c.args.number)) (g.K.Sink.held c.write_numbered.new.out))) (sym c.in-Left.is) c.write_numbered.ensures.ok
+    subst (λ (side : Side). OnOk c.write_numbered.result
+    (Writes (g.K.Sink.at c.args.out.now).held (last (Damaged side c.args.number))
+    (g.K.Sink.at c.write_numbered.new.out).held)) (sym c.in-Left.is) c.write_numbered.ensures.ok
 
 pub returns-in-Right-clause-ok : goal.returns-in-Right-clause-ok
 returns-in-Right-clause-ok g c =
-    subst (λ (side : Side). OnOk c.write_numbered-in-Right.result (Writes (g.K.Sink.held c.args.out.now) (last (Damaged side c.args.number)) (g.K.Sink.held c.write_numbered-in-Right.new.out))) (sym c.in-Right.is) c.write_numbered-in-Right.ensures.ok
+    subst (λ (side : Side). OnOk c.write_numbered-in-Right.result
+    (Writes (g.K.Sink.at c.args.out.now).held (last (Damaged side c.args.number))
+    (g.K.Sink.at c.write_numbered-in-Right.new.out).held)) (sym c.in-Right.is) c.write_numbered-in-Right.ensures.ok

@@ -7,24 +7,31 @@ use Rattle.liq_lines.proofs.Parts.{part_first, part_second}
 
 pub returns-in_err-write_all-clause-err : goal.returns-in_err-write_all-clause-err
 returns-in_err-write_all-clause-err g c =
-    on_err_of c.from_residual.result (part_first (g.K.Sink.held c.args.out.now) (g.K.Sink.held c.write_all.new.out) c.args.text.now (decimal c.args.number ++ 10 ∷ []) c.in_err-write_all.ensures.err)
+    on_err_of c.from_residual.result
+    (part_first (g.K.Sink.at c.args.out.now).held (g.K.Sink.at c.write_all.new.out).held c.args.text.now
+    (decimal c.args.number ++ 10 ∷ []) c.in_err-write_all.ensures.err)
 
 pub returns-in_err-write_all-2-clause-err : goal.returns-in_err-write_all-2-clause-err
 returns-in_err-write_all-2-clause-err g c =
-    let held = g.K.Sink.held in
+    let at = g.K.Sink.at in
     let digits = c.as_bytes.ensures.value ∙ c.format.ensures.text in
     on_err_of c.from_residual-in_err-write_all-2.result
-    (part_second (held c.args.out.now) (held c.write_all.new.out) (held c.write_all-2.new.out) c.args.text.now (decimal c.args.number ++ 10 ∷ []) c.in_ok-write_all.ensures.ok
-    (part_first (held c.write_all.new.out) (held c.write_all-2.new.out) (decimal c.args.number) (10 ∷ [])
-    (subst (λ (t : List ℕ). WritesPart (held c.write_all.new.out) t (held c.write_all-2.new.out)) digits c.in_err-write_all-2.ensures.err)))
+    (part_second (at c.args.out.now).held (at c.write_all.new.out).held (at c.write_all-2.new.out).held c.args.text.now
+    (decimal c.args.number ++ 10 ∷ []) c.in_ok-write_all.ensures.ok
+    (part_first (at c.write_all.new.out).held (at c.write_all-2.new.out).held (decimal c.args.number) (10 ∷ [])
+    (subst (λ (t : List ℕ). WritesPart (at c.write_all.new.out).held t (at c.write_all-2.new.out).held) digits
+    c.in_err-write_all-2.ensures.err)))
 
 pub returns-clause-err : goal.returns-clause-err
 returns-clause-err g c =
-    let held = g.K.Sink.held in
+    let at = g.K.Sink.at in
     let digits = c.as_bytes.ensures.value ∙ c.format.ensures.text in
     on_err_map c.write_all-3.result
     (λ part.
-    part_second (held c.args.out.now) (held c.write_all.new.out) (held c.write_all-3.new.out) c.args.text.now (decimal c.args.number ++ 10 ∷ []) c.in_ok-write_all.ensures.ok
-    (part_second (held c.write_all.new.out) (held c.write_all-2.new.out) (held c.write_all-3.new.out) (decimal c.args.number) (10 ∷ [])
-    (subst (λ (t : List ℕ). Writes (held c.write_all.new.out) t (held c.write_all-2.new.out)) digits c.in_ok-write_all-2.ensures.ok) part))
+    part_second (at c.args.out.now).held (at c.write_all.new.out).held (at c.write_all-3.new.out).held c.args.text.now
+    (decimal c.args.number ++ 10 ∷ []) c.in_ok-write_all.ensures.ok
+    (part_second (at c.write_all.new.out).held (at c.write_all-2.new.out).held (at c.write_all-3.new.out).held
+    (decimal c.args.number) (10 ∷ [])
+    (subst (λ (t : List ℕ). Writes (at c.write_all.new.out).held t (at c.write_all-2.new.out).held) digits
+    c.in_ok-write_all-2.ensures.ok) part))
     c.write_all-3.ensures.err

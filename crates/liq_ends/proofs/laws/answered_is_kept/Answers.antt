@@ -1,10 +1,8 @@
-use Rattle.std.proofs.Common.{◌⊎◌, inl, inr, ℕ, zero, suc, ◌+◌, ◌≤◌, ◌<◌, List, [], ◌∷◌, length, take, arith, length-append}
+use Rattle.std.proofs.Common.{◌≡◌, ◌⊎◌, inl, inr, ℕ, zero, suc, ◌+◌, ◌≤◌, ◌<◌, List, [], ◌∷◌, length, take, arith, length-append}
 use Rattle.liq_types.specs.declared.requests.Request.{Request}
 use Rattle.liq_types.specs.State.{State}
 use Rattle.liq_rules.specs.Step.{step}
-use Rattle.liq_pairs.specs.Past.{Fault}
 use Rattle.liq_text.specs.Replies.{reply_line}
-use Rattle.liq_ends.specs.Answered.{AnswersOnly}
 use Rattle.liq_ends.specs.Output.{lines}
 use Rattle.liq_ends.proofs.laws.answered_is_kept.Goals as goal
 
@@ -19,9 +17,11 @@ no_longer start (suc n) (suc m) (q ∷ requests) le =
     let rest = no_longer later n m requests (omega (arith, le)) in
     omega (arith, rest, length-append reply (lines later (take n requests)), length-append reply (lines later (take m requests)))
 
-more_than : (start : State) (requests : List Request) (fault : Fault) (before held n m : ℕ) → AnswersOnly start requests fault before n held → m < length requests → before + length (lines start (take m requests)) < held → m < n
-more_than start requests fault before held n m (inr all) few out = omega (arith, all, few)
-more_than start requests fault before held n m (inl within) few out = by (either n m) where
+more_than : (start : State) (requests : List Request) (before held n m : ℕ)
+    → (held ≤ before + length (lines start (take n requests))) ⊎ (n ≡ length requests) → m < length requests
+    → before + length (lines start (take m requests)) < held → m < n
+more_than start requests before held n m (inr all) few out = omega (arith, all, few)
+more_than start requests before held n m (inl within) few out = by (either n m) where
   either : (n m : ℕ) → (n ≤ m) ⊎ (m < n)
   either n m = grind arith
 
@@ -30,4 +30,5 @@ more_than start requests fault before held n m (inl within) few out = by (either
   by (inl le) = let fewer = no_longer start n m requests le in absurd (omega (arith, within, out, fewer))
 
 pub returns : goal.returns
-returns c start requests fault before held m a b holds few out = (holds.0, more_than start requests fault before held holds.0 m holds.2 few out, holds.1, holds.3)
+returns c start requests fault before held m a b holds few out =
+    (holds.0, more_than start requests before held holds.0 m holds.2 few out, holds.1, holds.3)

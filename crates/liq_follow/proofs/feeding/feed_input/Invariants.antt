@@ -6,11 +6,11 @@ use Rattle.liq_follow.proofs.feeding.feed_input.Given as goal
 -- what was read is fed, and there is room for a piece
 abbrev pub invariant-loop-room : goal.invariant-loop-room
 invariant-loop-room g l =
-    let left = g.S.Source.left in
+    let at = g.S.Source.at in
     record {
-      underway : Underway (left l.fn.input) (left l.input) l.room l.follower;
+      underway : Underway (at l.fn.input).left (at l.input).left l.room l.follower;
       piece : vec_len l.piece ≡ PIECE_BYTES;
-      count : g.S.Source.faults l.input ≡ g.S.Source.faults l.fn.input;
+      count : (at l.input).faults ≡ (at l.fn.input).faults;
     }
 
 abbrev pub decreases-loop-room : goal.decreases-loop-room

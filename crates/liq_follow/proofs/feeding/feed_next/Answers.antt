@@ -7,14 +7,16 @@ use Rattle.liq_follow.proofs.feeding.feed_next.Goals as goal
 
 pub returns-in_err-feed_piece-clause-fed : goal.returns-in_err-feed_piece-clause-fed
 returns-in_err-feed_piece-clause-fed g c fed is goes =
-    let left = g.S.Source.left in
+    let at = g.S.Source.at in
     let read = take c.in-Ok.count c.read.new.buf in
     let halt = c.in_err-feed_piece.field-0.0 in
     let stopped : StopsWithin halt (fed ++ read) = search rules in
     let same : c.from_residual.result ≡ Err halt = search rules in
     let few : length read ≤ length c.args.piece.now = search rules in (
       read,
-      taken (left c.args.input.now) (left c.read.new.self) c.in-Ok.count c.read.new.buf c.in-Ok.ensures.rest c.in-Ok.ensures.bytes,
+      taken (at c.args.input.now).left
+          (at c.read.new.self).left c.in-Ok.count c.read.new.buf c.in-Ok.ensures.rest c.in-Ok.ensures.bytes,
       few,
-      subst (λ (r : Result ℕ Halt). FedNext r fed read (left c.read.new.self) c.feed_piece.new.follower) (sym same) stopped,
+      subst (λ (r : Result ℕ Halt). FedNext r fed read (at c.read.new.self).left c.feed_piece.new.follower)
+          (sym same) stopped,
     )

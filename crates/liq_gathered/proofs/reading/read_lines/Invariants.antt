@@ -8,10 +8,10 @@ use Rattle.liq_gathered.proofs.reading.read_lines.Given as goal
 -- the lines that were counted are gathered
 abbrev pub invariant-loop-read : goal.invariant-loop-read
 invariant-loop-read g l =
-    let left = g.S.Source.left in
+    let at = g.S.Source.at in
     record {
-      gathered : HasGathered g.G.Gatherer.says g.G.Gatherer.holds (left l.fn.input) l.read l.gatherer (unread l.reader (left l.input));
-      takes : ReadsFew (left l.fn.input) l.read l.reader (left l.input);
+      gathered : HasGathered g.G.Gatherer.says g.G.Gatherer.holds (at l.fn.input).left l.read l.gatherer (unread l.reader (at l.input).left);
+      takes : ReadsFew (at l.fn.input).left l.read l.reader (at l.input).left;
       room : LINE_BYTES ≤ vec_capacity l.line;
-      count : g.S.Source.faults l.input ≡ g.S.Source.faults l.fn.input;
+      count : (g.S.Source.at l.input).faults ≡ (g.S.Source.at l.fn.input).faults;
     }

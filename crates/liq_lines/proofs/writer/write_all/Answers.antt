@@ -14,9 +14,9 @@ loop-written-preserved g c =
     record {
       within = omega (arith, c.in_ok-written.ensures.fits, c.loop-written-test.true, simp (length-take, length-drop) at c.in_ok-written.ensures.fits);
       front =
-          subst (λ (front : List ℕ). Writes (g.K.Sink.held c.args.out.now) front (g.K.Sink.held c.write.new.self))
+          subst (λ (front : List ℕ). Writes (g.K.Sink.at c.args.out.now).held front (g.K.Sink.at c.write.new.self).held)
           (ap (λ (p : List ℕ). take w bytes ++ take n p) piece ∙ sym (take-add w n bytes))
-          (writes_more (g.K.Sink.held c.args.out.now) (g.K.Sink.held c.loop-written.out) (g.K.Sink.held c.write.new.self) _ _ c.loop-written.invariant.front c.in_ok-written.ensures.appended);
+          (writes_more (g.K.Sink.at c.args.out.now).held (g.K.Sink.at c.loop-written.out).held (g.K.Sink.at c.write.new.self).held _ _ c.loop-written.invariant.front c.in_ok-written.ensures.appended);
       count = c.in_ok-written.ensures.cause.ok ∙ c.loop-written.invariant.count;
       unshown = c.in_ok-written.ensures.unshown ∙ c.loop-written.invariant.unshown;
     }

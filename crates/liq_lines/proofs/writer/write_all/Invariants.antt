@@ -5,14 +5,12 @@ use Rattle.liq_lines.proofs.writer.write_all.Given as goal
 -- what is written so far
 abbrev pub invariant-loop-written : goal.invariant-loop-written
 invariant-loop-written g l =
-    let held = g.K.Sink.held in
-    let faults = g.K.Sink.faults in
-    let shown = g.K.Sink.shown in
+    let at = g.K.Sink.at in
     record {
       within : l.written ≤ length l.bytes;
-      front : Writes (held l.fn.out) (take l.written l.bytes) (held l.out);
-      count : faults l.out ≡ faults l.fn.out;
-      unshown : shown l.out ≡ shown l.fn.out;
+      front : Writes (at l.fn.out).held (take l.written l.bytes) (at l.out).held;
+      count : (at l.out).faults ≡ (at l.fn.out).faults;
+      unshown : (at l.out).shown ≡ (at l.fn.out).shown;
     }
 
 abbrev pub decreases-loop-written : goal.decreases-loop-written

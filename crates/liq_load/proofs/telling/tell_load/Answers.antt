@@ -9,10 +9,13 @@ pub returns-clause-told : goal.returns-clause-told
 returns-clause-told g c =
     let line = summary (load opening (generated c.args.seed c.args.count)) in
     let ran = c.write_load-end in
-    let told = line_told line ran.result (g.K.Sink.held c.args.out.now) (g.K.Sink.held ran.new.out) ran.ensures.written in
-    c.tell_last.ensures.told line (g.K.Sink.held c.args.out.now) (g.K.Sink.faults c.args.out.now) (write_no_fewer ran.result _ _ ran.ensures.sink) told.1
+    let told = line_told line ran.result (g.K.Sink.at c.args.out.now).held
+    (g.K.Sink.at ran.new.out).held ran.ensures.written in
+    c.tell_last.ensures.told line (g.K.Sink.at c.args.out.now).held (g.K.Sink.at c.args.out.now).faults
+    (write_no_fewer ran.result _ _ ran.ensures.sink) told.1
 
 pub returns-clause-ends : goal.returns-clause-ends
 returns-clause-ends g c =
     let ran = c.write_load-end in
-    (line_told (summary (load opening (generated c.args.seed c.args.count))) ran.result (g.K.Sink.held c.args.out.now) (g.K.Sink.held ran.new.out) ran.ensures.written).0
+    (line_told (summary (load opening (generated c.args.seed c.args.count))) ran.result
+    (g.K.Sink.at c.args.out.now).held (g.K.Sink.at ran.new.out).held ran.ensures.written).0

@@ -5,7 +5,7 @@ use Rattle.liq_records.proofs.Replaying.{goes_on, stops_there, reached_all, jour
 use Rattle.liq_records.proofs.again.replay.Goals as goal
 
 pub returns-in-Err-clause-looked : goal.returns-in-Err-clause-looked
-returns-in-Err-clause-looked g c = looked_on g.D.Disk.seen g.D.Disk.moment g.D.Disk.left_at c.args.journal.now.disk c.loop-done.journal.disk c.redo_record.new.journal.disk c.loop-done.invariant.looked c.redo_record.ensures.looked
+returns-in-Err-clause-looked g c = looked_on g.D.Disk.at c.args.journal.now.disk c.loop-done.journal.disk c.redo_record.new.journal.disk c.loop-done.invariant.looked c.redo_record.ensures.looked
 
 pub returns-in-Err-clause-replayed : goal.returns-in-Err-clause-replayed
 returns-in-Err-clause-replayed g c held w s told journal counted stands =
@@ -16,7 +16,7 @@ returns-in-Err-clause-replayed g c held w s told journal counted stands =
 
 pub loop-done-preserved : goal.loop-done-preserved
 loop-done-preserved g c = record {
-  looked = looked_on g.D.Disk.seen g.D.Disk.moment g.D.Disk.left_at c.args.journal.now.disk c.loop-done.journal.disk c.redo_record.new.journal.disk c.loop-done.invariant.looked c.redo_record.ensures.looked;
+  looked = looked_on g.D.Disk.at c.args.journal.now.disk c.loop-done.journal.disk c.redo_record.new.journal.disk c.loop-done.invariant.looked c.redo_record.ensures.looked;
   same = c.redo_record.ensures.same ∙ ap (λ (j : JournalOn g.row.D.Denot). record j { disk = c.redo_record.new.journal.disk }) c.loop-done.invariant.same;
   part = c.redo_record.ensures.part;
   still = c.in-Ok.ensures.cause ∙ c.loop-done.invariant.still;

@@ -7,6 +7,7 @@ use Rattle.liq_scripts.proofs.output.send_entries.Goals as goal
 
 pub returns-clause-sends : goal.returns-clause-sends
 returns-clause-sends g c =
-    let held = g.K.Sink.held in
-    subst (λ (t : List ℕ). Sends c.send_each.result c.args.outbox.now t c.send_each.new.outbox (held c.args.out.now) (held c.send_each.new.out))
+    let at = g.K.Sink.at in
+    subst (λ (t : List ℕ). Sends c.send_each.result c.args.outbox.now t c.send_each.new.outbox (at c.args.out.now).held
+    (at c.send_each.new.out).held)
     (sym (flat_map-map (part_text Call) g.E.Shown.entry c.args.entries.now)) c.send_each.ensures.sends

@@ -8,9 +8,11 @@ use Rattle.liq_scripts.proofs.output.send_replies.Given as goal
 -- the replies of the first sessions are sent
 abbrev pub invariant-loop-before : goal.invariant-loop-before
 invariant-loop-before g l =
-    let held = g.K.Sink.held in
+    let at = g.K.Sink.at in
     record {
-      sent : Sends (Ok tt) l.fn.outbox (flat_map (session_part g.E.Shown.entry l.entries) (take l.before sessions)) l.outbox (held l.fn.out) (held l.out);
-      count : g.K.Sink.faults l.out ≡ g.K.Sink.faults l.fn.out;
-      unshown : g.K.Sink.shown l.out ≡ g.K.Sink.shown l.fn.out;
+      sent : Sends (Ok tt) l.fn.outbox
+          (flat_map (session_part g.E.Shown.entry l.entries) (take l.before sessions)) l.outbox (at l.fn.out).held
+          (at l.out).held;
+      count : (at l.out).faults ≡ (at l.fn.out).faults;
+      unshown : (at l.out).shown ≡ (at l.fn.out).shown;
     }

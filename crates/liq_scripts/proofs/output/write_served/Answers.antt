@@ -25,43 +25,78 @@ flushed : (result : Result (Unit {0}) Failed) (history : List Entry) (w w1 w2 : 
 flushed result history w w1 w2 before mid after sent flush =
     subst (λ (t : List ℕ). Sends result w t w2 before after) (append-nil (served history)) (sends_more result w (served history) w1 [] w2 before mid after sent flush)
 
+pub returns-in_err-send_replies-clause-err : goal.returns-in_err-send_replies-clause-err
+returns-in_err-send_replies-clause-err g c =
+    let at = g.K.Sink.at in
+    let history = map g.E.Shown.entry c.args.entries.now in
+    let fault = c.in_err-send_replies.field-0.0 in
+    let waits = c.send_replies.new.outbox in
+    let before = (at c.args.out.now).held in
+    let after = (at c.send_replies.new.out).held in
+    let cut = sends_cut fault c.args.outbox.now (replies_text history ++ title) waits
+    (history_text history) waits before after
+    (sends_cut fault c.args.outbox.now (replies_text history) waits title waits before after
+    c.in_err-send_replies.ensures.sends) in
+    part_written c.from_residual.result c.args.outbox.now (served history) waits before after c.requires
+    (sends_fault c.from_residual.result fault c.args.outbox.now
+    (served history) waits before after c.from_residual.ensures.1
+    (subst (λ (t : List ℕ). Sends (Err fault) c.args.outbox.now t waits before after) (parts history) cut))
+
 pub returns-in_err-send-clause-err : goal.returns-in_err-send-clause-err
 returns-in_err-send-clause-err g c =
-    let held = g.K.Sink.held in
+    let at = g.K.Sink.at in
     let history = map g.E.Shown.entry c.args.entries.now in
     let fault = c.in_err-send.field-0.0 in
-    let here = sends_more (Err fault) c.args.outbox.now (replies_text history) c.send_replies.new.outbox title c.send.new.self (held c.args.out.now) (held c.send_replies.new.out) (held c.send.new.out) c.in_ok-send_replies.ensures.sends c.in_err-send.ensures.sends in
-    let cut = sends_cut fault c.args.outbox.now (replies_text history ++ title) c.send.new.self (history_text history) c.send.new.self (held c.args.out.now) (held c.send.new.out) here in
-    part_written c.from_residual-in_err-send.result c.args.outbox.now (served history) c.send.new.self (held c.args.out.now) (held c.send.new.out) c.requires
-    (sends_fault c.from_residual-in_err-send.result fault c.args.outbox.now (served history) c.send.new.self (held c.args.out.now) (held c.send.new.out) c.from_residual-in_err-send.ensures.1
-    (subst (λ (t : List ℕ). Sends (Err fault) c.args.outbox.now t c.send.new.self (held c.args.out.now) (held c.send.new.out)) (parts history) cut))
+    let here = sends_more (Err fault) c.args.outbox.now
+    (replies_text history) c.send_replies.new.outbox title c.send.new.self (at c.args.out.now).held
+    (at c.send_replies.new.out).held
+    (at c.send.new.out).held c.in_ok-send_replies.ensures.sends c.in_err-send.ensures.sends in
+    let cut = sends_cut fault c.args.outbox.now (replies_text history ++ title) c.send.new.self
+    (history_text history) c.send.new.self (at c.args.out.now).held (at c.send.new.out).held here in
+    part_written c.from_residual-in_err-send.result c.args.outbox.now (served history) c.send.new.self
+    (at c.args.out.now).held (at c.send.new.out).held c.requires
+    (sends_fault c.from_residual-in_err-send.result fault c.args.outbox.now (served history) c.send.new.self
+    (at c.args.out.now).held (at c.send.new.out).held c.from_residual-in_err-send.ensures.1
+    (subst (λ (t : List ℕ). Sends (Err fault) c.args.outbox.now t c.send.new.self (at c.args.out.now).held
+    (at c.send.new.out).held) (parts history) cut))
 
 pub returns-in_err-send_entries-clause-err : goal.returns-in_err-send_entries-clause-err
 returns-in_err-send_entries-clause-err g c =
-    let held = g.K.Sink.held in
+    let at = g.K.Sink.at in
     let history = map g.E.Shown.entry c.args.entries.now in
     let fault = c.in_err-send_entries.field-0.0 in
-    part_written c.from_residual-in_err-send_entries.result c.args.outbox.now (served history) c.send_entries.new.outbox (held c.args.out.now) (held c.send_entries.new.out) c.requires
-    (sends_fault c.from_residual-in_err-send_entries.result fault c.args.outbox.now (served history) c.send_entries.new.outbox (held c.args.out.now) (held c.send_entries.new.out) c.from_residual-in_err-send_entries.ensures.1
-    (sent_served (Err fault) history c.args.outbox.now c.send_replies.new.outbox c.send.new.self c.send_entries.new.outbox (held c.args.out.now) (held c.send_replies.new.out) (held c.send.new.out) (held c.send_entries.new.out)
+    part_written c.from_residual-in_err-send_entries.result c.args.outbox.now (served history) c.send_entries.new.outbox
+    (at c.args.out.now).held (at c.send_entries.new.out).held c.requires
+    (sends_fault c.from_residual-in_err-send_entries.result fault c.args.outbox.now
+    (served history) c.send_entries.new.outbox (at c.args.out.now).held
+    (at c.send_entries.new.out).held c.from_residual-in_err-send_entries.ensures.1
+    (sent_served (Err fault) history c.args.outbox.now c.send_replies.new.outbox c.send.new.self
+    c.send_entries.new.outbox (at c.args.out.now).held (at c.send_replies.new.out).held (at c.send.new.out).held
+    (at c.send_entries.new.out).held
     c.in_ok-send_replies.ensures.sends c.in_ok-send.ensures.sends c.in_err-send_entries.ensures.sends))
 
 pub returns-clause-ok : goal.returns-clause-ok
 returns-clause-ok g c =
-    let held = g.K.Sink.held in
+    let at = g.K.Sink.at in
     let history = map g.E.Shown.entry c.args.entries.now in
-    all_written c.flush.result c.args.outbox.now (served history) c.flush.new.self (held c.args.out.now) (held c.flush.new.out) c.requires c.flush.ensures.empty
-    (flushed c.flush.result history c.args.outbox.now c.send_entries.new.outbox c.flush.new.self (held c.args.out.now) (held c.send_entries.new.out) (held c.flush.new.out)
-    (sent_served (Ok tt) history c.args.outbox.now c.send_replies.new.outbox c.send.new.self c.send_entries.new.outbox (held c.args.out.now) (held c.send_replies.new.out) (held c.send.new.out) (held c.send_entries.new.out)
+    all_written c.flush.result c.args.outbox.now (served history) c.flush.new.self (at c.args.out.now).held
+    (at c.flush.new.out).held c.requires c.flush.ensures.empty
+    (flushed c.flush.result history c.args.outbox.now c.send_entries.new.outbox c.flush.new.self
+    (at c.args.out.now).held (at c.send_entries.new.out).held (at c.flush.new.out).held
+    (sent_served (Ok tt) history c.args.outbox.now c.send_replies.new.outbox c.send.new.self c.send_entries.new.outbox
+    (at c.args.out.now).held (at c.send_replies.new.out).held (at c.send.new.out).held (at c.send_entries.new.out).held
     c.in_ok-send_replies.ensures.sends c.in_ok-send.ensures.sends c.in_ok-send_entries.ensures.sends)
     c.flush.ensures.sends)
 
 pub returns-clause-err : goal.returns-clause-err
 returns-clause-err g c =
-    let held = g.K.Sink.held in
+    let at = g.K.Sink.at in
     let history = map g.E.Shown.entry c.args.entries.now in
-    part_written c.flush.result c.args.outbox.now (served history) c.flush.new.self (held c.args.out.now) (held c.flush.new.out) c.requires
-    (flushed c.flush.result history c.args.outbox.now c.send_entries.new.outbox c.flush.new.self (held c.args.out.now) (held c.send_entries.new.out) (held c.flush.new.out)
-    (sent_served (Ok tt) history c.args.outbox.now c.send_replies.new.outbox c.send.new.self c.send_entries.new.outbox (held c.args.out.now) (held c.send_replies.new.out) (held c.send.new.out) (held c.send_entries.new.out)
+    part_written c.flush.result c.args.outbox.now (served history) c.flush.new.self (at c.args.out.now).held
+    (at c.flush.new.out).held c.requires
+    (flushed c.flush.result history c.args.outbox.now c.send_entries.new.outbox c.flush.new.self
+    (at c.args.out.now).held (at c.send_entries.new.out).held (at c.flush.new.out).held
+    (sent_served (Ok tt) history c.args.outbox.now c.send_replies.new.outbox c.send.new.self c.send_entries.new.outbox
+    (at c.args.out.now).held (at c.send_replies.new.out).held (at c.send.new.out).held (at c.send_entries.new.out).held
     c.in_ok-send_replies.ensures.sends c.in_ok-send.ensures.sends c.in_ok-send_entries.ensures.sends)
     c.flush.ensures.sends)

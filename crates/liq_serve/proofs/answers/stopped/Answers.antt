@@ -8,10 +8,13 @@ use Rattle.liq_serve.proofs.answers.stopped.Goals as goal
 
 pub returns-clause-sink : goal.returns-clause-sink
 returns-clause-sink g c =
-    subst (λ (halt : Halt). LastCause (Err halt) (g.K.Sink.faults c.args.out.now) (g.K.Sink.faults c.write_last.new.out)) (sym c.halt_at-halt.ensures)
-    (stop_sink c.args.stop (g.K.Sink.faults c.args.out.now) (g.K.Sink.faults c.write_last.new.out))
+    let was = (g.K.Sink.at c.args.out.now).faults in
+    let now = (g.K.Sink.at c.write_last.new.out).faults in
+    subst (λ (halt : Halt). LastCause (Err halt) was now) (sym c.halt_at-halt.ensures) (stop_sink c.args.stop was now)
 
 pub returns-clause-disks : goal.returns-clause-disks
 returns-clause-disks g c =
-    subst (λ (halt : Halt). DisksGoOn g.D.Disk.seen g.D.Disk.faults g.D.Disk.moment g.D.Disk.left_at c.args.left c.args.right (Err halt) c.args.left c.args.right) (sym c.halt_at-halt.ensures)
-    (same_go_on g.D.Disk.seen g.D.Disk.faults g.D.Disk.moment g.D.Disk.left_at c.args.left c.args.right _ (stop_disks c.args.stop (counts_of g.D.Disk.faults c.args.left c.args.right)))
+    subst (λ (halt : Halt). DisksGoOn g.D.Disk.at c.args.left c.args.right (Err halt) c.args.left c.args.right)
+    (sym c.halt_at-halt.ensures)
+    (same_go_on g.D.Disk.at c.args.left c.args.right _
+    (stop_disks c.args.stop (counts_of g.D.Disk.at c.args.left c.args.right)))

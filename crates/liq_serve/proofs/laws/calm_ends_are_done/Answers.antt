@@ -7,6 +7,7 @@ use Rattle.liq_serve.proofs.laws.calm_ends_are_done.Goals as goal
 
 pub returns : goal.returns
 returns g c before after status words ends =
-    complete g.S.Source.left g.S.Source.faults g.K.Sink.held g.K.Sink.shown g.K.Sink.faults g.D.Disk.seen g.D.Disk.faults g.D.Disk.moment g.D.Disk.left_at before after
-    (λ l r s is one. ap (λ (limit : ℕ). replay 1 (opening_with limit) (commands_on l r)) (c.journals_keep_their_limit.ensures.pair l r s is) ∙ c.commands_lead_to_the_state.ensures.first l r s is one)
+    complete g.S.Source.at g.K.Sink.at g.D.Disk.at before after
+    (λ l r s is one. ap (λ (limit : ℕ). replay 1 (opening_with limit) (commands_on l r))
+    (c.journals_keep_their_limit.ensures.pair l r s is) ∙ c.commands_lead_to_the_state.ensures.first l r s is one)
     c.faults_stay.ensures status words ends

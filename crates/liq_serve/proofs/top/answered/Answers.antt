@@ -14,17 +14,23 @@ use Rattle.liq_serve.proofs.top.answered.Goals as goal
 pub returns-in-Ok : goal.returns-in-Ok
 returns-in-Ok g c =
     let words = map string_bytes c.args._words.now in
-    let before : Outside g.row.S.Denot g.row.K.Denot g.row.D.Denot = record { source = c.args.input.now; sink = c.args.out.now; left = c.args.left; right = c.args.right } in
+    let before : Outside g.row.S.Denot g.row.K.Denot g.row.D.Denot =
+    record { source = c.args.input.now; sink = c.args.out.now; left = c.args.left; right = c.args.right } in
     let ran = c.carry_out in
     let read = is_read words c.args.read c.in-Ok.word c.in-Ok.is c.requires.word c.requires.only in
-    subst (λ (e : Ended g.row.D.Denot). Ends g.S.Source.left g.S.Source.faults g.K.Sink.held g.K.Sink.shown g.K.Sink.faults g.D.Disk.seen g.D.Disk.faults g.D.Disk.moment g.D.Disk.left_at before (record { source = ran.new.input; sink = ran.new.out; left = e.left; right = e.right }) e.status words)
+    subst (λ (e : Ended g.row.D.Denot). Ends g.S.Source.at g.K.Sink.at g.D.Disk.at before
+    (record { source = ran.new.input; sink = ran.new.out; left = e.left; right = e.right }) e.status words)
     (sym c.with_status.ensures) (ran.ensures words read.asks read.only)
 
 pub returns-in-Err : goal.returns-in-Err
 returns-in-Err g c =
     let words = map string_bytes c.args._words.now in
-    let before : Outside g.row.S.Denot g.row.K.Denot g.row.D.Denot = record { source = c.args.input.now; sink = c.args.out.now; left = c.args.left; right = c.args.right } in
+    let before : Outside g.row.S.Denot g.row.K.Denot g.row.D.Denot =
+    record { source = c.args.input.now; sink = c.args.out.now; left = c.args.left; right = c.args.right } in
     let ran = c.end_unread-status in
     let failed : Result Word WordsFault = Err c.in-Err.fault in
-    let none : (failed ≡ Err Usage) ↔ ((word : Word) → Ask words word → ⊥) = subst (λ (r : Result Word WordsFault). (r ≡ Err Usage) ↔ ((word : Word) → Ask words word → ⊥)) c.in-Err.is c.requires.usage in
-    unread_ends g.S.Source.left g.S.Source.faults g.K.Sink.held g.K.Sink.shown g.K.Sink.faults g.D.Disk.seen g.D.Disk.faults g.D.Disk.moment g.D.Disk.left_at g.met.D.Disk.seen_may_stay before ran.new.out words c.in-Err.fault ran.result ran.ensures.no_memory ran.ensures.unshown ran.ensures.usage none
+    let none : (failed ≡ Err Usage) ↔ ((word : Word) → Ask words word → ⊥) =
+    subst (λ (r : Result Word WordsFault). (r ≡ Err Usage) ↔ ((word : Word) → Ask words word → ⊥)) c.in-Err.is
+    c.requires.usage in
+    unread_ends g.S.Source.at g.K.Sink.at g.D.Disk.at g.met.D.Disk.seen_may_stay before ran.new.out words c.in-Err.fault
+    ran.result ran.ensures.no_memory ran.ensures.unshown ran.ensures.usage none

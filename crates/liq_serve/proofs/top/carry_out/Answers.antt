@@ -13,96 +13,121 @@ use Rattle.liq_serve.proofs.Telling.{disks_unasked, disks_unfollowed, same_go_on
 pub returns-in-Run : goal.returns-in-Run
 returns-in-Run g c words asks only =
     let ran = c.run_on in
-    let before : Outside g.row.S.Denot g.row.K.Denot g.row.D.Denot = record { source = c.args.input.now; sink = c.args.out.now; left = c.args.left; right = c.args.right } in
-    let after : Outside g.row.S.Denot g.row.K.Denot g.row.D.Denot = record { source = ran.new.input; sink = ran.new.out; left = ran.result.left; right = ran.result.right } in
+    let before : Outside g.row.S.Denot g.row.K.Denot g.row.D.Denot =
+    record { source = c.args.input.now; sink = c.args.out.now; left = c.args.left; right = c.args.right } in
+    let after : Outside g.row.S.Denot g.row.K.Denot g.row.D.Denot =
+    record { source = ran.new.input; sink = ran.new.out; left = ran.result.left; right = ran.result.right } in
     let read = subst (λ (w : Word). IsRead words w) c.in-Run.is (record { asks = asks; only = only }) in
-    word_ends g.S.Source.left g.S.Source.faults g.K.Sink.held g.K.Sink.shown g.K.Sink.faults g.D.Disk.seen g.D.Disk.faults g.D.Disk.moment g.D.Disk.left_at before after words word.Run ran.result.end read
-    (opens_first g.S.Source.left g.S.Source.faults g.K.Sink.held g.K.Sink.shown g.K.Sink.faults g.D.Disk.seen g.D.Disk.faults g.D.Disk.moment g.D.Disk.left_at before after ran.result.end _
-    (λ l r told_l told_r start is bytes told. runs_to g.S.Source.left g.S.Source.faults g.K.Sink.held g.K.Sink.shown g.K.Sink.faults g.D.Disk.seen g.D.Disk.faults g.D.Disk.moment g.D.Disk.left_at before after start ran.result.end bytes l r (ran.ensures.run l r told_l told_r start is bytes told))
+    word_ends g.S.Source.at g.K.Sink.at g.D.Disk.at before after words word.Run ran.result.end read
+    (opens_first g.S.Source.at g.K.Sink.at g.D.Disk.at before after ran.result.end _
+    (λ l r told_l told_r start is bytes told. runs_to g.S.Source.at g.K.Sink.at g.D.Disk.at before after start
+    ran.result.end bytes l r (ran.ensures.run l r told_l told_r start is bytes told))
     ran.ensures.damaged)
     (goes_on_known ran.result.end ran.ensures.goes_on) ran.ensures.causes ran.ensures.few
 
 pub returns-in-Staking : goal.returns-in-Staking
 returns-in-Staking g c words asks only =
     let ran = c.answer_on in
-    let before : Outside g.row.S.Denot g.row.K.Denot g.row.D.Denot = record { source = c.args.input.now; sink = c.args.out.now; left = c.args.left; right = c.args.right } in
-    let after : Outside g.row.S.Denot g.row.K.Denot g.row.D.Denot = record { source = ran.new.input; sink = ran.new.out; left = ran.result.left; right = ran.result.right } in
+    let before : Outside g.row.S.Denot g.row.K.Denot g.row.D.Denot =
+    record { source = c.args.input.now; sink = c.args.out.now; left = c.args.left; right = c.args.right } in
+    let after : Outside g.row.S.Denot g.row.K.Denot g.row.D.Denot =
+    record { source = ran.new.input; sink = ran.new.out; left = ran.result.left; right = ran.result.right } in
     let read = subst (λ (w : Word). IsRead words w) c.in-Staking.is (record { asks = asks; only = only }) in
-    word_ends g.S.Source.left g.S.Source.faults g.K.Sink.held g.K.Sink.shown g.K.Sink.faults g.D.Disk.seen g.D.Disk.faults g.D.Disk.moment g.D.Disk.left_at before after words word.Staking ran.result.end read
+    word_ends g.S.Source.at g.K.Sink.at g.D.Disk.at before after words word.Staking ran.result.end read
     ran.ensures.answered (answers_known ran.result.end) ran.ensures.causes ran.ensures.takes
 
 pub returns-in-Rewards : goal.returns-in-Rewards
 returns-in-Rewards g c words asks only =
     let ran = c.answer_on-in-Rewards in
-    let before : Outside g.row.S.Denot g.row.K.Denot g.row.D.Denot = record { source = c.args.input.now; sink = c.args.out.now; left = c.args.left; right = c.args.right } in
-    let after : Outside g.row.S.Denot g.row.K.Denot g.row.D.Denot = record { source = ran.new.input; sink = ran.new.out; left = ran.result.left; right = ran.result.right } in
+    let before : Outside g.row.S.Denot g.row.K.Denot g.row.D.Denot =
+    record { source = c.args.input.now; sink = c.args.out.now; left = c.args.left; right = c.args.right } in
+    let after : Outside g.row.S.Denot g.row.K.Denot g.row.D.Denot =
+    record { source = ran.new.input; sink = ran.new.out; left = ran.result.left; right = ran.result.right } in
     let read = subst (λ (w : Word). IsRead words w) c.in-Rewards.is (record { asks = asks; only = only }) in
-    word_ends g.S.Source.left g.S.Source.faults g.K.Sink.held g.K.Sink.shown g.K.Sink.faults g.D.Disk.seen g.D.Disk.faults g.D.Disk.moment g.D.Disk.left_at before after words word.Rewards ran.result.end read
+    word_ends g.S.Source.at g.K.Sink.at g.D.Disk.at before after words word.Rewards ran.result.end read
     ran.ensures.answered (answers_known ran.result.end) ran.ensures.causes ran.ensures.takes
 
 pub returns-in-State : goal.returns-in-State
 returns-in-State g c words asks only =
     let ran = c.tell_on in
-    let before : Outside g.row.S.Denot g.row.K.Denot g.row.D.Denot = record { source = c.args.input.now; sink = c.args.out.now; left = c.args.left; right = c.args.right } in
-    let after : Outside g.row.S.Denot g.row.K.Denot g.row.D.Denot = record { source = c.args.input.now; sink = ran.new.out; left = ran.result.left; right = ran.result.right } in
+    let before : Outside g.row.S.Denot g.row.K.Denot g.row.D.Denot =
+    record { source = c.args.input.now; sink = c.args.out.now; left = c.args.left; right = c.args.right } in
+    let after : Outside g.row.S.Denot g.row.K.Denot g.row.D.Denot =
+    record { source = c.args.input.now; sink = ran.new.out; left = ran.result.left; right = ran.result.right } in
     let read = subst (λ (w : Word). IsRead words w) c.in-State.is (record { asks = asks; only = only }) in
-    telling_ends g.S.Source.left g.S.Source.faults g.K.Sink.held g.K.Sink.shown g.K.Sink.faults g.D.Disk.seen g.D.Disk.faults g.D.Disk.moment g.D.Disk.left_at before after words word.State ran.result.end _ read
-    (λ leaves. leaves) refl (λ l r told_l told_r start is. let so = ran.ensures.told l r told_l told_r start is in (so.0.0, so.0.1, so.1, ran.ensures.past l r told_l told_r start is)) ran.ensures.damaged
-    (state_known ran.result.end ran.ensures.ends.no_source ran.ensures.ends.no_line (ran.ensures.ends.no_limit (inl refl))) ran.ensures.ends.no_source ran.ensures.sink ran.ensures.disks
+    telling_ends g.S.Source.at g.K.Sink.at g.D.Disk.at before after words word.State ran.result.end _ read
+    (λ leaves. leaves) refl (λ l r told_l told_r start is. let so = ran.ensures.told l r told_l told_r start is in
+    (so.0.0, so.0.1, so.1, ran.ensures.past l r told_l told_r start is)) ran.ensures.damaged
+    (state_known ran.result.end ran.ensures.ends.no_source ran.ensures.ends.no_line
+    (ran.ensures.ends.no_limit (inl refl))) ran.ensures.ends.no_source ran.ensures.sink ran.ensures.disks
 
 pub returns-in-Report : goal.returns-in-Report
 returns-in-Report g c words asks only =
     let ran = c.tell_on-in-Report in
-    let before : Outside g.row.S.Denot g.row.K.Denot g.row.D.Denot = record { source = c.args.input.now; sink = c.args.out.now; left = c.args.left; right = c.args.right } in
-    let after : Outside g.row.S.Denot g.row.K.Denot g.row.D.Denot = record { source = c.args.input.now; sink = ran.new.out; left = ran.result.left; right = ran.result.right } in
+    let before : Outside g.row.S.Denot g.row.K.Denot g.row.D.Denot =
+    record { source = c.args.input.now; sink = c.args.out.now; left = c.args.left; right = c.args.right } in
+    let after : Outside g.row.S.Denot g.row.K.Denot g.row.D.Denot =
+    record { source = c.args.input.now; sink = ran.new.out; left = ran.result.left; right = ran.result.right } in
     let read = subst (λ (w : Word). IsRead words w) c.in-Report.is (record { asks = asks; only = only }) in
-    telling_ends g.S.Source.left g.S.Source.faults g.K.Sink.held g.K.Sink.shown g.K.Sink.faults g.D.Disk.seen g.D.Disk.faults g.D.Disk.moment g.D.Disk.left_at before after words word.Report ran.result.end _ read
-    (λ leaves. leaves) refl (λ l r told_l told_r start is. let so = ran.ensures.told l r told_l told_r start is in (so.0.0, so.0.1, so.1, ran.ensures.past l r told_l told_r start is)) ran.ensures.damaged
-    (state_known ran.result.end ran.ensures.ends.no_source ran.ensures.ends.no_line (ran.ensures.ends.no_limit (inr refl))) ran.ensures.ends.no_source ran.ensures.sink ran.ensures.disks
+    telling_ends g.S.Source.at g.K.Sink.at g.D.Disk.at before after words word.Report ran.result.end _ read
+    (λ leaves. leaves) refl (λ l r told_l told_r start is. let so = ran.ensures.told l r told_l told_r start is in
+    (so.0.0, so.0.1, so.1, ran.ensures.past l r told_l told_r start is)) ran.ensures.damaged
+    (state_known ran.result.end ran.ensures.ends.no_source ran.ensures.ends.no_line
+    (ran.ensures.ends.no_limit (inr refl))) ran.ensures.ends.no_source ran.ensures.sink ran.ensures.disks
 
 pub returns-in-Audit : goal.returns-in-Audit
 returns-in-Audit g c words asks only =
     let ran = c.tell_on-in-Audit in
-    let before : Outside g.row.S.Denot g.row.K.Denot g.row.D.Denot = record { source = c.args.input.now; sink = c.args.out.now; left = c.args.left; right = c.args.right } in
-    let after : Outside g.row.S.Denot g.row.K.Denot g.row.D.Denot = record { source = c.args.input.now; sink = ran.new.out; left = ran.result.left; right = ran.result.right } in
+    let before : Outside g.row.S.Denot g.row.K.Denot g.row.D.Denot =
+    record { source = c.args.input.now; sink = c.args.out.now; left = c.args.left; right = c.args.right } in
+    let after : Outside g.row.S.Denot g.row.K.Denot g.row.D.Denot =
+    record { source = c.args.input.now; sink = ran.new.out; left = ran.result.left; right = ran.result.right } in
     let read = subst (λ (w : Word). IsRead words w) c.in-Audit.is (record { asks = asks; only = only }) in
-    telling_ends g.S.Source.left g.S.Source.faults g.K.Sink.held g.K.Sink.shown g.K.Sink.faults g.D.Disk.seen g.D.Disk.faults g.D.Disk.moment g.D.Disk.left_at before after words word.Audit ran.result.end _ read
-    (λ leaves. leaves) refl (λ l r told_l told_r start is. let so = ran.ensures.told l r told_l told_r start is in (so.0, so.1, ran.ensures.past l r told_l told_r start is)) ran.ensures.damaged
-    (audit_known ran.result.end ran.ensures.ends.no_source ran.ensures.ends.no_line) ran.ensures.ends.no_source ran.ensures.sink ran.ensures.disks
+    telling_ends g.S.Source.at g.K.Sink.at g.D.Disk.at before after words word.Audit ran.result.end _ read
+    (λ leaves. leaves) refl (λ l r told_l told_r start is. let so = ran.ensures.told l r told_l told_r start is in
+    (so.0, so.1, ran.ensures.past l r told_l told_r start is)) ran.ensures.damaged
+    (audit_known ran.result.end ran.ensures.ends.no_source ran.ensures.ends.no_line) ran.ensures.ends.no_source
+    ran.ensures.sink ran.ensures.disks
 
 pub returns-in-Follow : goal.returns-in-Follow
 returns-in-Follow g c words asks only =
     let ran = c.follow_on-end in
-    let before : Outside g.row.S.Denot g.row.K.Denot g.row.D.Denot = record { source = c.args.input.now; sink = c.args.out.now; left = c.args.left; right = c.args.right } in
-    let after : Outside g.row.S.Denot g.row.K.Denot g.row.D.Denot = record { source = ran.new.input; sink = ran.new.out; left = c.args.left; right = c.args.right } in
+    let before : Outside g.row.S.Denot g.row.K.Denot g.row.D.Denot =
+    record { source = c.args.input.now; sink = c.args.out.now; left = c.args.left; right = c.args.right } in
+    let after : Outside g.row.S.Denot g.row.K.Denot g.row.D.Denot =
+    record { source = ran.new.input; sink = ran.new.out; left = c.args.left; right = c.args.right } in
     let read = subst (λ (w : Word). IsRead words w) c.in-Follow.is (record { asks = asks; only = only }) in
     let so = ran.ensures.followed in
-    let left = g.S.Source.left ran.new.input in
-    word_ends g.S.Source.left g.S.Source.faults g.K.Sink.held g.K.Sink.shown g.K.Sink.faults g.D.Disk.seen g.D.Disk.faults g.D.Disk.moment g.D.Disk.left_at before after words word.Follow ran.result read
+    let left = (g.S.Source.at ran.new.input).left in
+    word_ends g.S.Source.at g.K.Sink.at g.D.Disk.at before after words word.Follow ran.result read
     (refl, so)
     (follow_known ran.result so.0 left so.2.0 so.2.1)
     (record {
       source = ran.ensures.source;
       sink = ran.ensures.sink;
-      disks = same_go_on g.D.Disk.seen g.D.Disk.faults g.D.Disk.moment g.D.Disk.left_at c.args.left c.args.right ran.result (disks_unfollowed ran.result so.0 left so.2.0 so.2.1 _);
+      disks = same_go_on g.D.Disk.at c.args.left c.args.right ran.result
+          (disks_unfollowed ran.result so.0 left so.2.0 so.2.1 _);
     })
     (so.0, so.1, taken_followed ran.result so.0 left so.2.0 so.2.1)
 
 pub returns-in-Gen : goal.returns-in-Gen
 returns-in-Gen g c words asks only =
     let ran = c.tell_load-end in
-    let before : Outside g.row.S.Denot g.row.K.Denot g.row.D.Denot = record { source = c.args.input.now; sink = c.args.out.now; left = c.args.left; right = c.args.right } in
-    let after : Outside g.row.S.Denot g.row.K.Denot g.row.D.Denot = record { source = c.args.input.now; sink = ran.new.out; left = c.args.left; right = c.args.right } in
+    let before : Outside g.row.S.Denot g.row.K.Denot g.row.D.Denot =
+    record { source = c.args.input.now; sink = c.args.out.now; left = c.args.left; right = c.args.right } in
+    let after : Outside g.row.S.Denot g.row.K.Denot g.row.D.Denot =
+    record { source = c.args.input.now; sink = ran.new.out; left = c.args.left; right = c.args.right } in
     let read = subst (λ (w : Word). IsRead words w) c.in-Gen.is (record { asks = asks; only = only }) in
-    word_ends g.S.Source.left g.S.Source.faults g.K.Sink.held g.K.Sink.shown g.K.Sink.faults g.D.Disk.seen g.D.Disk.faults g.D.Disk.moment g.D.Disk.left_at before after words (word.Gen c.in-Gen.seed c.in-Gen.count) ran.result read
+    word_ends g.S.Source.at g.K.Sink.at g.D.Disk.at before after words (word.Gen c.in-Gen.seed c.in-Gen.count)
+    ran.result read
     (refl, ran.ensures.ends, ran.ensures.told)
     ran.ensures.ends
     (record {
       source = source_unasked ran.result _ ran.ensures.ends;
       sink = ran.ensures.sink;
-      disks = same_go_on g.D.Disk.seen g.D.Disk.faults g.D.Disk.moment g.D.Disk.left_at c.args.left c.args.right ran.result (disks_unasked ran.result _ ran.ensures.ends);
+      disks = same_go_on g.D.Disk.at c.args.left c.args.right ran.result (disks_unasked ran.result _ ran.ensures.ends);
     })
-    (takes_none (g.S.Source.left c.args.input.now))
+    (takes_none (g.S.Source.at c.args.input.now).left)
 
 pub tell_load-end-requires-clause-few : goal.tell_load-end-requires-clause-few
 tell_load-end-requires-clause-few g c = (subst (λ (w : Word). IsInRange w) c.in-Gen.is c.requires.range).2

@@ -12,10 +12,13 @@ use Rattle.liq_serve.proofs.top.protocol.Goals as goal
 pub returns-then-is_serve : goal.returns-then-is_serve
 returns-then-is_serve g c =
     let words = map string_bytes c.args.words.now in
-    let before : Outside g.row.S.Denot g.row.K.Denot g.row.D.Denot = record { source = c.args.input.now; sink = c.args.out.now; left = c.args.left; right = c.args.right } in
+    let before : Outside g.row.S.Denot g.row.K.Denot g.row.D.Denot =
+    record { source = c.args.input.now; sink = c.args.out.now; left = c.args.left; right = c.args.right } in
     let ran = c.serve_on in
-    let read = is_read words c.read_words-read.result Serve (c.is_serve.ensures.0 c.if-is_serve.true) c.read_words-read.ensures.word c.read_words-read.ensures.only in
-    subst (λ (e : Ended g.row.D.Denot). Ends g.S.Source.left g.S.Source.faults g.K.Sink.held g.K.Sink.shown g.K.Sink.faults g.D.Disk.seen g.D.Disk.faults g.D.Disk.moment g.D.Disk.left_at before (record { source = ran.new.input; sink = ran.new.out; left = e.left; right = e.right }) e.status words)
+    let read = is_read words c.read_words-read.result Serve (c.is_serve.ensures.0 c.if-is_serve.true)
+    c.read_words-read.ensures.word c.read_words-read.ensures.only in
+    subst (λ (e : Ended g.row.D.Denot). Ends g.S.Source.at g.K.Sink.at g.D.Disk.at before
+    (record { source = ran.new.input; sink = ran.new.out; left = e.left; right = e.right }) e.status words)
     (sym c.with_status.ensures)
-    (word_ends g.S.Source.left g.S.Source.faults g.K.Sink.held g.K.Sink.shown g.K.Sink.faults g.D.Disk.seen g.D.Disk.faults g.D.Disk.moment g.D.Disk.left_at before _ words Serve ran.result.end read
+    (word_ends g.S.Source.at g.K.Sink.at g.D.Disk.at before _ words Serve ran.result.end read
     ran.ensures.served (goes_on_known ran.result.end ran.ensures.goes_on) ran.ensures.causes ran.ensures.takes)

@@ -1,6 +1,6 @@
 use Rattle.std.proofs.Common.{length, ap, arith}
 use Rattle.std.proofs.lemmas.List.{length-map}
-use Rattle.liq_serving.proofs.Mapped.{mapped_more}
+use Rattle.liq_serving.proofs.Mapped.{mapped_more, mapped_none}
 use Rattle.liq_serving.proofs.seats.+at_seats.Goals as goal
 
 pub push_reserved-requires : goal.push_reserved-requires
@@ -15,3 +15,12 @@ returns-clause-seats g t c = mapped_more _ _ _ _ _ _ c.push_reserved.ensures.ite
 
 pub returns-clause-hinters : goal.returns-clause-hinters
 returns-clause-hinters g t c = mapped_more _ _ _ _ _ _ c.push_reserved.ensures.items c.in-Some-pop-2.ensures.items c.at_seats-works.ensures.hinters
+
+pub returns-in_default-clause-scripts : goal.returns-in_default-clause-scripts
+returns-in_default-clause-scripts g t c = mapped_none _ _ _ c.requires.none (omega (arith, c.in_default.ensures.cases.0, c.args.scripts.ok.0))
+
+pub returns-in_default-clause-seats : goal.returns-in_default-clause-seats
+returns-in_default-clause-seats g t c = mapped_none _ _ _ c.requires.none (omega (arith, c.in_default.ensures.cases.0, c.requires.many, c.args.scripts.ok.0))
+
+pub returns-in_default-clause-hinters : goal.returns-in_default-clause-hinters
+returns-in_default-clause-hinters g t c = mapped_none _ _ _ c.requires.none (omega (arith, c.in_default.ensures.cases.0, c.requires.as_many, c.args.scripts.ok.0))

@@ -1,14 +1,13 @@
+use Rattle.liq_book.proofs.Pasts.{at_itself}
 use Rattle.liq_core.proofs.Alike.{core_alike}
-use Rattle.liq_serving.proofs.Alike.{at_itself, serves_alike}
+use Rattle.liq_serving.proofs.Alike.{serves_alike}
 use Rattle.liq_serving.proofs.serving.serve_sessions.Goals as goal
 
 pub serve_from-requires-clause-origin : goal.serve_from-requires-clause-origin
-serve_from-requires-clause-origin g c κs within = record {
-  state = rw c.protocol.ensures at c.protocols_stand.ensures;
-  left = at_itself _ _ _ _ c.args.store.left;
-  right = at_itself _ _ _ _ c.args.store.right;
-}
+serve_from-requires-clause-origin g c κs within =
+    at_itself g.D.Disk.at c.args.store (rw c.protocol.ensures at c.protocols_stand.ensures)
 
 pub returns : goal.returns
 returns g c s stands =
-    serves_alike _ _ _ _ (core_alike c.args.store.core _ s (rw c.protocol.ensures at c.protocols_stand.ensures) stands) _ _ c.args.scripts.items c.serve_from.result c.serve_from.ensures
+    serves_alike _ (core_alike c.args.store.core _ s (rw c.protocol.ensures at c.protocols_stand.ensures) stands) _ _
+    c.args.scripts.items c.serve_from.result c.serve_from.ensures

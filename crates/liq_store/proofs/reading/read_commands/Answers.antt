@@ -10,14 +10,14 @@ use Rattle.liq_records.proofs.Replaying.{journal_still}
 use Rattle.liq_store.proofs.reading.read_commands.Goals as goal
 
 pub returns-in-Err-clause-looked : goal.returns-in-Err-clause-looked
-returns-in-Err-clause-looked g c = looked_on g.D.Disk.seen g.D.Disk.moment g.D.Disk.left_at c.args.journal.now.disk c.loop-done.journal.disk c.read_command.new.journal.disk c.loop-done.invariant.looked c.read_command.ensures.looked
+returns-in-Err-clause-looked g c = looked_on g.D.Disk.at c.args.journal.now.disk c.loop-done.journal.disk c.read_command.new.journal.disk c.loop-done.invariant.looked c.read_command.ensures.looked
 
 pub returns-in-Err-push-clause-looked : goal.returns-in-Err-push-clause-looked
-returns-in-Err-push-clause-looked g c = looked_on g.D.Disk.seen g.D.Disk.moment g.D.Disk.left_at c.args.journal.now.disk c.loop-done.journal.disk c.read_command.new.journal.disk c.loop-done.invariant.looked c.read_command.ensures.looked
+returns-in-Err-push-clause-looked g c = looked_on g.D.Disk.at c.args.journal.now.disk c.loop-done.journal.disk c.read_command.new.journal.disk c.loop-done.invariant.looked c.read_command.ensures.looked
 
 pub loop-done-preserved : goal.loop-done-preserved
 loop-done-preserved g c = record {
-  looked = looked_on g.D.Disk.seen g.D.Disk.moment g.D.Disk.left_at c.args.journal.now.disk c.loop-done.journal.disk c.read_command.new.journal.disk c.loop-done.invariant.looked c.read_command.ensures.looked;
+  looked = looked_on g.D.Disk.at c.args.journal.now.disk c.loop-done.journal.disk c.read_command.new.journal.disk c.loop-done.invariant.looked c.read_command.ensures.looked;
   same = c.read_command.ensures.same ∙ ap (λ (j : JournalOn g.row.D.Denot). record j { disk = c.read_command.new.journal.disk }) c.loop-done.invariant.same;
   still = c.in-Ok.ensures.cause ∙ c.loop-done.invariant.still;
   counted = ap length c.in-Ok-push.ensures.items ∙ length-append c.loop-done.commands.items (c.in-Ok.command ∷ []) ∙ ap (λ n. n + 1) c.loop-done.invariant.counted;

@@ -16,4 +16,4 @@ returns-in-Err-replay-clause-holds g c held w told journal limit checkpoint coun
     fails_on w begun.0 c.replay.new.protocol c.in-Err-replay.why begun.1 (c.in-Err-replay.ensures.replayed held w begun.0 told journal counted begun.2)
 
 pub returns-in-Err-clause-cause : goal.returns-in-Err-clause-cause
-returns-in-Err-clause-cause g c = uncounted c.in-Err.why _ _ (λ is. c.in-Err.ensures.no_device (λ i. Err (is i))) (ap g.D.Disk.faults c.close.ensures)
+returns-in-Err-clause-cause g c = uncounted c.in-Err.why _ _ (λ is. c.in-Err.ensures.no_device (λ i. Err (is i))) (ap (λ d. (g.D.Disk.at d).faults) c.close.ensures)

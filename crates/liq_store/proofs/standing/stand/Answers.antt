@@ -14,14 +14,14 @@ use Rattle.liq_store.proofs.standing.stand.Goals as goal
 pub returns-in-Ok-clause-found : goal.returns-in-Ok-clause-found
 returns-in-Ok-clause-found g c held told =
     let j = c.in-Ok.journal in
-    let o = opened_as (g.D.Disk.seen c.args.disk) (g.D.Disk.seen j.disk) c.args.odd j.generation j.limit j.start j.count _ c.in-Ok.ensures.telling c.in-Ok.ensures.generation c.in-Ok.ensures.found c.in-Ok.ensures.stands held told in
+    let o = opened_as (g.D.Disk.at c.args.disk).seen (g.D.Disk.at j.disk).seen c.args.odd j.generation j.limit j.start j.count _ c.in-Ok.ensures.telling c.in-Ok.ensures.generation c.in-Ok.ensures.found c.in-Ok.ensures.stands held told in
     found_by c.args.odd held o.2.written j c.hold.result o.2.found o.2.generation_is (c.hold.ensures.holds o.0 o.2.written o.1 o.2.journal o.2.limit_is o.2.checkpoint_is o.2.count_is) c.hold.ensures.journal
 
 pub returns-in-Ok-clause-same : goal.returns-in-Ok-clause-same
 returns-in-Ok-clause-same g c faultless held after told told_after =
     let j = c.in-Ok.journal in
-    let o = opened_as (g.D.Disk.seen c.args.disk) (g.D.Disk.seen j.disk) c.args.odd j.generation j.limit j.start j.count _ c.in-Ok.ensures.telling c.in-Ok.ensures.generation c.in-Ok.ensures.found c.in-Ok.ensures.stands held told in
-    let same = some_same after o.0 (g.D.Disk.seen j.disk) (sym c.hold.ensures.looked.same ∙ told_after) o.1 in
+    let o = opened_as (g.D.Disk.at c.args.disk).seen (g.D.Disk.at j.disk).seen c.args.odd j.generation j.limit j.start j.count _ c.in-Ok.ensures.telling c.in-Ok.ensures.generation c.in-Ok.ensures.found c.in-Ok.ensures.stands held told in
+    let same = some_same after o.0 (g.D.Disk.at j.disk).seen (sym c.hold.ensures.looked.same ∙ told_after) o.1 in
     ap (found_on c.args.odd) same ∙ o.2.stands.found ∙ sym o.2.found
 
 pub returns-in-Ok-clause-crash : goal.returns-in-Ok-clause-crash
@@ -29,8 +29,8 @@ returns-in-Ok-clause-crash g c held told only =
     let P = OpenLeaves c.args.odd held in
     let first = c.in-Ok.ensures.crash held told only in
     let j = c.in-Ok.journal in
-    chained g.D.Disk.moment g.D.Disk.left_at c.args.disk j.disk (disk_in c.hold.result) P first
-    (weaker g.D.Disk.moment g.D.Disk.left_at j.disk (disk_in c.hold.result) (LeftNow g.D.Disk.moment g.D.Disk.left_at j.disk) P c.hold.ensures.looked.leaves (at_last g.D.Disk.moment g.D.Disk.left_at c.args.disk j.disk P first))
+    chained g.D.Disk.at c.args.disk j.disk (disk_in c.hold.result) P first
+    (weaker g.D.Disk.at j.disk (disk_in c.hold.result) (LeftNow g.D.Disk.at j.disk) P c.hold.ensures.looked.leaves (at_last g.D.Disk.at c.args.disk j.disk P first))
 
 pub returns-in-Ok-clause-reads : goal.returns-in-Ok-clause-reads
 returns-in-Ok-clause-reads g c held after told told_after = c.in-Ok.ensures.reads held after told (sym c.hold.ensures.looked.same ∙ told_after)
@@ -49,21 +49,21 @@ returns-in-Damaged-clause-found g c held told =
 
 pub returns-in-Damaged-clause-same : goal.returns-in-Damaged-clause-same
 returns-in-Damaged-clause-same g c faultless held after told told_after =
-    let kept = subst (λ (y : OpenWhy). IsKept y → g.D.Disk.seen c.in-Err.field-0.disk ≡ g.D.Disk.seen c.args.disk) c.in-Damaged.is c.in-Err.ensures.kept tt in
-    ap (found_on c.args.odd) (some_same after held (g.D.Disk.seen c.in-Err.field-0.disk) told_after (kept ∙ told))
+    let kept = subst (λ (y : OpenWhy). IsKept y → (g.D.Disk.at c.in-Err.field-0.disk).seen ≡ (g.D.Disk.at c.args.disk).seen) c.in-Damaged.is c.in-Err.ensures.kept tt in
+    ap (found_on c.args.odd) (some_same after held (g.D.Disk.at c.in-Err.field-0.disk).seen told_after (kept ∙ told))
 
 pub returns-in-NoMemory-clause-same : goal.returns-in-NoMemory-clause-same
 returns-in-NoMemory-clause-same g c faultless held after told told_after =
-    let kept = subst (λ (y : OpenWhy). IsKept y → g.D.Disk.seen c.in-Err.field-0.disk ≡ g.D.Disk.seen c.args.disk) c.in-NoMemory.is c.in-Err.ensures.kept tt in
-    ap (found_on c.args.odd) (some_same after held (g.D.Disk.seen c.in-Err.field-0.disk) told_after (kept ∙ told))
+    let kept = subst (λ (y : OpenWhy). IsKept y → (g.D.Disk.at c.in-Err.field-0.disk).seen ≡ (g.D.Disk.at c.args.disk).seen) c.in-NoMemory.is c.in-Err.ensures.kept tt in
+    ap (found_on c.args.odd) (some_same after held (g.D.Disk.at c.in-Err.field-0.disk).seen told_after (kept ∙ told))
 
 -- ---- the byte that was shut
 
 pub returns-in-Ok-clause-shut : goal.returns-in-Ok-clause-shut
 returns-in-Ok-clause-shut g c faultless held after told told_after =
     let j = c.in-Ok.journal in
-    let o = opened_as (g.D.Disk.seen c.args.disk) (g.D.Disk.seen j.disk) c.args.odd j.generation j.limit j.start j.count _ c.in-Ok.ensures.telling c.in-Ok.ensures.generation c.in-Ok.ensures.found c.in-Ok.ensures.stands held told in
-    let same = some_same after o.0 (g.D.Disk.seen j.disk) (sym c.hold.ensures.looked.same ∙ told_after) o.1 in
+    let o = opened_as (g.D.Disk.at c.args.disk).seen (g.D.Disk.at j.disk).seen c.args.odd j.generation j.limit j.start j.count _ c.in-Ok.ensures.telling c.in-Ok.ensures.generation c.in-Ok.ensures.found c.in-Ok.ensures.stands held told in
+    let same = some_same after o.0 (g.D.Disk.at j.disk).seen (sym c.hold.ensures.looked.same ∙ told_after) o.1 in
     subst (λ (bytes : List ℕ). OnlyShuts c.args.odd held bytes) (sym same)
     (shut_behind c.args.odd held o.0 o.2.written o.2.found o.2.stands (c.in-Ok.ensures.reads held o.0 told o.1))
 
@@ -76,10 +76,10 @@ returns-in-Absent-clause-shut g c faultless held after told told_after =
 
 pub returns-in-Damaged-clause-shut : goal.returns-in-Damaged-clause-shut
 returns-in-Damaged-clause-shut g c faultless held after told told_after =
-    let kept = subst (λ (y : OpenWhy). IsKept y → g.D.Disk.seen c.in-Err.field-0.disk ≡ g.D.Disk.seen c.args.disk) c.in-Damaged.is c.in-Err.ensures.kept tt in
-    inl (some_same after held (g.D.Disk.seen c.in-Err.field-0.disk) told_after (kept ∙ told))
+    let kept = subst (λ (y : OpenWhy). IsKept y → (g.D.Disk.at c.in-Err.field-0.disk).seen ≡ (g.D.Disk.at c.args.disk).seen) c.in-Damaged.is c.in-Err.ensures.kept tt in
+    inl (some_same after held (g.D.Disk.at c.in-Err.field-0.disk).seen told_after (kept ∙ told))
 
 pub returns-in-NoMemory-clause-shut : goal.returns-in-NoMemory-clause-shut
 returns-in-NoMemory-clause-shut g c faultless held after told told_after =
-    let kept = subst (λ (y : OpenWhy). IsKept y → g.D.Disk.seen c.in-Err.field-0.disk ≡ g.D.Disk.seen c.args.disk) c.in-NoMemory.is c.in-Err.ensures.kept tt in
-    inl (some_same after held (g.D.Disk.seen c.in-Err.field-0.disk) told_after (kept ∙ told))
+    let kept = subst (λ (y : OpenWhy). IsKept y → (g.D.Disk.at c.in-Err.field-0.disk).seen ≡ (g.D.Disk.at c.args.disk).seen) c.in-NoMemory.is c.in-Err.ensures.kept tt in
+    inl (some_same after held (g.D.Disk.at c.in-Err.field-0.disk).seen told_after (kept ∙ told))

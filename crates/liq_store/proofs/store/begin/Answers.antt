@@ -1,4 +1,5 @@
-use Rattle.std.proofs.Common.{◌≡◌, ◌∙◌, inl, inr, ℕ, List, Option, IfSome, false, true, sym, ap, subst}
+use Rattle.std.proofs.Common.{◌≡◌, ◌∙◌, inl, inr, IfSome, false, true, sym, ap, subst}
+use Rattle.liq_outside.specs.At.{DiskAt}
 use Rattle.liq_journal.specs.Opened.{IsUnshut}
 use Rattle.liq_journal.specs.Written.{Absent, found_on}
 use Rattle.liq_pairs.specs.declared.side.Side.{Side}
@@ -12,30 +13,30 @@ use Rattle.liq_store.proofs.Beginning.{later_than}
 use Rattle.liq_store.proofs.store.begin.Goals as goal
 
 -- what is said by the side that goes on is so by the store's
-shut_beside : {D : Type 0} (seen : D → Option (List ℕ)) (store : Stored D) (side : Side) → store.side ≡ side
-    → IfSome (seen (disk_beside store)) (λ now. found_on (has_odd (other side)) now ≡ Absent → IsUnshut now → ⊥)
-    → IfSome (seen (disk_beside store)) (λ now. found_on (has_odd (other store.side)) now ≡ Absent → IsUnshut now → ⊥)
-shut_beside seen store side same shut =
-    subst (λ (x : Side). IfSome (seen (disk_beside store)) (λ now. found_on (has_odd (other x)) now ≡ Absent → IsUnshut now → ⊥)) (sym same) shut
+shut_beside : {D : Type 0} (at : D → DiskAt) (store : Stored D) (side : Side) → store.side ≡ side
+    → IfSome (at (disk_beside store)).seen (λ now. found_on (has_odd (other side)) now ≡ Absent → IsUnshut now → ⊥)
+    → IfSome (at (disk_beside store)).seen (λ now. found_on (has_odd (other store.side)) now ≡ Absent → IsUnshut now → ⊥)
+shut_beside at store side same shut =
+    subst (λ (x : Side). IfSome (at (disk_beside store)).seen (λ now. found_on (has_odd (other x)) now ≡ Absent → IsUnshut now → ⊥)) (sym same) shut
 
 pub go_on-requires : goal.go_on-requires
 go_on-requires g c = record {
-  taken = subst (λ (d : Stood g.row.D.Denot). IsStoodOn g.D.Disk.seen g.D.Disk.moment g.D.Disk.left_at false d) c.in-Holding-right.is c.requires.right;
-  aside = subst (λ (d : Stood g.row.D.Denot). IsStoodOn g.D.Disk.seen g.D.Disk.moment g.D.Disk.left_at true d) c.in-Nothing.is c.requires.left;
+  taken = subst (λ (d : Stood g.row.D.Denot). IsStoodOn g.D.Disk.at false d) c.in-Holding-right.is c.requires.right;
+  aside = subst (λ (d : Stood g.row.D.Denot). IsStoodOn g.D.Disk.at true d) c.in-Nothing.is c.requires.left;
   earlier = tt;
 }
 
 pub go_on-requires-in-Nothing-right-2 : goal.go_on-requires-in-Nothing-right-2
 go_on-requires-in-Nothing-right-2 g c = record {
-  taken = subst (λ (d : Stood g.row.D.Denot). IsStoodOn g.D.Disk.seen g.D.Disk.moment g.D.Disk.left_at true d) c.in-Holding.is c.requires.left;
-  aside = subst (λ (d : Stood g.row.D.Denot). IsStoodOn g.D.Disk.seen g.D.Disk.moment g.D.Disk.left_at false d) c.in-Nothing-right-2.is c.requires.right;
+  taken = subst (λ (d : Stood g.row.D.Denot). IsStoodOn g.D.Disk.at true d) c.in-Holding.is c.requires.left;
+  aside = subst (λ (d : Stood g.row.D.Denot). IsStoodOn g.D.Disk.at false d) c.in-Nothing-right-2.is c.requires.right;
   earlier = tt;
 }
 
 pub go_on-requires-in-Right : goal.go_on-requires-in-Right
 go_on-requires-in-Right g c =
-    let left = subst (λ (d : Stood g.row.D.Denot). IsStoodOn g.D.Disk.seen g.D.Disk.moment g.D.Disk.left_at true d) c.in-Holding.is c.requires.left in
-    let right = subst (λ (d : Stood g.row.D.Denot). IsStoodOn g.D.Disk.seen g.D.Disk.moment g.D.Disk.left_at false d) c.in-Holding-right-2.is c.requires.right in
+    let left = subst (λ (d : Stood g.row.D.Denot). IsStoodOn g.D.Disk.at true d) c.in-Holding.is c.requires.left in
+    let right = subst (λ (d : Stood g.row.D.Denot). IsStoodOn g.D.Disk.at false d) c.in-Holding-right-2.is c.requires.right in
     record {
       taken = right;
       aside = left;
@@ -44,8 +45,8 @@ go_on-requires-in-Right g c =
 
 pub go_on-requires-in-Left : goal.go_on-requires-in-Left
 go_on-requires-in-Left g c =
-    let left = subst (λ (d : Stood g.row.D.Denot). IsStoodOn g.D.Disk.seen g.D.Disk.moment g.D.Disk.left_at true d) c.in-Holding.is c.requires.left in
-    let right = subst (λ (d : Stood g.row.D.Denot). IsStoodOn g.D.Disk.seen g.D.Disk.moment g.D.Disk.left_at false d) c.in-Holding-right-2.is c.requires.right in
+    let left = subst (λ (d : Stood g.row.D.Denot). IsStoodOn g.D.Disk.at true d) c.in-Holding.is c.requires.left in
+    let right = subst (λ (d : Stood g.row.D.Denot). IsStoodOn g.D.Disk.at false d) c.in-Holding-right-2.is c.requires.right in
     record {
       taken = left;
       aside = right;
@@ -66,8 +67,8 @@ returns-in-Left-clause-opened g c = rw (c.in-Holding.is, c.in-Holding-right-2.is
 
 pub begin_anew-requires : goal.begin_anew-requires
 begin_anew-requires g c =
-    let left = subst (λ (d : Stood g.row.D.Denot). IsStoodOn g.D.Disk.seen g.D.Disk.moment g.D.Disk.left_at true d) c.in-Nothing.is c.requires.left in
-    let right = subst (λ (d : Stood g.row.D.Denot). IsStoodOn g.D.Disk.seen g.D.Disk.moment g.D.Disk.left_at false d) c.in-Nothing-right.is c.requires.right in
+    let left = subst (λ (d : Stood g.row.D.Denot). IsStoodOn g.D.Disk.at true d) c.in-Nothing.is c.requires.left in
+    let right = subst (λ (d : Stood g.row.D.Denot). IsStoodOn g.D.Disk.at false d) c.in-Nothing-right.is c.requires.right in
     record { left = left.told; right = right.told; rests = right.rests }
 
 pub returns-in-Nothing-right-clause-opened : goal.returns-in-Nothing-right-clause-opened
@@ -95,7 +96,7 @@ returns-in-Holding-right-clause-right g c =
 
 pub returns-in-Holding-right-clause-shut : goal.returns-in-Holding-right-clause-shut
 returns-in-Holding-right-clause-shut g c =
-    shut_beside g.D.Disk.seen c.go_on.result Right (ap (λ (o : Stored g.row.D.Denot). o.side) c.go_on.ensures.store) c.go_on.ensures.shut
+    shut_beside g.D.Disk.at c.go_on.result Right (ap (λ (o : Stored g.row.D.Denot). o.side) c.go_on.ensures.store) c.go_on.ensures.shut
 
 pub returns-in-Nothing-right-2-clause-left : goal.returns-in-Nothing-right-2-clause-left
 returns-in-Nothing-right-2-clause-left g c =
@@ -107,7 +108,7 @@ returns-in-Nothing-right-2-clause-right g c =
 
 pub returns-in-Nothing-right-2-clause-shut : goal.returns-in-Nothing-right-2-clause-shut
 returns-in-Nothing-right-2-clause-shut g c =
-    shut_beside g.D.Disk.seen c.go_on-in-Nothing-right-2.result Left (ap (λ (o : Stored g.row.D.Denot). o.side) c.go_on-in-Nothing-right-2.ensures.store) c.go_on-in-Nothing-right-2.ensures.shut
+    shut_beside g.D.Disk.at c.go_on-in-Nothing-right-2.result Left (ap (λ (o : Stored g.row.D.Denot). o.side) c.go_on-in-Nothing-right-2.ensures.store) c.go_on-in-Nothing-right-2.ensures.shut
 
 pub returns-in-Right-clause-left : goal.returns-in-Right-clause-left
 returns-in-Right-clause-left g c =
@@ -119,7 +120,7 @@ returns-in-Right-clause-right g c =
 
 pub returns-in-Right-clause-shut : goal.returns-in-Right-clause-shut
 returns-in-Right-clause-shut g c =
-    shut_beside g.D.Disk.seen c.go_on-in-Right.result Right (ap (λ (o : Stored g.row.D.Denot). o.side) c.go_on-in-Right.ensures.store) c.go_on-in-Right.ensures.shut
+    shut_beside g.D.Disk.at c.go_on-in-Right.result Right (ap (λ (o : Stored g.row.D.Denot). o.side) c.go_on-in-Right.ensures.store) c.go_on-in-Right.ensures.shut
 
 pub returns-in-Left-clause-left : goal.returns-in-Left-clause-left
 returns-in-Left-clause-left g c =
@@ -131,4 +132,4 @@ returns-in-Left-clause-right g c =
 
 pub returns-in-Left-clause-shut : goal.returns-in-Left-clause-shut
 returns-in-Left-clause-shut g c =
-    shut_beside g.D.Disk.seen c.go_on-in-Left.result Left (ap (λ (o : Stored g.row.D.Denot). o.side) c.go_on-in-Left.ensures.store) c.go_on-in-Left.ensures.shut
+    shut_beside g.D.Disk.at c.go_on-in-Left.result Left (ap (λ (o : Stored g.row.D.Denot). o.side) c.go_on-in-Left.ensures.store) c.go_on-in-Left.ensures.shut

@@ -11,8 +11,8 @@ pub returns-clause-written : goal.returns-clause-written
 returns-clause-written g c held w s told found stands from_one leads =
     let end = c.write_answered.result in
     let asked = c.args.asked.now in
-    let before = g.K.Sink.held c.args.out.now in
-    let now = g.K.Sink.held c.write_answered.new.out in
+    let before = (g.K.Sink.at c.args.out.now).held in
+    let now = (g.K.Sink.at c.write_answered.new.out).held in
     let whole = c.in_ok-whole.ensures.found held w s told found stands from_one leads in
     let are : c.deref.result.now ≡ w.commands = c.deref.ensures.value ∙ whole.2 in
     let led : replay 1 (opening_with c.in_ok-whole.whole.limit) c.deref.result.now ≡ Ok s =

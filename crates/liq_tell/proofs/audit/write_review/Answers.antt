@@ -25,7 +25,7 @@ returns-in-Ok-clause-no_source g c = by_sink _ c.write_text.result ReadFault c.w
 
 pub returns-in-Err-clause-written : goal.returns-in-Err-clause-written
 returns-in-Err-clause-written g c s same is =
-    let held = g.K.Sink.held c.args.out.now in
+    let held = (g.K.Sink.at c.args.out.now).held in
     let commands = c.args.commands.now in
     subst (λ (halt : Halt). WritesText (reviewed c.args.limit commands) (Err halt) held held × AuditHolds (Err halt) s commands) (sym c.halt_on.ensures)
     (not_reviewed c.args.limit commands s c.args.side c.in-Err.fault held is c.in-Err.ensures.fault, tt)
@@ -38,5 +38,5 @@ returns-in-Err-clause-no_source g c is = (no_fault c.args.side c.in-Err.fault).1
 
 pub returns-in-Err-clause-sink : goal.returns-in-Err-clause-sink
 returns-in-Err-clause-sink g c =
-    let count = g.K.Sink.faults c.args.out.now in
+    let count = (g.K.Sink.at c.args.out.now).faults in
     subst (λ (halt : Halt). let end : Result (Unit {0}) Halt = Err halt in WriteCause end count count) (sym c.halt_on.ensures) (no_cause c.args.side c.in-Err.fault count)

@@ -7,13 +7,14 @@ use Rattle.liq_tell.proofs.telling.tell_on.Goals as goal
 
 pub returns-clause-told : goal.returns-clause-told
 returns-clause-told g c l r told_l told_r start is =
-    let faults = g.K.Sink.faults in
-    let held = g.K.Sink.held in
+    let at = g.K.Sink.at in
     let out = c.args.out.now in
     let ran = c.tell-ending in
     let found = ran.ensures.told l r told_l told_r start is in (
-      all_told c.args.what start (commands_on l r) ran.result.end (Rose (faults out) (faults c.tell_last.new.out)) (held out) (held ran.new.out) (held c.tell_last.new.out) found.0
-          (λ text wrote. c.tell_last.ensures.told text (held out) (faults out) (write_no_fewer ran.result.end _ _ ran.ensures.sink) wrote),
+      all_told c.args.what start (commands_on l r) ran.result.end (Rose (at out).faults (at c.tell_last.new.out).faults)
+          (at out).held (at ran.new.out).held (at c.tell_last.new.out).held found.0
+          (λ text wrote. c.tell_last.ensures.told text (at out).held (at out).faults
+          (write_no_fewer ran.result.end _ _ ran.ensures.sink) wrote),
       found.1,
     )
 
@@ -21,6 +22,6 @@ pub returns-clause-damaged : goal.returns-clause-damaged
 returns-clause-damaged g c l r told_l told_r side damage is =
     let ran = c.tell-ending in
     let found = ran.ensures.damaged l r told_l told_r side damage is in
-    damaged_told g.D.Disk.seen g.D.Disk.moment g.D.Disk.left_at c.args.left c.args.right l r g.K.Sink.faults g.K.Sink.held
+    damaged_told g.D.Disk.at c.args.left c.args.right l r g.K.Sink.at
     c.args.out.now ran.new.out c.tell_last.new.out side damage ran.result.end ran.result.left ran.result.right found.0
     found.1 c.tell_last.ensures.last

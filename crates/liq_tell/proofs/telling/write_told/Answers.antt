@@ -8,25 +8,29 @@ use Rattle.liq_tell.proofs.telling.write_told.Goals as goal
 pub returns-in-State-clause-written : goal.returns-in-State-clause-written
 returns-in-State-clause-written g c held w s told found stands from_one leads =
     let wrote = c.write_standing in
-    subst (λ (what : Told). WritesTold what s w.commands wrote.result (g.K.Sink.held c.args.out.now) (g.K.Sink.held wrote.new.out)) (sym c.in-State.is)
+    subst (λ (what : Told). WritesTold what s w.commands wrote.result (g.K.Sink.at c.args.out.now).held
+    (g.K.Sink.at wrote.new.out).held) (sym c.in-State.is)
     (wrote.ensures.written s (subst (λ (core : Core). StandsFor core s) (sym c.protocol.ensures) stands))
 
 pub returns-in-Report-clause-written : goal.returns-in-Report-clause-written
 returns-in-Report-clause-written g c held w s told found stands from_one leads =
     let wrote = c.write_report in
-    subst (λ (what : Told). WritesTold what s w.commands wrote.result (g.K.Sink.held c.args.out.now) (g.K.Sink.held wrote.new.out)) (sym c.in-Report.is)
+    subst (λ (what : Told). WritesTold what s w.commands wrote.result (g.K.Sink.at c.args.out.now).held
+    (g.K.Sink.at wrote.new.out).held) (sym c.in-Report.is)
     (wrote.ensures.written s (subst (λ (core : Core). StandsFor core s) (sym c.protocol-in-Report.ensures) stands))
 
 pub returns-in-Audit-clause-written : goal.returns-in-Audit-clause-written
 returns-in-Audit-clause-written g c held w s told found stands from_one leads =
     let wrote = c.write_audit in
-    subst (λ (what : Told). WritesTold what s w.commands wrote.result (g.K.Sink.held c.args.out.now) (g.K.Sink.held wrote.new.out)) (sym c.in-Audit.is)
+    subst (λ (what : Told). WritesTold what s w.commands wrote.result (g.K.Sink.at c.args.out.now).held
+    (g.K.Sink.at wrote.new.out).held) (sym c.in-Audit.is)
     (wrote.ensures.written held w s told found stands from_one leads)
 
 pub returns-in-Answers-clause-written : goal.returns-in-Answers-clause-written
 returns-in-Answers-clause-written g c held w s told found stands from_one leads =
     let wrote = c.write_answers in
-    subst (λ (what : Told). WritesTold what s w.commands wrote.result (g.K.Sink.held c.args.out.now) (g.K.Sink.held wrote.new.out)) (sym c.in-Answers.is)
+    subst (λ (what : Told). WritesTold what s w.commands wrote.result (g.K.Sink.at c.args.out.now).held
+    (g.K.Sink.at wrote.new.out).held) (sym c.in-Answers.is)
     (wrote.ensures.written held w s told found stands from_one leads)
 
 pub returns-in-State-clause-ends : goal.returns-in-State-clause-ends

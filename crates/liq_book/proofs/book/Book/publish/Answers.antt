@@ -13,6 +13,6 @@ publish-requires g c =
 pub invariant_of-self : goal.invariant_of-self
 invariant_of-self g c =
     let count : c.len-number.result ≡ length c.self.inside.entries.items = omega (arith, c.len-number.ensures, c.self.inside.entries.ok.0) in (
-      forgets_or_keeps _ _ _ _ g.met.D.Disk.seen_may_stay _ _ _ c.publish.result _ _ _ _ c.publish.ensures.told c.self.invariant.0,
+      forgets_or_keeps _ g.met.D.Disk.seen_may_stay _ _ _ c.publish.result _ _ _ _ c.publish.ensures.told c.self.invariant.0,
       goes_or_waits _ c.publish.result c.self.inside.store c.publish.new.store _ c.self.inside.halt _ _ _ _ _ count c.self.invariant.1 c.publish.ensures.sent c.publish.ensures.told,
     )

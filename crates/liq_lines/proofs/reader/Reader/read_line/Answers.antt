@@ -26,13 +26,13 @@ returns-in-Some-eq10-clause-taken g c has =
 
 pub loop-length-preserved : goal.loop-length-preserved
 loop-length-preserved g c =
-    let left = g.S.Source.left in
+    let at = g.S.Source.at in
     let read = rw c.in-Some.is at c.in_ok-next_byte.ensures.byte in
     let apart = c.in-Some.byte-test.1 in
     record {
       front =
-          subst (λ (line : List ℕ). Reads (unread c.args.self.now (left c.args.input.now)) line (unread c.next_byte.new.self (left c.next_byte.new.input))) (sym c.push_reserved.ensures.items)
-          (reads_more (unread c.args.self.now (left c.args.input.now)) (unread c.loop-length.self (left c.loop-length.input)) (unread c.next_byte.new.self (left c.next_byte.new.input)) c.loop-length.line.items (c.in-Some.byte ∷ []) c.loop-length.invariant.front read);
+          subst (λ (line : List ℕ). Reads (unread c.args.self.now (at c.args.input.now).left) line (unread c.next_byte.new.self (at c.next_byte.new.input).left)) (sym c.push_reserved.ensures.items)
+          (reads_more (unread c.args.self.now (at c.args.input.now).left) (unread c.loop-length.self (at c.loop-length.input).left) (unread c.next_byte.new.self (at c.next_byte.new.input).left) c.loop-length.line.items (c.in-Some.byte ∷ []) c.loop-length.invariant.front read);
       within = subst IsWithinLine (sym c.push_reserved.ensures.items) (within-more c.loop-length.line.items c.in-Some.byte c.loop-length.invariant.within apart);
       length = omega (arith, c.push_reserved.ensures.len, c.loop-length.invariant.length);
       capacity = c.push_reserved.ensures.capacity ∙ c.loop-length.invariant.capacity;
@@ -69,27 +69,27 @@ returns-in-Some-2-clause-taken g c has =
 pub returns-in_err-next_byte-clause-line : goal.returns-in_err-next_byte-clause-line
 returns-in_err-next_byte-clause-line g c =
     let failed = c.in_err-next_byte.ensures.failed in
-    fails_on (unread c.args.self.now (g.S.Source.left c.args.input.now)) (unread c.loop-length.self (g.S.Source.left c.loop-length.input)) (unread c.next_byte.new.self (g.S.Source.left c.next_byte.new.input)) c.loop-length.line.items c.next_byte.new.self c.loop-length.invariant.front c.loop-length.invariant.within c.from_residual.result _ c.from_residual.ensures.1 failed.0 failed.1 (omega (arith, c.loop-length.invariant.length, c.loop-length.auto._length-end))
+    fails_on (unread c.args.self.now (g.S.Source.at c.args.input.now).left) (unread c.loop-length.self (g.S.Source.at c.loop-length.input).left) (unread c.next_byte.new.self (g.S.Source.at c.next_byte.new.input).left) c.loop-length.line.items c.next_byte.new.self c.loop-length.invariant.front c.loop-length.invariant.within c.from_residual.result _ c.from_residual.ensures.1 failed.0 failed.1 (omega (arith, c.loop-length.invariant.length, c.loop-length.auto._length-end))
 
 pub returns-in-None-clause-line : goal.returns-in-None-clause-line
 returns-in-None-clause-line g c =
     let read = rw c.in-None.is at c.in_ok-next_byte.ensures.byte in
-    over_on (unread c.args.self.now (g.S.Source.left c.args.input.now)) (unread c.loop-length.self (g.S.Source.left c.loop-length.input)) (unread c.next_byte.new.self (g.S.Source.left c.next_byte.new.input)) c.loop-length.line.items c.next_byte.new.self c.loop-length.invariant.front c.loop-length.invariant.within c.end_of_input.result read.0 read.1 (subst (λ (l : List ℕ). IsEndOfInput l c.end_of_input.result) c.deref.ensures.value c.end_of_input.ensures)
+    over_on (unread c.args.self.now (g.S.Source.at c.args.input.now).left) (unread c.loop-length.self (g.S.Source.at c.loop-length.input).left) (unread c.next_byte.new.self (g.S.Source.at c.next_byte.new.input).left) c.loop-length.line.items c.next_byte.new.self c.loop-length.invariant.front c.loop-length.invariant.within c.end_of_input.result read.0 read.1 (subst (λ (l : List ℕ). IsEndOfInput l c.end_of_input.result) c.deref.ensures.value c.end_of_input.ensures)
 
 pub returns-in-Some-eq10-clause-line : goal.returns-in-Some-eq10-clause-line
 returns-in-Some-eq10-clause-line g c =
-    ended_on (unread c.args.self.now (g.S.Source.left c.args.input.now)) (unread c.loop-length.self (g.S.Source.left c.loop-length.input)) (unread c.next_byte.new.self (g.S.Source.left c.next_byte.new.input)) c.loop-length.line.items c.next_byte.new.self c.loop-length.invariant.front c.loop-length.invariant.within (rw c.in-Some-eq10.field-0-test at (rw c.in-Some-eq10.is at c.in_ok-next_byte.ensures.byte))
+    ended_on (unread c.args.self.now (g.S.Source.at c.args.input.now).left) (unread c.loop-length.self (g.S.Source.at c.loop-length.input).left) (unread c.next_byte.new.self (g.S.Source.at c.next_byte.new.input).left) c.loop-length.line.items c.next_byte.new.self c.loop-length.invariant.front c.loop-length.invariant.within (rw c.in-Some-eq10.field-0-test at (rw c.in-Some-eq10.is at c.in_ok-next_byte.ensures.byte))
 
 pub returns-in_err-next_byte-2-clause-line : goal.returns-in_err-next_byte-2-clause-line
 returns-in_err-next_byte-2-clause-line g c =
     let failed = c.in_err-next_byte-2.ensures.failed in
-    fails_on (unread c.args.self.now (g.S.Source.left c.args.input.now)) (unread c.loop-length.self (g.S.Source.left c.loop-length.input)) (unread c.next_byte-2.new.self (g.S.Source.left c.next_byte-2.new.input)) c.loop-length.line.items c.next_byte-2.new.self c.loop-length.invariant.front c.loop-length.invariant.within c.from_residual-in_err-next_byte-2.result _ c.from_residual-in_err-next_byte-2.ensures.1 failed.0 failed.1 (omega (arith, c.loop-length.invariant.length, c.loop-length.auto._length-end))
+    fails_on (unread c.args.self.now (g.S.Source.at c.args.input.now).left) (unread c.loop-length.self (g.S.Source.at c.loop-length.input).left) (unread c.next_byte-2.new.self (g.S.Source.at c.next_byte-2.new.input).left) c.loop-length.line.items c.next_byte-2.new.self c.loop-length.invariant.front c.loop-length.invariant.within c.from_residual-in_err-next_byte-2.result _ c.from_residual-in_err-next_byte-2.ensures.1 failed.0 failed.1 (omega (arith, c.loop-length.invariant.length, c.loop-length.auto._length-end))
 
 pub returns-in-None-2-clause-line : goal.returns-in-None-2-clause-line
 returns-in-None-2-clause-line g c =
     let read = rw c.in-None-2.is at c.in_ok-next_byte-2.ensures.byte in
-    over_on (unread c.args.self.now (g.S.Source.left c.args.input.now)) (unread c.loop-length.self (g.S.Source.left c.loop-length.input)) (unread c.next_byte-2.new.self (g.S.Source.left c.next_byte-2.new.input)) c.loop-length.line.items c.next_byte-2.new.self c.loop-length.invariant.front c.loop-length.invariant.within c.end_of_input-in-None-2.result read.0 read.1 (subst (λ (l : List ℕ). IsEndOfInput l c.end_of_input-in-None-2.result) c.deref-in-None-2.ensures.value c.end_of_input-in-None-2.ensures)
+    over_on (unread c.args.self.now (g.S.Source.at c.args.input.now).left) (unread c.loop-length.self (g.S.Source.at c.loop-length.input).left) (unread c.next_byte-2.new.self (g.S.Source.at c.next_byte-2.new.input).left) c.loop-length.line.items c.next_byte-2.new.self c.loop-length.invariant.front c.loop-length.invariant.within c.end_of_input-in-None-2.result read.0 read.1 (subst (λ (l : List ℕ). IsEndOfInput l c.end_of_input-in-None-2.result) c.deref-in-None-2.ensures.value c.end_of_input-in-None-2.ensures)
 
 pub returns-in-Some-eq10-2-clause-line : goal.returns-in-Some-eq10-2-clause-line
 returns-in-Some-eq10-2-clause-line g c =
-    ended_on (unread c.args.self.now (g.S.Source.left c.args.input.now)) (unread c.loop-length.self (g.S.Source.left c.loop-length.input)) (unread c.next_byte-2.new.self (g.S.Source.left c.next_byte-2.new.input)) c.loop-length.line.items c.next_byte-2.new.self c.loop-length.invariant.front c.loop-length.invariant.within (rw c.in-Some-eq10-2.field-0-test at (rw c.in-Some-eq10-2.is at c.in_ok-next_byte-2.ensures.byte))
+    ended_on (unread c.args.self.now (g.S.Source.at c.args.input.now).left) (unread c.loop-length.self (g.S.Source.at c.loop-length.input).left) (unread c.next_byte-2.new.self (g.S.Source.at c.next_byte-2.new.input).left) c.loop-length.line.items c.next_byte-2.new.self c.loop-length.invariant.front c.loop-length.invariant.within (rw c.in-Some-eq10-2.field-0-test at (rw c.in-Some-eq10-2.is at c.in_ok-next_byte-2.ensures.byte))

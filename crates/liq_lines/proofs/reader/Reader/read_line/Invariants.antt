@@ -8,14 +8,13 @@ use Rattle.liq_lines.proofs.reader.Reader.read_line.Given as goal
 -- what came of the line so far
 abbrev pub invariant-loop-length : goal.invariant-loop-length
 invariant-loop-length g l =
-    let left = g.S.Source.left in
-    let faults = g.S.Source.faults in
+    let at = g.S.Source.at in
     record {
-      front : Reads (unread l.fn.self (left l.fn.input)) l.line.items (unread l.self (left l.input));
+      front : Reads (unread l.fn.self (at l.fn.input).left) l.line.items (unread l.self (at l.input).left);
       within : IsWithinLine l.line.items;
       length : vec_len l.line ≡ l._length;
       capacity : vec_capacity l.line ≡ vec_capacity l.fn.line;
-      count : faults l.input ≡ faults l.fn.input;
+      count : (at l.input).faults ≡ (at l.fn.input).faults;
       -- a line end that was taken is still to come
       taken : Contains l.fn.self 10 → Contains l.self 10 × (l.input ≡ l.fn.input);
     }

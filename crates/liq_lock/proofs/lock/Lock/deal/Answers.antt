@@ -5,7 +5,7 @@ use Rattle.atomic_table.specs.Table.{Me}
 use Rattle.liq_lock.specs.declared.view.View.{View}
 use Rattle.liq_lock.specs.Seats.{IsFresh, lock_id}
 use Rattle.liq_lock.specs.Views.{dealt, keeping}
-use Rattle.liq_lock.proofs.Fresh.{Later, all_fresh, is_newcomer, keeping_on, last_dealt, later_push}
+use Rattle.liq_lock.proofs.Fresh.{Later, is_newcomer, keeping_on, last_dealt, later_push}
 use Rattle.liq_lock.proofs.Histories.{lt-ltb}
 use Rattle.liq_lock.proofs.Parts.{splits}
 use Rattle.liq_lock.proofs.lock.Lock.deal.Goals as goal
