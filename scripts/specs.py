@@ -1,4 +1,4 @@
-"""What scripts/reader and scripts/spec-pages share: the definitions of crates/*/specs, the types,
+"""What scripts/reader, spec-pages and promise-pages share: the definitions of crates/*/specs, the types,
 traits and constants of crates/*/src that contracts name, and on which of them one rests.
 
 It goes by the text: a name is what the `use` lines of its file say, unless it is bound where it
@@ -12,7 +12,7 @@ from typing import Dict, Iterable, Iterator, List, NamedTuple, Optional, Set, Tu
 
 TOP = Path(__file__).resolve().parent.parent
 HEAD = re.compile(r"( *)(?:pub )?(abbrev|unfoldable|record|data) (?:pub )?([^\s(){}:]+)")
-USE = re.compile(r" *(?:ghost )?(pub )?use ([A-Za-z][\w.\-]+?)(?:\.\{([^}]*)\}| as (\w+));?$")
+USE = re.compile(r" *(?:ghost )?(?:pub )?use ([A-Za-z][\w.\-]+?)(?:\.\{([^}]*)\}| as (\w+));?$")
 TOKEN = re.compile(r"[^\s(){}.,;:]+(?:\.[^\s(){}.,;:]+)*")
 STRING = re.compile(r'"(?:\\.|[^"\\])*"')
 TYPE = r"^(?:pub(?:\(crate\))? )?(struct|enum|trait) {}\b"
@@ -65,7 +65,6 @@ class Spec:
     title: List[str] = field(default_factory=list)
     imports: Dict[str, Tuple[str, str]] = field(default_factory=dict)
     aliases: Dict[str, str] = field(default_factory=dict)
-    passed: Set[str] = field(default_factory=set)
     items: Dict[str, Item] = field(default_factory=dict)
     builders: Dict[str, str] = field(default_factory=dict)
 
@@ -74,14 +73,12 @@ class Spec:
         found = USE.match(line)
         if found is None:
             return False
-        public, module, names, alias = found.groups()
+        module, names, alias = found.groups()
         if alias:
             self.aliases[alias] = module
         for name in re.split(r", *", names) if names else []:
             there, _, here = name.partition(" as ")
             self.imports[here or there] = module, there
-            if public:
-                self.passed.add(here or there)
         return True
 
 
@@ -174,7 +171,7 @@ def found_in(module: str, name: str) -> object:
     spec = all_specs().get((crate, f"specs/{rest}.antt"), Spec(crate, rest))
     if name in spec.items or name in spec.builders:
         return Key(crate, spec.file, spec.builders.get(name, name))
-    if name not in spec.passed:
+    if name not in spec.imports:
         sys.exit(f"scripts/specs.py: {module} has no {name}, which is taken from there")
     return found_in(*spec.imports[name])
 
@@ -239,7 +236,7 @@ def names_in(spec: Spec, item: Item) -> List[object]:
         code = re.sub(r"(?<=[{;])(\s*)[^\s=;{}]+ =", r"\1 =", piece)
         for word in TOKEN.findall(re.sub(r"\)(\.[^\s(){}.,;:]+)+", ")", code)):
             front, _, rest = word.partition(".")
-            if rest and front in spec.aliases:
+            if rest and front in spec.aliases and front not in bound:
                 found.append(found_in(spec.aliases[front], rest.split(".")[0]))
             elif front not in bound and named_by(spec, front):
                 found.append(named_by(spec, front))

@@ -1,5 +1,5 @@
 /* Makes a wrong program of liq: put in front of its C library, it lets calls do something else than what they are asked for. What
-   WRONG says decides which. With it a trial is seen to fail. For the --self-test of scripts/edge, faults, power, kill
+   WRONG says decides which. With it a trial is seen to fail. For the --self-test of scripts/try-files, faults, power, kill
    and refused-memory.
 
    no-datasync       fdatasync does nothing
