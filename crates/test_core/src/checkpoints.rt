@@ -22,11 +22,11 @@ fn place_in(alloc: Global, bytes: &[u8]) -> u64 {
 // The checkpoint of the tables, under this name.
 fn checkpoint(alloc: Global, name: &[u8]) -> Result<Vec<u8>, AllocError> {
     let mut out = Vec::from_slice(alloc, name)?;
-    for (width, number) in FIELDS {
+    for (width, number) in &FIELDS {
         let digits = number.to_be_bytes();
         out.extend_from_slice(
             digits
-                .get(16usize.saturating_sub(width as usize)..)
+                .get(16usize.saturating_sub(*width as usize)..)
                 .unwrap_or(&[]),
         )?;
     }
@@ -79,11 +79,11 @@ fn write(bytes: &mut [u8], at: u64, width: u64, number: u64) {
 
 // The first place where another number lets another place be told.
 fn first_odd_number(alloc: Global, bytes: &[u8]) -> Result<u64, AllocError> {
-    for (at, width, number, place) in WRITTEN {
+    for (at, width, number, place) in &WRITTEN {
         let mut written = Vec::from_slice(alloc, bytes)?;
-        write(&mut written, at, width, number);
-        if place_in(alloc, &written) != place {
-            return Ok(at);
+        write(&mut written, *at, *width, *number);
+        if place_in(alloc, &written) != *place {
+            return Ok(*at);
         }
     }
     Ok(NOWHERE)

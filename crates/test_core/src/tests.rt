@@ -2,7 +2,7 @@ ghost use Rattle.std.specs.Prelude.{◌≡◌};
 
 use crate::bytes::{Version, checkpoint, set_second};
 use crate::outcomes::{Outcome, of_checkpoint, of_image, of_protocol};
-use crate::runs::{OPENING, RUNS, Run};
+use crate::runs::{OPENING, Run, all_runs};
 use liq_core::laws::protocols_stand;
 use liq_core::{Protocol, Turn};
 use liq_types::amounts::LIM_OF_VERSION_1;
@@ -149,22 +149,25 @@ fn see_run<L: Ledger>(alloc: Global, run: &Run, blank: Blank) -> Option<Seen>
     Some(see(alloc, &mut protocol, number, &pair, &mut steps))
 }
 
+fn check_run<R: Abort>(rt: &R, wanted: &Run, seen: &Seen) {
+    let what = wanted.what;
+    shows(rt, what, "its length", seen.length == wanted.length);
+    shows(rt, what, "its image", seen.left == Outcome::Same);
+    shows(rt, what, "its own beginning", seen.begins == wanted.begins);
+    let end = Outcome::Bad(wanted.length.saturating_sub(1));
+    shows(rt, what, "cut by a byte", seen.cut == end);
+    shows(rt, what, "foretold", seen.foretold == Outcome::Same);
+    shows(rt, what, "rotated", seen.rotated == Outcome::Same);
+    shows(rt, what, "goes on", seen.goes_on == Outcome::Same);
+}
+
 #[test]
 fn a_run_leaves_its_image(rt: HostRuntime) {
-    for wanted in RUNS {
-        let what = wanted.what;
-        let Some(seen) = see_run::<Brand>(rt.alloc(), &wanted, Blank::new(1)) else {
-            shows(&rt, what, "memory", false);
-            continue;
-        };
-        shows(&rt, what, "its length", seen.length == wanted.length);
-        shows(&rt, what, "its image", seen.left == Outcome::Same);
-        shows(&rt, what, "its own beginning", seen.begins == wanted.begins);
-        let end = Outcome::Bad(wanted.length.saturating_sub(1));
-        shows(&rt, what, "cut by a byte", seen.cut == end);
-        shows(&rt, what, "foretold", seen.foretold == Outcome::Same);
-        shows(&rt, what, "rotated", seen.rotated == Outcome::Same);
-        shows(&rt, what, "goes on", seen.goes_on == Outcome::Same);
+    for wanted in all_runs() {
+        match see_run::<Brand>(rt.alloc(), wanted, Blank::new(1)) {
+            Some(seen) => check_run(&rt, wanted, &seen),
+            None => shows(&rt, wanted.what, "memory", false),
+        }
     }
 }
 
@@ -197,25 +200,23 @@ fn see_second<L: Ledger>(alloc: Global, run: &Run, blank: Blank) -> Option<(Outc
     Some((left, of_checkpoint(alloc, &bytes)))
 }
 
+fn check_second<R: Abort>(rt: &R, what: &str, left: Outcome, begins: Outcome) {
+    let image = "its image in the second generation";
+    shows(rt, what, image, left == Outcome::Same);
+    shows(rt, what, "what begins with it", begins == Outcome::Same);
+}
+
 // In a later generation the image of each run is one with which a protocol begins, also amid the generation.
 #[test]
 fn a_run_of_the_second_generation_begins_again(rt: HostRuntime) {
-    for wanted in RUNS {
+    for wanted in all_runs() {
         if wanted.version == Version::One {
             continue;
         }
-        let what = wanted.what;
-        let Some((left, begins)) = see_second::<Brand>(rt.alloc(), &wanted, Blank::new(1)) else {
-            shows(&rt, what, "memory", false);
-            continue;
-        };
-        shows(
-            &rt,
-            what,
-            "its image in the second generation",
-            left == Outcome::Same,
-        );
-        shows(&rt, what, "what begins with it", begins == Outcome::Same);
+        match see_second::<Brand>(rt.alloc(), wanted, Blank::new(1)) {
+            Some((left, begins)) => check_second(&rt, wanted.what, left, begins),
+            None => shows(&rt, wanted.what, "memory", false),
+        }
     }
 }
 
