@@ -2,8 +2,10 @@
 import contextlib
 import functools
 import io
+import itertools
 import os
 import subprocess
+import threading
 import time
 from pathlib import Path
 from typing import BinaryIO, Callable, Iterator, List, Tuple
@@ -39,6 +41,14 @@ class Watched:
 
     def __getattr__(self, name: str) -> object:
         return getattr(self.file, name)
+
+
+def rotate_until_it_ends(run: "subprocess.Popen[bytes]") -> None:
+    """Sends a run rotations, client 1's from number 4 on, for as long as it takes them."""
+    assert run.stdin is not None
+    with contextlib.suppress(BrokenPipeError), run.stdin as lines:
+        for number in itertools.count(4):
+            lines.write(b"1 %d rotate\n" % number)
 
 
 class Copies(OverProgram):
@@ -187,10 +197,11 @@ class Copies(OverProgram):
         self.run_of_it.kill()
         for side in ("left", "right"):
             os.truncate(self.market / f"{side}.liq", 300_000)
-        lines = self.folder / "lines"
-        lines.write_text("".join(f"1 {number} rotate\n" for number in range(4, 900_000)))
-        with lines.open() as source, (self.folder / "replies").open("wb") as sink:
-            run = subprocess.Popen([PROGRAM, "run"], cwd=self.market, stdin=source, stdout=sink)
+        with (self.folder / "replies").open("wb") as sink:
+            run = subprocess.Popen([PROGRAM, "run"], cwd=self.market, stdin=subprocess.PIPE, stdout=sink, bufsize=0)
+        feeder = threading.Thread(target=rotate_until_it_ends, args=(run,))
+        feeder.start()
+        self.addCleanup(feeder.join)
         self.addCleanup(run.wait)
         self.addCleanup(run.kill)
         answered = 0
