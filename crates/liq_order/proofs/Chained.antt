@@ -5,13 +5,13 @@ use Rattle.std.proofs.lemmas.Bool.Decides.{nat_tests}
 use Rattle.std.proofs.Math.Seq.{take-suc}
 use Rattle.std.proofs.lemmas.List.{get_or_at, length-take-le}
 use Rattle.liq_types.specs.Ranked.{Ranked, IsAscending}
-use Rattle.liq_order.specs.Chained.{before, below, chained_node, chained, paired, numbered}
+use Rattle.liq_order.specs.Chained.{before, below, chained_node, chained, rows_from, numbered}
 use Rattle.liq_order.specs.Listed.{AreDistinct}
-use Rattle.liq_order.specs.Pairs.{Row, row_of}
+use Rattle.liq_order.specs.Accounts.{Row, row_of}
 use Rattle.liq_order.specs.declared.places.Node.{Node}
 use Rattle.liq_order.specs.declared.places.NodeNo.{NodeNo}
-use Rattle.liq_order.specs.Nodes.{Memory, memory, nobody, entry_of, entries_at, first_or, last_or, IsOff, AreApart, AreWithin, Linked, node_of, IsRing}
-use Rattle.liq_order.proofs.Kept.{along_order, come}
+use Rattle.liq_order.specs.Nodes.{Memory, memory, nobody, entry_of, entries_at, first_or, last_or, IsOff, AreApart, AreWithin, Linked, node_of, IsRing, come}
+use Rattle.liq_order.proofs.Kept.{along_order}
 
 -- ---- one more
 
@@ -23,11 +23,11 @@ chained_more n i (f ∷ fs) e = ap (λ l. chained_node n i f ∷ l) (chained_mor
   moved : (k l : ℕ) → suc k + l ≡ k + suc l
   moved k l = omega arith
 
-pub paired_more : (i : ℕ) (es : List Ranked) (e : Ranked) → paired i (es ++ e ∷ []) ≡ paired i es ++ (e.1, record { 0 = i + length es }) ∷ []
-paired_more i [] e = ap (λ k. (e.1, record { 0 = k }) ∷ []) (zero_more i) where
+pub rows_from_more : (i : ℕ) (es : List Ranked) (e : Ranked) → rows_from i (es ++ e ∷ []) ≡ rows_from i es ++ (e.1, record { 0 = i + length es }) ∷ []
+rows_from_more i [] e = ap (λ k. (e.1, record { 0 = k }) ∷ []) (zero_more i) where
   zero_more : (k : ℕ) → k ≡ k + 0
   zero_more k = omega arith
-paired_more i (f ∷ fs) e = ap (λ l. (f.1, record { 0 = i }) ∷ l) (paired_more (suc i) fs e ∙ ap (λ k. paired (suc i) fs ++ (e.1, record { 0 = k }) ∷ []) (moved i (length fs))) where
+rows_from_more i (f ∷ fs) e = ap (λ l. (f.1, record { 0 = i }) ∷ l) (rows_from_more (suc i) fs e ∙ ap (λ k. rows_from (suc i) fs ++ (e.1, record { 0 = k }) ∷ []) (moved i (length fs))) where
   moved : (k l : ℕ) → suc k + l ≡ k + suc l
   moved k l = omega arith
 
@@ -39,14 +39,14 @@ chained_next n at es d less =
     ∙ sym (chained_more n 0 (take at es) (get_or es at d))
     ∙ ap (λ l. chained n 0 l) (sym (take-suc es at d less) ∙ ap (λ k. take k es) next)
 
-pub paired_next : (at : ℕ) (es : List Ranked) (d : Ranked) → at < length es → (rows : List Row) → rows ≡ paired 0 (take at es) → rows ++ ((get_or es at d).1, record { 0 = at }) ∷ [] ≡ paired 0 (take (at + 1) es)
-paired_next at es d less rows so_far =
+pub rows_from_next : (at : ℕ) (es : List Ranked) (d : Ranked) → at < length es → (rows : List Row) → rows ≡ rows_from 0 (take at es) → rows ++ ((get_or es at d).1, record { 0 = at }) ∷ [] ≡ rows_from 0 (take (at + 1) es)
+rows_from_next at es d less rows so_far =
     let long : 0 + length (take at es) ≡ at = omega (arith, length-take-le at es (omega (arith, less))) in
     let next : suc at ≡ at + 1 = omega arith in
     ap (λ (l : List Row). l ++ ((get_or es at d).1, record { 0 = at }) ∷ []) so_far
-    ∙ ap (λ k. paired 0 (take at es) ++ ((get_or es at d).1, record { 0 = k }) ∷ []) (sym long)
-    ∙ sym (paired_more 0 (take at es) (get_or es at d))
-    ∙ ap (λ l. paired 0 l) (sym (take-suc es at d less) ∙ ap (λ k. take k es) next)
+    ∙ ap (λ k. rows_from 0 (take at es) ++ ((get_or es at d).1, record { 0 = k }) ∷ []) (sym long)
+    ∙ sym (rows_from_more 0 (take at es) (get_or es at d))
+    ∙ ap (λ l. rows_from 0 l) (sym (take-suc es at d less) ∙ ap (λ k. take k es) next)
 
 chained_length : (n i : ℕ) (es : List Ranked) → length (chained n i es) ≡ length es
 chained_length n i [] = refl
@@ -115,7 +115,7 @@ chained_entries f n i [] h = refl
 chained_entries f n i (e ∷ es) h =
     ap (λ (node : Node). entry_of node ∷ entries_at f (numbered (suc i) es)) h.0 ∙ ap (λ l. e ∷ l) (chained_entries f n (suc i) es h.1)
 
-chained_told : (f : Memory) (n i : ℕ) (es : List Ranked) → IsChained f n i es → (account : ℕ) → row_of (paired i es) account ≡ node_of f (numbered i es) account
+chained_told : (f : Memory) (n i : ℕ) (es : List Ranked) → IsChained f n i es → (account : ℕ) → row_of (rows_from i es) account ≡ node_of f (numbered i es) account
 chained_told f n i [] h account = refl
 chained_told f n i (e ∷ es) h account =
     ap (λ o. cond (e.1 == account) (Some (record { 0 = i })) o) (chained_told f n (suc i) es h.1 account)
@@ -130,7 +130,7 @@ pub record Chain (es : List Ranked) (nodes : List Node) (place : ℕ → Option 
   pub long : length (come nodes first) ≡ length es
   pub nodes_long : length nodes ≡ length es
 
-pub chain : (es : List Ranked) (nodes : List Node) (place : ℕ → Option NodeNo) (first last : Option NodeNo) → IsAscending es → AreDistinct es → nodes ≡ chained (length es) 0 es → ((account : ℕ) → place account ≡ row_of (paired 0 es) account) → first ≡ below (length es) 0 → last ≡ before (length es) → Chain es nodes place first last
+pub chain : (es : List Ranked) (nodes : List Node) (place : ℕ → Option NodeNo) (first last : Option NodeNo) → IsAscending es → AreDistinct es → nodes ≡ chained (length es) 0 es → ((account : ℕ) → place account ≡ row_of (rows_from 0 es) account) → first ≡ below (length es) 0 → last ≡ before (length es) → Chain es nodes place first last
 chain es nodes place first last up apart made told first_is last_is =
     let n = length es in
     let f = memory nodes in

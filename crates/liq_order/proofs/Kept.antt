@@ -1,12 +1,13 @@
 -- How the nodes are kept by an entry that comes, and by one that goes.
-use Rattle.std.proofs.Common.{◌≡◌, ℕ, ℤ, ◌+◌, ◌<◌, ◌≤◌, cond, List, [], ◌∷◌, ◌++◌, length, sym, ap, ◌∙◌, subst, Some, None, Option, IfSome, arith, length-append}
+use Rattle.std.proofs.Common.{◌≡◌, ℕ, ℤ, ◌+◌, ◌-◌, ◌<◌, ◌≤◌, cond, List, [], ◌∷◌, ◌++◌, length, sym, ap, ◌∙◌, subst, Some, None, Option, IfSome, inl, inr, arith, length-append, length-set}
 use Rattle.std.specs.Prelude.{◌==◌}
 use Rattle.std.specs.declared.cmp.Ordering.TheVariants.{Less}
 use Rattle.liq_types.specs.Ranked.{Ranked, rank_order, key_in, with_ranked, without_ranked}
+use Rattle.liq_order.specs.declared.linked.Nodes.TheInside.{Inside}
 use Rattle.liq_order.specs.declared.places.Gap.{Gap}
 use Rattle.liq_order.specs.declared.places.Node.{Node}
 use Rattle.liq_order.specs.declared.places.NodeNo.{NodeNo}
-use Rattle.liq_order.specs.Nodes.{Ring, memory, at_place, entries, entry_of, entries_at, along, first_or, last_or, end_or, AreWithin, Linked, node_of, with_next, with_previous, IsWithin, IsSettled, IsRing, IsBehind, IsGap}
+use Rattle.liq_order.specs.Nodes.{Ring, memory, at_place, entries, entry_of, entries_at, along, come, first_or, last_or, end_or, AreWithin, Linked, node_of, with_next, with_previous, IsWithin, IsSettled, IsRing, IsBehind, IsGap}
 use Rattle.liq_order.proofs.Chains.{all_front, all_back, first_within, last_within, along_is, linked_back}
 use Rattle.liq_order.proofs.Changed.{Taken, taken, put_ring, out_ring, node_split, met_length}
 use Rattle.liq_order.proofs.Found.{absent_from_key}
@@ -16,8 +17,11 @@ pub along_order : (nodes : List Node) (order free : List NodeNo) (place : ℕ �
 along_order nodes order free place first last r =
     ap (λ s. along (memory nodes) (length nodes) s) r.first_is ∙ along_is (memory nodes) None order (length nodes) r.linked (omega (arith, r.shared))
 
-abbrev pub come : List Node → Option NodeNo → List NodeNo
-come nodes first = along (memory nodes) (length nodes) first
+-- what the vectors stand for
+abbrev pub ring_of : Inside → Ring
+ring_of i =
+    let order = come i.cells.nodes.items i.cells.first in
+    record { nodes = i.cells.nodes.items; order = order; room = i.most - length order }
 
 -- ---- an entry comes
 
@@ -27,20 +31,26 @@ pub record Put (v : Ring) (key : ℤ) (id : ℕ) (nodes : List Node) (free : Lis
   pub more : length (come nodes first) ≡ length v.order + 1
   pub grown : (most : ℕ) → length v.order < most → length v.nodes ≤ most → length nodes ≤ most
 
-abbrev node_for : ℤ → ℕ → Gap → Node
+abbrev pub node_for : ℤ → ℕ → Gap → Node
 node_for key id gap = record { key = key; account = id; previous = gap.previous; next = gap.next }
 
 pub settled : (v : Ring) (free : List NodeNo) (place : ℕ → Option NodeNo) (first last : Option NodeNo) → IsRing v.nodes v.order free place first last → (node : Node) (at : NodeNo) (nodes' : List Node) (free' : List NodeNo) → IsSettled v.nodes free node at nodes' free' → Taken v.nodes v.order node at nodes' free'
 settled v free place first last r node at nodes' free' s = taken v.nodes v.order free node at nodes' free' r.apart r.within r.shared s
 
-pub put_within : (v : Ring) (free : List NodeNo) (place : ℕ → Option NodeNo) (first last : Option NodeNo) → IsRing v.nodes v.order free place first last → (e : Ranked) (gap : Gap) → IsBehind v e gap → (node : Node) (at : NodeNo) (nodes' : List Node) (free' : List NodeNo) → IsSettled v.nodes free node at nodes' free' → IsWithin nodes' gap.previous × IsWithin nodes' gap.next
-put_within v free place first last r e gap b node at nodes' free' s =
-    let t = settled v free place first last r node at nodes' free' s in
-    let inside : AreWithin (length nodes') (b.front ++ b.back) = subst (AreWithin (length nodes')) b.whole (all_front (λ (q : NodeNo). q.0 < length nodes') v.order free' t.within) in
-    let front = all_front (λ (q : NodeNo). q.0 < length nodes') b.front b.back inside in
-    let back = all_back (λ (q : NodeNo). q.0 < length nodes') b.front b.back inside in (
-      subst (λ (g : Gap). IsWithin nodes' g.previous) (sym b.gap_is) (last_within (length nodes') None b.front tt front),
-      subst (λ (g : Gap). IsWithin nodes' g.next) (sym b.gap_is) (first_within (length nodes') b.back back),
+-- what is within stays so when a node comes
+pub within_settled : (nodes : List Node) (free : List NodeNo) (node : Node) (at : NodeNo) (nodes' : List Node) (free' : List NodeNo) → IsSettled nodes free node at nodes' free' → (o : Option NodeNo) → IsWithin nodes o → IsWithin nodes' o
+within_settled nodes free node at nodes' free' s None w = tt
+within_settled nodes free node at nodes' free' (inl s) (Some p) w = subst (λ n. p.0 < n) (sym (ap (λ l. length l) s.1 ∙ length-set nodes at.0 node)) w
+within_settled nodes free node at nodes' free' (inr s) (Some p) w = omega (arith, w, ap (λ l. length l) s.3, length-append nodes (node ∷ []))
+
+-- what is beside a gap is among the nodes
+pub gap_within : (v : Ring) (free : List NodeNo) (place : ℕ → Option NodeNo) (first last : Option NodeNo) → IsRing v.nodes v.order free place first last → (e : Ranked) (gap : Gap) → IsBehind v e gap → IsWithin v.nodes gap.previous × IsWithin v.nodes gap.next
+gap_within v free place first last r e gap b =
+    let inside : AreWithin (length v.nodes) (b.front ++ b.back) = subst (AreWithin (length v.nodes)) b.whole (all_front (λ (q : NodeNo). q.0 < length v.nodes) v.order free r.within) in
+    let front = all_front (λ (q : NodeNo). q.0 < length v.nodes) b.front b.back inside in
+    let back = all_back (λ (q : NodeNo). q.0 < length v.nodes) b.front b.back inside in (
+      subst (λ (g : Gap). IsWithin v.nodes g.previous) (sym b.gap_is) (last_within (length v.nodes) None b.front tt front),
+      subst (λ (g : Gap). IsWithin v.nodes g.next) (sym b.gap_is) (first_within (length v.nodes) b.back back),
     )
 
 pub put_whole : (v : Ring) (free : List NodeNo) (place : ℕ → Option NodeNo) (first last : Option NodeNo) → IsRing v.nodes v.order free place first last → (key : ℤ) (id : ℕ) (gap : Gap) → IsGap v (key, id) gap → key_in (entries v) id ≡ None → (at : NodeNo) (nodes' : List Node) (free' : List NodeNo) → IsSettled v.nodes free (node_for key id gap) at nodes' free' → (place' : ℕ → Option NodeNo) → ((a : ℕ) → place' a ≡ cond (id == a) (Some at) (place a)) → (nodes'' : List Node) → nodes'' ≡ with_previous (with_next nodes' gap.previous (Some at)) gap.next (Some at) → (first' last' : Option NodeNo) → first' ≡ end_or gap.previous first (Some at) → last' ≡ end_or gap.next last (Some at) → Put v key id nodes'' free' place' first' last'

@@ -6,9 +6,9 @@ use Rattle.std.proofs.lemmas.Bool.Decides.{nat_tests}
 use Rattle.std.proofs.lemmas.List.Elements.{All-filter, All-from_get_or}
 use Rattle.std.proofs.lemmas.List.Sums.{sum_by-cons, sum_by-set}
 use Rattle.liq_types.specs.Ranked.{Ranked}
-use Rattle.liq_order.specs.Chained.{paired}
+use Rattle.liq_order.specs.Chained.{rows_from}
 use Rattle.liq_order.specs.declared.places.NodeNo.{NodeNo}
-use Rattle.liq_order.specs.Pairs.{Row, account_at, has_place, is_marked, mark, place_if, row_of, unless_marked, IsPairAt, IsPaired, IsStrict}
+use Rattle.liq_order.specs.Accounts.{Row, account_at, has_place, is_marked, mark, place_unless_marked, row_of, unless_marked, IsRowAt, AreRows, IsStrict}
 use Rattle.liq_order.proofs.Rows.{nowhere, Puts, over, row_at}
 
 -- ---- a place and the mark
@@ -44,9 +44,9 @@ the_place p h = by (eqb p.0 mark) h where
   by false g = refl
 
 -- the places after a row was written
-pub places_put : (old new : List Row) (k : ℕ) (v : NodeNo) → Puts old new k v → (q : ℕ) → place_if (row_of new q) ≡ cond (eqb k q) (unless_marked v) (place_if (row_of old q))
-places_put old new k v puts q = ap place_if (puts q) ∙ by (eqb k q) where
-  by : (b : Bool) → place_if (cond b (Some v) (row_of old q)) ≡ cond b (unless_marked v) (place_if (row_of old q))
+pub places_put : (old new : List Row) (k : ℕ) (v : NodeNo) → Puts old new k v → (q : ℕ) → place_unless_marked (row_of new q) ≡ cond (eqb k q) (unless_marked v) (place_unless_marked (row_of old q))
+places_put old new k v puts q = ap place_unless_marked (puts q) ∙ by (eqb k q) where
+  by : (b : Bool) → place_unless_marked (cond b (Some v) (row_of old q)) ≡ cond b (unless_marked v) (place_unless_marked (row_of old q))
   by true = refl
   by false = refl
 
@@ -68,44 +68,44 @@ pub some_marked : (l : List Row) (i : ℕ) → i < length l → is_marked (get_o
 some_marked l i less is = omega (arith, marked_set l i nowhere less, one (get_or l i nowhere) is)
 
 -- of entries that come all at once none is
-pub none_marked : (i : ℕ) (es : List Ranked) → i + length es ≤ mark → count_by is_marked (paired i es) ≡ 0
+pub none_marked : (i : ℕ) (es : List Ranked) → i + length es ≤ mark → count_by is_marked (rows_from i es) ≡ 0
 none_marked i [] h = refl
 none_marked i (e ∷ es) h =
     let row : Row = (e.1, record { 0 = i }) in
-    let rest = paired (suc i) es in
+    let rest = rows_from (suc i) es in
     omega (arith, sum_by-cons one_if row rest, none row (unmarked_row row (omega (arith, h))), none_marked (suc i) es (omega (arith, h)))
 
-pub real_places : (i : ℕ) (es : List Ranked) → i + length es ≤ mark → (k : ℕ) → place_if (row_of (paired i es) k) ≡ row_of (paired i es) k
+pub real_places : (i : ℕ) (es : List Ranked) → i + length es ≤ mark → (k : ℕ) → place_unless_marked (row_of (rows_from i es) k) ≡ row_of (rows_from i es) k
 real_places i [] h k = refl
 real_places i (e ∷ es) h k = by (eqb e.1 k) (real_place (record { 0 = i }) (omega (arith, h))) (real_places (suc i) es (omega (arith, h)) k) where
-  by : (b : Bool) → unless_marked (record { 0 = i }) ≡ Some (record { 0 = i }) → place_if (row_of (paired (suc i) es) k) ≡ row_of (paired (suc i) es) k
-      → place_if (cond b (Some (record { 0 = i })) (row_of (paired (suc i) es) k)) ≡ cond b (Some (record { 0 = i })) (row_of (paired (suc i) es) k)
+  by : (b : Bool) → unless_marked (record { 0 = i }) ≡ Some (record { 0 = i }) → place_unless_marked (row_of (rows_from (suc i) es) k) ≡ row_of (rows_from (suc i) es) k
+      → place_unless_marked (cond b (Some (record { 0 = i })) (row_of (rows_from (suc i) es) k)) ≡ cond b (Some (record { 0 = i })) (row_of (rows_from (suc i) es) k)
   by true here later = here
   by false here later = later
 
 -- ---- a row that is written over
 
-pub same_accounts : (l : List Row) (k : ℕ) (v : NodeNo) (at : ℕ) → IsPairAt l k at → (i : ℕ) → account_at (set l at (k, v)) i ≡ account_at l i
+pub same_accounts : (l : List Row) (k : ℕ) (v : NodeNo) (at : ℕ) → IsRowAt l k at → (i : ℕ) → account_at (set l at (k, v)) i ≡ account_at l i
 same_accounts [] k v at h i = absurd (omega (arith, h.in_range))
 same_accounts (x ∷ l) k v zero h zero = sym h.has_account
 same_accounts (x ∷ l) k v zero h (suc i) = refl
 same_accounts (x ∷ l) k v (suc at) h zero = refl
 same_accounts (x ∷ l) k v (suc at) h (suc i) = same_accounts l k v at (record { in_range = omega (arith, h.in_range); has_account = h.has_account }) i
 
-pub strict_over : (l : List Row) (k : ℕ) (v : NodeNo) (at : ℕ) → IsPairAt l k at → IsStrict l → IsStrict (set l at (k, v))
+pub strict_over : (l : List Row) (k : ℕ) (v : NodeNo) (at : ℕ) → IsRowAt l k at → IsStrict l → IsStrict (set l at (k, v))
 strict_over l k v at h strict i j less inside =
     omega (arith, same_accounts l k v at h i, same_accounts l k v at h j, strict i j less (omega (arith, inside, length-set l at (k, v))))
 
-module _ (l : List Row) (strict : IsStrict l) (k at : ℕ) (pair : IsPairAt l k at) where
+module _ (l : List Row) (strict : IsStrict l) (k at : ℕ) (is_at : IsRowAt l k at) where
   -- what the row of an account has
-  pub found_at : place_if (row_of l k) ≡ unless_marked (get_or l at nowhere).1
-  found_at = ap place_if (row_at l strict k at pair)
+  pub found_at : place_unless_marked (row_of l k) ≡ unless_marked (get_or l at nowhere).1
+  found_at = ap place_unless_marked (row_at l strict k at is_at)
 
   -- the row of an account without a place is marked, and no other
-  pub marked_row : place_if (row_of l k) ≡ None → is_marked (get_or l at nowhere) ≡ true
+  pub marked_row : place_unless_marked (row_of l k) ≡ None → is_marked (get_or l at nowhere) ≡ true
   marked_row h = no_place (get_or l at nowhere) (sym found_at ∙ h)
 
-  pub used_row : IsSome (place_if (row_of l k)) → is_marked (get_or l at nowhere) ≡ false
+  pub used_row : IsSome (place_unless_marked (row_of l k)) → is_marked (get_or l at nowhere) ≡ false
   used_row h = a_place (get_or l at nowhere) (subst (λ (o : Option NodeNo). IsSome o) found_at h)
 
 -- an account's row is marked
@@ -113,38 +113,38 @@ pub record Marked (l l' : List Row) (marked k : ℕ) : Type 0 where
   pub strict : IsStrict l'
   pub counted : marked + 1 ≡ count_by is_marked l'
   pub long : length l' ≡ length l
-  pub told : (a : ℕ) → place_if (row_of l' a) ≡ cond (eqb k a) None (place_if (row_of l a))
+  pub told : (a : ℕ) → place_unless_marked (row_of l' a) ≡ cond (eqb k a) None (place_unless_marked (row_of l a))
 
-pub marked_over : (l : List Row) (marked : ℕ) → IsPaired l marked → (k at : ℕ) → IsPairAt l k at → IsSome (place_if (row_of l k)) → Marked l (set l at (k, record { 0 = mark })) marked k
-marked_over l marked kept k at pair there =
+pub marked_over : (l : List Row) (marked : ℕ) → AreRows l marked → (k at : ℕ) → IsRowAt l k at → IsSome (place_unless_marked (row_of l k)) → Marked l (set l at (k, record { 0 = mark })) marked k
+marked_over l marked kept k at is_at there =
     let v : NodeNo = record { 0 = mark } in record {
-      strict = strict_over l k v at pair kept.strict;
-      counted = omega (arith, kept.counted, marked_set l at (k, v) pair.in_range, none (get_or l at nowhere) (used_row l kept.strict k at pair there));
+      strict = strict_over l k v at is_at kept.strict;
+      counted = omega (arith, kept.counted, marked_set l at (k, v) is_at.in_range, none (get_or l at nowhere) (used_row l kept.strict k at is_at there));
       long = length-set l at (k, v);
-      told = places_put l (set l at (k, v)) k v (over l kept.strict k at pair v);
+      told = places_put l (set l at (k, v)) k v (over l kept.strict k at is_at v);
     }
 
 -- an account's row is used again
 pub record Used (l l' : List Row) (marked k : ℕ) (v : NodeNo) : Type 0 where
   pub some : 0 < marked
-  pub paired : IsPaired l' (marked - 1)
+  pub rows_from : AreRows l' (marked - 1)
   pub long : length l' ≡ length l
-  pub told : (a : ℕ) → place_if (row_of l' a) ≡ cond (eqb k a) (Some v) (place_if (row_of l a))
+  pub told : (a : ℕ) → place_unless_marked (row_of l' a) ≡ cond (eqb k a) (Some v) (place_unless_marked (row_of l a))
 
-pub used_over : (l : List Row) (marked : ℕ) → IsPaired l marked → (k at : ℕ) → IsPairAt l k at → place_if (row_of l k) ≡ None → (v : NodeNo) → v.0 < mark → Used l (set l at (k, v)) marked k v
-used_over l marked kept k at pair absent v less =
-    let is = marked_row l kept.strict k at pair absent in
+pub used_over : (l : List Row) (marked : ℕ) → AreRows l marked → (k at : ℕ) → IsRowAt l k at → place_unless_marked (row_of l k) ≡ None → (v : NodeNo) → v.0 < mark → Used l (set l at (k, v)) marked k v
+used_over l marked kept k at is_at absent v less =
+    let is = marked_row l kept.strict k at is_at absent in
     let long = length-set l at (k, v) in
-    let counted = marked_set l at (k, v) pair.in_range in
+    let counted = marked_set l at (k, v) is_at.in_range in
     let real = none (k, v) (unmarked_row (k, v) less) in record {
-      some = omega (arith, kept.counted, some_marked l at pair.in_range is);
-      paired = record {
-        strict = strict_over l k v at pair kept.strict;
+      some = omega (arith, kept.counted, some_marked l at is_at.in_range is);
+      rows_from = record {
+        strict = strict_over l k v at is_at kept.strict;
         counted = omega (arith, kept.counted, counted, one (get_or l at nowhere) is, real);
         few = omega (arith, kept.few, long);
       };
       long = long;
-      told = λ a. places_put l (set l at (k, v)) k v (over l kept.strict k at pair v) a ∙ ap (λ o. cond (eqb k a) o (place_if (row_of l a))) (real_place v less);
+      told = λ a. places_put l (set l at (k, v)) k v (over l kept.strict k at is_at v) a ∙ ap (λ o. cond (eqb k a) o (place_unless_marked (row_of l a))) (real_place v less);
     }
 
 -- ---- the marked rows go
@@ -177,7 +177,7 @@ pub record Dropped (l l' : List Row) : Type 0 where
   pub strict : IsStrict l'
   pub none : count_by is_marked l' ≡ 0
   pub long : length l' + count_by is_marked l ≡ length l
-  pub told : (k : ℕ) → place_if (row_of l' k) ≡ place_if (row_of l k)
+  pub told : (k : ℕ) → place_unless_marked (row_of l' k) ≡ place_unless_marked (row_of l k)
 
 pub dropped : (l : List Row) → IsStrict l → Dropped l (filter has_place l)
 dropped [] strict = record { strict = strict; none = refl; long = refl; told = λ k. refl }
@@ -192,8 +192,8 @@ dropped (x ∷ l) strict = by (is_marked x) refl (dropped l (strict_tail x l str
     long = omega (arith, rest.long, sum_by-cons one_if x l, one x is);
     told = λ k. rest.told k ∙ gone k (eqb x.0 k) refl;
   } where
-    gone : (k : ℕ) (b : Bool) → eqb x.0 k ≡ b → place_if (row_of l k) ≡ place_if (cond b (Some x.1) (row_of l k))
-    gone k true same = ap place_if (ap (row_of l) (sym (equal same)) ∙ none_above l x.0 above) ∙ sym (ap (λ (c : Bool). cond c None (Some x.1)) is) where
+    gone : (k : ℕ) (b : Bool) → eqb x.0 k ≡ b → place_unless_marked (row_of l k) ≡ place_unless_marked (cond b (Some x.1) (row_of l k))
+    gone k true same = ap place_unless_marked (ap (row_of l) (sym (equal same)) ∙ none_above l x.0 above) ∙ sym (ap (λ (c : Bool). cond c None (Some x.1)) is) where
       equal : eqb x.0 k ≡ true → x.0 ≡ k
       equal h = grind (arith, nat_tests)
     gone k false same = refl
@@ -203,7 +203,7 @@ dropped (x ∷ l) strict = by (is_marked x) refl (dropped l (strict_tail x l str
     long = omega (arith, rest.long, sum_by-cons one_if x l, none x is);
     told = λ k. here k (eqb x.0 k);
   } where
-    here : (k : ℕ) (b : Bool) → place_if (cond b (Some x.1) (row_of (filter has_place l) k)) ≡ place_if (cond b (Some x.1) (row_of l k))
+    here : (k : ℕ) (b : Bool) → place_unless_marked (cond b (Some x.1) (row_of (filter has_place l) k)) ≡ place_unless_marked (cond b (Some x.1) (row_of l k))
     here k true = refl
     here k false = rest.told k
 

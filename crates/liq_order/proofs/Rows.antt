@@ -1,4 +1,4 @@
--- What is found among pairs in ascending accounts, and what an edit of them does.
+-- What is found among rows in ascending accounts, and what an edit of them does.
 use Rattle.std.proofs.Common.{◌≡◌, ◌≢◌, ℕ, zero, suc, ◌+◌, ◌-◌, ◌<◌, ◌≤◌, cond, eqb, List, [], ◌∷◌, length, get_or, set, Some, None, Result, Ok, Err, IfOk, IfErr, refl, sym, ap, subst, arith}
 use Rattle.std.specs.List.{insert}
 use Rattle.std.specs.List.Sorted.{IsSearchInRange, IsBinarySearchResult, IsNonDecreasingBy}
@@ -8,26 +8,26 @@ use Rattle.std.proofs.lemmas.List.Sorted.{IsNonDecreasingBy-from_default}
 use Rattle.std.proofs.lemmas.List.Edits.{length-insert, get_or-insert_below, get_or-insert_at, get_or-insert_above}
 use Rattle.std.proofs.lemmas.Bool.Decides.{nat_tests}
 use Rattle.liq_order.specs.declared.places.NodeNo.{NodeNo}
-use Rattle.liq_order.specs.Pairs.{Row, row_of, account_at, IsStrict, IsPairAt, IsGapFor}
+use Rattle.liq_order.specs.Accounts.{Row, row_of, account_at, IsStrict, IsRowAt, IsGapFor}
 
 abbrev pub nowhere : Row
 nowhere = (0, record { 0 = 0 })
 
--- no pair before an index has the account
+-- no row before an index has the account
 abbrev NoneBefore : List Row → ℕ → ℕ → Type 0
 NoneBefore l k i = (j : ℕ) → j < i → account_at l j ≢ k
 
 tail_before : (x : Row) (l : List Row) (k i : ℕ) → NoneBefore (x ∷ l) k (suc i) → NoneBefore l k i
 tail_before x l k i h j lt = h (suc j) (omega (arith, lt))
 
-tail_at : (x : Row) (l : List Row) (k i : ℕ) → IsPairAt (x ∷ l) k (suc i) → IsPairAt l k i
+tail_at : (x : Row) (l : List Row) (k i : ℕ) → IsRowAt (x ∷ l) k (suc i) → IsRowAt l k i
 tail_at x l k i h = record { in_range = omega (arith, h.in_range); has_account = h.has_account }
 
 absent : (l : List Row) (k : ℕ) → NoneBefore l k (length l) → row_of l k ≡ None
 absent [] k h = refl
 absent (x ∷ l) k h = grind (arith, nat_tests, h 0 (omega arith), absent l k (tail_before x l k _ h))
 
-present : (l : List Row) (k i : ℕ) → IsPairAt l k i → NoneBefore l k i → row_of l k ≡ Some (get_or l i nowhere).1
+present : (l : List Row) (k i : ℕ) → IsRowAt l k i → NoneBefore l k i → row_of l k ≡ Some (get_or l i nowhere).1
 present [] k i at h = absurd (omega (arith, at.in_range))
 present (x ∷ l) k zero at h = grind (arith, nat_tests, at.has_account)
 present (x ∷ l) k (suc i) at h = grind (arith, nat_tests, h 0 (omega arith), present l k i (tail_at x l k i at) (tail_before x l k i h))
@@ -36,7 +36,7 @@ present (x ∷ l) k (suc i) at h = grind (arith, nat_tests, h 0 (omega arith), p
 abbrev pub Puts : List Row → List Row → ℕ → NodeNo → Type 0
 Puts old new k v = (q : ℕ) → row_of new q ≡ cond (eqb k q) (Some v) (row_of old q)
 
-put_over : (l : List Row) (k : ℕ) (v : NodeNo) (i : ℕ) → IsPairAt l k i → NoneBefore l k i → Puts l (set l i (k, v)) k v
+put_over : (l : List Row) (k : ℕ) (v : NodeNo) (i : ℕ) → IsRowAt l k i → NoneBefore l k i → Puts l (set l i (k, v)) k v
 put_over [] k v i at h q = absurd (omega (arith, at.in_range))
 put_over (x ∷ l) k v zero at h q = grind (arith, nat_tests, at.has_account)
 put_over (x ∷ l) k v (suc i) at h q = grind (arith, nat_tests, h 0 (omega arith), put_over l k v i (tail_at x l k i at) (tail_before x l k i h) q)
@@ -52,7 +52,7 @@ module _ (l : List Row) (strict : IsStrict l) (k : ℕ) where
       let keys_rise : account_at l i ≤ account_at l j = grind (arith, strict i j, λ (same : i ≡ j). ap (account_at l) same) in
       grind (arith, nat_tests))
 
-  pub searched : (r : Result ℕ ℕ) → IsSearchInRange r (length l) → IsBinarySearchResult (λ row. nat_cmp row.0 k) l r → record { found : IfOk r (IsPairAt l k); absent : IfErr r (IsGapFor l k) }
+  pub searched : (r : Result ℕ ℕ) → IsSearchInRange r (length l) → IsBinarySearchResult (λ row. nat_cmp row.0 k) l r → record { found : IfOk r (IsRowAt l k); absent : IfErr r (IsGapFor l k) }
   searched (Ok at) in_range equal = record { found = record { in_range = in_range; has_account = ranked _ k _ (sym (equal nowhere)) }; absent = tt }
   searched (Err at) in_range parted = record {
     found = tt;
@@ -63,7 +63,7 @@ module _ (l : List Row) (strict : IsStrict l) (k : ℕ) where
     };
   }
 
-module _ (l : List Row) (strict : IsStrict l) (k at : ℕ) (is_at : IsPairAt l k at) where
+module _ (l : List Row) (strict : IsStrict l) (k at : ℕ) (is_at : IsRowAt l k at) where
   none_before : NoneBefore l k at
   none_before j lt same = omega (arith, strict j at lt is_at.in_range, is_at.has_account)
 

@@ -1,4 +1,4 @@
--- Entries and pairs that are sorted at once: what ascends, and what stays.
+-- Entries and rows that are sorted at once: what ascends, and what stays.
 use Rattle.std.proofs.Common.{◌≡◌, ℕ, zero, suc, ◌+◌, ◌<◌, ◌≤◌, Bool, true, false, cond, eqb, List, [], ◌∷◌, length, map, get_or, refl, sym, ap, ◌∙◌, subst, Some, None, Option, inl, inr, ◌⊎◌, arith}
 use Rattle.std.specs.List.{AllByRecursion, Contains, IsDistinct}
 use Rattle.std.specs.List.Sorted.{IsPermutation, IsSorted, IsNonDecreasingBy}
@@ -10,9 +10,9 @@ use Rattle.std.proofs.lemmas.List.Sorted.{IsPermutation-map, IsPermutation-sym, 
 use Rattle.std.proofs.lemmas.Map.Keys.{IsDistinct-IsPermutation, apart_from_distinct}
 use Rattle.liq_types.specs.Ranked.{Ranked, rank_order, sorted, IsAscending}
 use Rattle.liq_types.proofs.RankedLists.{rank_total, Behind, behind_more}
-use Rattle.liq_order.specs.Chained.{paired}
+use Rattle.liq_order.specs.Chained.{rows_from}
 use Rattle.liq_order.specs.Listed.{IsAbsent, AreDistinct}
-use Rattle.liq_order.specs.Pairs.{Row, row_of, account_at, IsStrict}
+use Rattle.liq_order.specs.Accounts.{Row, row_of, account_at, IsStrict}
 use Rattle.liq_order.specs.declared.places.NodeNo.{NodeNo}
 use Rattle.liq_order.proofs.Rows.{nowhere}
 use Rattle.liq_order.proofs.Sorting.{AreApart, not_later, sorted_same, sorted_ascends}
@@ -131,14 +131,14 @@ sorted_is xs ys h p s =
           (λ x c. Contains-permutation xs ys x p (Contains-permutation (sorted xs) xs x (IsPermutation-sym xs (sorted xs) own) c));
     }
 
--- ---- pairs
+-- ---- rows
 
 abbrev keys : List Row → List ℕ
 keys rows = map (λ (row : Row). row.0) rows
 
-paired_keys : (i : ℕ) (es : List Ranked) → keys (paired i es) ≡ accounts es
-paired_keys i [] = refl
-paired_keys i (e ∷ es) = ap (λ l. e.1 ∷ l) (paired_keys (suc i) es)
+rows_from_keys : (i : ℕ) (es : List Ranked) → keys (rows_from i es) ≡ accounts es
+rows_from_keys i [] = refl
+rows_from_keys i (e ∷ es) = ap (λ l. e.1 ∷ l) (rows_from_keys (suc i) es)
 
 key_at : (rows : List Row) (i : ℕ) → get_or (keys rows) i 0 ≡ account_at rows i
 key_at [] i = refl
@@ -188,12 +188,12 @@ rows_moved xs ys p hx hy account = by (row_of xs account) refl (row_of ys accoun
   by None is None other = refl
   by None is (Some n) other = sym (sym is ∙ in_row xs account n hx (Contains-permutation ys xs (account, n) (IsPermutation-sym xs ys p) (row_in ys account n other)))
 
-pub record Paired (es : List Ranked) (rows : List Row) : Type 0 where
+pub record SortedRows (es : List Ranked) (rows : List Row) : Type 0 where
   pub strict : IsStrict rows
-  pub told : (account : ℕ) → row_of rows account ≡ row_of (paired 0 es) account
+  pub told : (account : ℕ) → row_of rows account ≡ row_of (rows_from 0 es) account
 
-pub paired_is : (es : List Ranked) (rows : List Row) → AreDistinct es → IsPermutation (paired 0 es) rows → IsNonDecreasingBy (λ (row : Row). row.0) rows → Paired es rows
-paired_is es rows h p up =
-    let before : IsDistinct eqb (keys (paired 0 es)) = subst (IsDistinct eqb) (sym (paired_keys 0 es)) (distinct_keys es h) in
-    let after = IsDistinct-IsPermutation eqb flips (keys (paired 0 es)) (keys rows) (IsPermutation-map (λ (row : Row). row.0) (paired 0 es) rows p) before in
-    record { strict = strict_rows rows after up; told = rows_moved (paired 0 es) rows p before after }
+pub sorted_rows_are : (es : List Ranked) (rows : List Row) → AreDistinct es → IsPermutation (rows_from 0 es) rows → IsNonDecreasingBy (λ (row : Row). row.0) rows → SortedRows es rows
+sorted_rows_are es rows h p up =
+    let before : IsDistinct eqb (keys (rows_from 0 es)) = subst (IsDistinct eqb) (sym (rows_from_keys 0 es)) (distinct_keys es h) in
+    let after = IsDistinct-IsPermutation eqb flips (keys (rows_from 0 es)) (keys rows) (IsPermutation-map (λ (row : Row). row.0) (rows_from 0 es) rows p) before in
+    record { strict = strict_rows rows after up; told = rows_moved (rows_from 0 es) rows p before after }

@@ -1,9 +1,9 @@
--- Where a pair can be among pairs in ascending accounts.
+-- Where a row can be among rows in ascending accounts.
 use Rattle.std.proofs.Common.{◌≡◌, ℕ, zero, suc, ◌+◌, ◌-◌, ◌<◌, ◌≤◌, min, List, length, take, drop, Result, Ok, Err, IfOk, IfErr, sym, ap, ◌∙◌, arith, length-take, length-drop}
 use Rattle.std.specs.List.Sorted.{IsSearchInRange, IsBinarySearchResult}
 use Rattle.std.specs.Ordering.{nat_cmp}
 use Rattle.std.proofs.lemmas.List.{get_or-take, get_or-drop}
-use Rattle.liq_order.specs.Pairs.{Row, account_at, IsStrict, IsPairAt, IsGapFor}
+use Rattle.liq_order.specs.Accounts.{Row, account_at, IsStrict, IsRowAt, IsGapFor}
 use Rattle.liq_order.proofs.Rows.{nowhere, searched}
 
 module _ (l : List Row) (strict : IsStrict l) where
@@ -15,7 +15,7 @@ module _ (l : List Row) (strict : IsStrict l) where
       let less = rising i (j - 1) d (omega (arith, same)) (omega (arith, lt, same)) in
       omega (arith, less, strict (j - 1) j (omega (arith, same)) lt)
 
-  -- an account is at least as far from the first one as its pair is from the first pair, and so from the last
+  -- an account is at least as far from the first one as its row is from the first row, and so from the last
   from_first : (i : ℕ) → i < length l → account_at l 0 + i ≤ account_at l i
   from_first i lt = rising 0 i i (omega arith) lt
 
@@ -53,9 +53,9 @@ module _ (l : List Row) (strict : IsStrict l) where
     part_strict i j less lt = omega (arith, within i (omega (arith, less, lt, long)), within j (omega (arith, lt, long)), strict (low + i) (low + j) (omega (arith, less)) (omega (arith, lt, long, inside)))
 
     pub searched_within : (r : Result ℕ ℕ) → IsSearchInRange r (length (take (high - low) (drop low l))) → IsBinarySearchResult (λ row. nat_cmp row.0 k) (take (high - low) (drop low l)) r
-        → record { found : IfOk r (λ i. IsPairAt l k (low + i)); absent : IfErr r (λ i. IsGapFor l k (low + i)) }
+        → record { found : IfOk r (λ i. IsRowAt l k (low + i)); absent : IfErr r (λ i. IsGapFor l k (low + i)) }
     searched_within r in_range by_key = among r (searched part part_strict k r in_range by_key) where
-      among : (r : Result ℕ ℕ) → record { found : IfOk r (IsPairAt part k); absent : IfErr r (IsGapFor part k) } → record { found : IfOk r (λ i. IsPairAt l k (low + i)); absent : IfErr r (λ i. IsGapFor l k (low + i)) }
+      among : (r : Result ℕ ℕ) → record { found : IfOk r (IsRowAt part k); absent : IfErr r (IsGapFor part k) } → record { found : IfOk r (λ i. IsRowAt l k (low + i)); absent : IfErr r (λ i. IsGapFor l k (low + i)) }
       among (Ok i) h = record {
         found = record {
           in_range = omega (arith, h.found.in_range, long, inside);

@@ -1,4 +1,5 @@
--- Nodes that are linked to one another: what is at each place, and in which order one comes to them from the first.
+-- Nodes that are linked to one another: what is at each place, and in which order one comes to them
+-- from the first.
 use Rattle.std.specs.List.{AllByRecursion}
 use Rattle.std.specs.Prelude.{◌≡◌, ◌≢◌, ◌⊎◌, ℕ, zero, suc, pos, ◌+◌, ◌<◌, ◌≤◌, ◌^◌, ◌==◌, if◌then◌else◌, List, [], ◌∷◌, ◌++◌, map, length, slice_index_or, slice_set, Option, None, Some, IfSome, option_map}
 use Rattle.std.specs.declared.cmp.Ordering.TheVariants.{Less}
@@ -31,6 +32,10 @@ abbrev pub along : Memory → ℕ → Option NodeNo → List NodeNo
 along f zero start = []
 along f (suc n) None = []
 along f (suc n) (Some p) = p ∷ along f n (f p).next
+
+-- the places that one comes to from the first, in cells of so many nodes
+abbrev pub come : List Node → Option NodeNo → List NodeNo
+come nodes first = along (memory nodes) (length nodes) first
 
 abbrev pub first_or : Option NodeNo → List NodeNo → Option NodeNo
 first_or other [] = other
@@ -80,14 +85,19 @@ entries r = entries_at (memory r.nodes) r.order
 
 -- a place of the list where an entry is, and the place before it
 abbrev pub Holds : Ring → NodeNo → Ranked → Option NodeNo → Type 0
-Holds r p e previous = IsIn p r.order × (entry_of (at_place r p) ≡ e) × ((at_place r p).previous ≡ previous)
+Holds r p e previous =
+    IsIn p r.order × (entry_of (at_place r p) ≡ e) × ((at_place r p).previous ≡ previous)
 
--- Going along from a start one comes to just these entries, in their order. Each node's previous place is the one that
--- was visited before it.
+-- Going along from a start one comes to just these entries, in their order. Each node's previous
+-- place is the one that was visited before it.
 abbrev pub Visits : Ring → Option NodeNo → Option NodeNo → List Ranked → Type 0
 Visits r start previous [] = start ≡ None
 Visits r start previous (e ∷ es) =
-    (p : NodeNo) × (start ≡ Some p) × Holds r p e previous × Visits r (at_place r p).next (Some p) es
+    (p : NodeNo) × (start ≡ Some p) × Holds r p e previous
+    × Visits r (at_place r p).next (Some p) es
+
+abbrev pub account_of_place : Ring → Option NodeNo → Option ℕ
+account_of_place r at = option_map (λ p. (at_place r p).account) at
 
 -- ---- where an entry is put
 
@@ -109,12 +119,23 @@ pub record IsBehind (r : Ring) (e : Ranked) (gap : Gap) : Type 0 where
 abbrev pub IsAhead : Ring → Ranked → Gap → Type 0
 IsAhead r e gap = IfSome gap.next (λ p. rank_order e (entry_of (at_place r p)) ≡ Less)
 
+-- the gap further on is behind one place more
+abbrev pub IsFurther : Ring → Ranked → Gap → Gap → Type 0
+IsFurther r e gap further =
+    (b : IsBehind r e gap) → (c : IsBehind r e further) × (length c.front ≡ length b.front + 1)
+
+-- Where the entry comes after an account, the gap behind that account is found; and the one before
+-- all where there is none.
+abbrev pub FindsBehind : Ring → Ranked → Option ℕ → Option Gap → Type 0
+FindsBehind r e account found =
+    (front back : List NodeNo) → r.order ≡ front ++ back
+    → account ≡ account_of_place r (last_or None front)
+    → IfSome (last_or None front) (λ p. rank_order (entry_of (at_place r p)) e ≡ Less)
+    → found ≡ Some (gap_between front back)
+
 -- an entry belongs into a gap
 abbrev pub IsGap : Ring → Ranked → Gap → Type 0
 IsGap r e gap = IsBehind r e gap × IsAhead r e gap
-
-abbrev pub account_of_place : Ring → Option NodeNo → Option ℕ
-account_of_place r at = option_map (λ p. (at_place r p).account) at
 
 -- ---- writes
 
@@ -155,16 +176,17 @@ pub record IsRing (nodes : List Node) (order free : Places) (place : ℕ → Spo
   pub distinct : AreDistinct (entries_at (memory nodes) order)
 
 -- for how many entries there is room in all
-pub record IsRoomy (most nodes nodes_room free_room pairs_room listed : ℕ) : Type 0 where
+pub record IsRoomy (most nodes nodes_room free_room rows_room listed : ℕ) : Type 0 where
   pub used : nodes ≤ most
   pub for_nodes : most ≤ nodes_room
   pub for_free : most ≤ free_room
-  pub for_pairs : most ≤ pairs_room + listed
+  pub for_rows : most ≤ rows_room + listed
   pub few : most < 2 ^ 32
 
 -- a node comes to the last of the free places
 abbrev pub IsReused : List Node → List NodeNo → Node → NodeNo → List Node → List NodeNo → Type 0
-IsReused nodes free node at nodes' free' = (free ≡ free' ++ at ∷ []) × (nodes' ≡ slice_set nodes at.0 node)
+IsReused nodes free node at nodes' free' =
+    (free ≡ free' ++ at ∷ []) × (nodes' ≡ slice_set nodes at.0 node)
 
 -- or behind all nodes, where no place is free
 abbrev pub IsAdded : List Node → List NodeNo → Node → NodeNo → List Node → List NodeNo → Type 0

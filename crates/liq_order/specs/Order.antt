@@ -1,4 +1,5 @@
--- The trove order: all troves, ranked by their keys. The last one counts as that of the lowest ratio.
+-- The trove order: all troves, ranked by their keys. The last one counts as that of the lowest
+-- ratio.
 use Rattle.std.specs.Prelude.{ℕ, List, map, Option}
 pub use Rattle.liq_types.specs.Ranked.{Ranked, rank_order, with_ranked, sorted, first_of, account_of, IsInOrder, IsAscending, IsTight, from_last, last_account}
 use Rattle.liq_types.specs.declared.figures.Trove.{Trove}

@@ -1,47 +1,56 @@
-//! At which place the node of each account is.
+//! At which place the node of each account is. Outside of this module an account is looked up by
+//! [`Accounts::find`] and [`Accounts::take`] alone, and each of the two takes exactly one step.
 
-ghost use Rattle.std.specs.Prelude.{◌≡◌, ℕ, ◌+◌, ◌<◌, ◌≤◌, ◌^◌, ◌==◌, length, None, Some, IsSome, IfSome, IfOk, IfErr, OnOk, if◌then◌else◌, vec_capacity};
+ghost use Rattle.std.specs.Prelude.{◌≡◌, ℕ, ◌+◌, ◌<◌, ◌≤◌, ◌^◌, length, None, Some, IsOk, IsSome, IfSome, IfOk, IfErr, OnOk, vec_capacity};
 ghost use Rattle.std.specs.List.{filter};
-ghost use Rattle.liq_order.specs.Chained.{paired};
+ghost use Rattle.liq_order.specs.Chained.{rows_from};
 ghost use Rattle.liq_order.specs.Listed.{AreDistinct};
-ghost use Rattle.liq_order.specs.Pairs.{IsPaired, IsPairAt, IsGapFor, IsStrict, account_at, place_of, row_of, mark, has_place, unless_marked};
+ghost use Rattle.liq_order.specs.Accounts.{AreRows, IsRowAt, IsGapFor, IsStrict, account_at, place_of, row_of, mark, has_place, unless_marked, SamePlaces, PlacesWith};
 
 use crate::at_once::rows_of;
 use crate::places::NodeNo;
-use liq_types::NoMemory;
+use liq_types::{NoMemory, Steps};
 use std::alloc::Global;
 use std::marker::Model;
+use std::sync::ledger::Ledger;
 
-// Marks the row of an account that left. No node has this place: there are 2^32 - 1 nodes at most.
+// What stands for the place in a marked row, that of an account that left. No node is at this
+// place: there are 2^32 - 1 nodes at most, and the place of the last one is 2^32 - 2.
 const MARK: NodeNo = NodeNo(u32::MAX);
 
-/// The places by their accounts, in ascending accounts. The row of an account that left is only marked, so that nothing moves
-/// where it leaves, and where it comes again. Once more than a quarter of the rows is marked, all marked ones go together.
+/// A row for each account, with its place, in ascending accounts. The row of an account that left
+/// is only marked, so that no row moves where it leaves, nor where it comes again. Once more than a
+/// quarter of the rows is marked, all marked ones go together.
 #[derive(Drop)]
-pub(crate) struct Pairs {
+pub(crate) struct Accounts {
     rows: Vec<(u32, NodeNo)>,
     // So many rows are marked.
     marked: usize,
-    // Where the row is that was marked last, unless rows have moved since: mostly its account is the next to come.
+    // Where the row is that was marked last, unless rows have moved since: mostly its account is
+    // the next to come.
     last: Option<usize>,
 }
 
-impl Model for Pairs {
+impl Model for Accounts {
     ghost use Rattle.std.specs.Prelude.{◌+◌, ◌-◌, vec_len, vec_capacity};
-    ghost use Rattle.liq_order.specs.Pairs.{Paired, IsPaired};
+    ghost use Rattle.liq_order.specs.Accounts.{Rows, AreRows};
 
-    ghost Value = { Paired };
+    ghost Value = { Rows };
 
-    ghost view = { λ p. record { rows = p.rows.items; marked = p.marked; room = vec_capacity p.rows + p.marked - vec_len p.rows } };
+    ghost view = { λ p. record {
+      rows = p.rows.items;
+      marked = p.marked;
+      room = vec_capacity p.rows + p.marked - vec_len p.rows;
+    } };
 
-    ghost invariant = { λ p. IsPaired p.rows.items p.marked };
+    ghost invariant = { λ p. AreRows p.rows.items p.marked };
 }
 
-impl Pairs {
-    pub fn new(alloc: Global) -> Pairs
+impl Accounts {
+    pub fn new(alloc: Global) -> Accounts
         ensures { (account : ℕ) → place_of result account ≡ None }
     {
-        Pairs {
+        Accounts {
             rows: Vec::new(alloc),
             marked: 0,
             last: None,
@@ -49,49 +58,71 @@ impl Pairs {
     }
 
     /// The places of these entries' accounts, each of its entry's number. No account stands twice.
-    pub fn of(alloc: Global, entries: &[(i128, u32)]) -> Result<Pairs, NoMemory>
+    pub fn of(alloc: Global, entries: &[(i128, u32)]) -> Result<Accounts, NoMemory>
         requires few { length entries.now < 2 ^ 32 }
         requires distinct { AreDistinct entries.now }
-        ensures { IfOk result (λ pairs. (account : ℕ) → place_of pairs account ≡ row_of (paired 0 entries.now) account) }
+        ensures { IfOk result (λ accounts. (account : ℕ)
+            → place_of accounts account ≡ row_of (rows_from 0 entries.now) account) }
     {
         let mut rows = rows_of(alloc, entries)?;
         rows.sort_unstable_by_key(|&(account, _)| account);
-        Ok(Pairs {
+        Ok(Accounts {
             rows,
             marked: 0,
             last: None,
         })
     }
 
-    /// Room for so many more, also beside the marked rows, which need not go then. The places stay.
+    /// Room for so many more accounts. Where there is memory it is beside the marked rows, which
+    /// need not go then. The places stay. `NoMemory` only where the marked rows would not make room
+    /// either.
     pub fn reserve(&mut self, more: usize) -> Result<(), NoMemory>
-        ensures same { (account : ℕ) → place_of self.new account ≡ place_of self.old account }
+        ensures same { SamePlaces self.old self.new }
         ensures room { OnOk result (more ≤ self.new.room) }
         ensures beside { OnOk result (more + self.new.marked ≤ self.new.room) }
         ensures kept { self.old.room ≤ self.new.room }
+        ensures had { more ≤ self.old.room → IsOk result }
     {
         match self.rows.reserve(more) {
             Ok(()) => Ok(()),
-            Err(_) => Err(NoMemory),
+            Err(_) => self.reserve_by_compacting(more),
+        }
+    }
+
+    // Without memory the marked rows go, which may make room.
+    fn reserve_by_compacting(&mut self, more: usize) -> Result<(), NoMemory>
+        ensures same { SamePlaces self.old self.new }
+        ensures beside { OnOk result (more + self.new.marked ≤ self.new.room) }
+        ensures kept { self.old.room ≤ self.new.room }
+        ensures had { more ≤ self.old.room → IsOk result }
+    {
+        self.compact();
+        if more <= self.rows.capacity() - self.rows.len() {
+            Ok(())
+        } else {
+            Err(NoMemory)
         }
     }
 
     /// The place of an account, if it has one.
-    pub fn find(&self, account: u32) -> Option<NodeNo>
-        ensures { result ≡ place_of self.now account }
+    pub fn find<L: Ledger>(&self, account: u32, steps: &mut Steps<L>) -> Option<NodeNo>
+        ensures place { result ≡ place_of self.now account }
+        ensures step { steps.new ≡ steps.old + 1 }
     {
+        steps.tick();
         match self.search(account) {
             Ok(at) => unmarked(self.rows[at].1),
             Err(_) => None,
         }
     }
 
-    /// An account without a place gets this one.
+    /// An account without a place gets this one. It takes no step of its own, and shows nothing: it
+    /// is a part of the step that changes the list.
     pub fn put(&mut self, account: u32, place: NodeNo)
         requires absent { place_of self.old account ≡ None }
         requires node { place.0 < mark }
         requires room { 1 ≤ self.old.room }
-        ensures places { (a : ℕ) → place_of self.new a ≡ (if account == a then Some place else place_of self.old a) }
+        ensures places { PlacesWith self.old account (Some place) self.new }
         ensures room { self.new.room + 1 ≡ self.old.room }
     {
         match self.search(account) {
@@ -107,12 +138,14 @@ impl Pairs {
     }
 
     /// An account loses its place, which is the answer.
-    pub fn take(&mut self, account: u32) -> NodeNo
+    pub fn take<L: Ledger>(&mut self, account: u32, steps: &mut Steps<L>) -> NodeNo
         requires { IsSome (place_of self.old account) }
         ensures place { Some result ≡ place_of self.old account }
-        ensures places { (a : ℕ) → place_of self.new a ≡ (if account == a then None else place_of self.old a) }
+        ensures places { PlacesWith self.old account None self.new }
         ensures room { self.new.room ≡ self.old.room + 1 }
+        ensures step { steps.new ≡ steps.old + 1 }
     {
+        steps.tick();
         match self.search(account) {
             Ok(at) => {
                 let place = self.rows[at].1;
@@ -125,10 +158,10 @@ impl Pairs {
 
     // The row of an account that left is used again.
     fn give_back(&mut self, at: usize, account: u32, place: NodeNo)
-        requires pair { IsPairAt self.old.rows account at }
+        requires row { IsRowAt self.old.rows account at }
         requires absent { place_of self.old account ≡ None }
         requires node { place.0 < mark }
-        ensures places { (a : ℕ) → place_of self.new a ≡ (if account == a then Some place else place_of self.old a) }
+        ensures places { PlacesWith self.old account (Some place) self.new }
         ensures room { self.new.room + 1 ≡ self.old.room }
     {
         self.rows[at] = (account, place);
@@ -141,7 +174,7 @@ impl Pairs {
         requires gap { IsGapFor self.old.rows account at }
         requires node { place.0 < mark }
         requires room { self.old.marked < self.old.room }
-        ensures places { (a : ℕ) → place_of self.new a ≡ (if account == a then Some place else place_of self.old a) }
+        ensures places { PlacesWith self.old account (Some place) self.new }
         ensures room { self.new.room + 1 ≡ self.old.room }
     {
         match self.rows.insert(at, (account, place)) {
@@ -155,7 +188,7 @@ impl Pairs {
         requires absent { place_of self.old account ≡ None }
         requires node { place.0 < mark }
         requires room { 1 ≤ self.old.room }
-        ensures places { (a : ℕ) → place_of self.new a ≡ (if account == a then Some place else place_of self.old a) }
+        ensures places { PlacesWith self.old account (Some place) self.new }
         ensures room { self.new.room + 1 ≡ self.old.room }
     {
         self.compact();
@@ -168,18 +201,20 @@ impl Pairs {
     // The marked rows go.
     fn compact(&mut self)
         ensures none { self.new.marked ≡ 0 }
-        ensures places { (a : ℕ) → place_of self.new a ≡ place_of self.old a }
+        ensures places { SamePlaces self.old self.new }
         ensures room { self.new.room ≡ self.old.room }
     {
         drop_marked(&mut self.rows);
         self.marked = 0;
     }
 
-    // The row of an account that has a place is marked. One row may stay marked in any case, so that little moves among few.
+    // Marks the row of an account, which loses its place by it. Where more than a quarter of the
+    // rows would be marked, all marked ones go at once. One row may stay marked however few there
+    // are, so that little moves among few.
     fn mark(&mut self, at: usize, account: u32)
-        requires pair { IsPairAt self.old.rows account at }
+        requires row { IsRowAt self.old.rows account at }
         requires there { IsSome (place_of self.old account) }
-        ensures places { (a : ℕ) → place_of self.new a ≡ (if account == a then None else place_of self.old a) }
+        ensures places { PlacesWith self.old account None self.new }
         ensures room { self.new.room ≡ self.old.room + 1 }
     {
         self.rows[at] = (account, MARK);
@@ -194,9 +229,9 @@ impl Pairs {
 
     // Where the account's row is, or where it would go.
     fn search(&self, account: u32) -> Result<usize, usize>
-        ensures found { IfOk result (IsPairAt self.now.rows account) }
+        ensures found { IfOk result (IsRowAt self.now.rows account) }
         ensures absent { IfErr result (IsGapFor self.now.rows account) }
-        ensures kept { IsPaired self.now.rows self.now.marked }
+        ensures kept { AreRows self.now.rows self.now.marked }
     {
         let _ = &self.last;
         if let Some(at) = self.last_at(account) {
@@ -210,9 +245,9 @@ impl Pairs {
         }
     }
 
-    // Where the account's row is, if it was marked last.
+    // Where the account's row is, if it is the one that was marked last.
     fn last_at(&self, account: u32) -> Option<usize>
-        ensures { IfSome result (IsPairAt self.now.rows account) }
+        ensures { IfSome result (IsRowAt self.now.rows account) }
     {
         let at = self.last?;
         if self.rows.get(at)?.0 == account {
@@ -222,13 +257,15 @@ impl Pairs {
         }
     }
 
-    // Between which indices the account's pair is, or would go. It is no further from the first pair than the account is from the
-    // first one, and so with the last: where accounts lie close together little is left to search.
+    // Between which indices the account's row is, or would go. It is no further from the first row
+    // than the account is from the first one, and so with the last: where accounts lie close
+    // together little is left to search.
     fn window(&self, account: u32) -> (usize, usize)
         ensures ordered { result.0 ≤ result.1 }
         ensures inside { result.1 ≤ length self.now.rows }
         ensures smaller { (j : ℕ) → j < result.0 → account_at self.now.rows j < account }
-        ensures greater { (j : ℕ) → result.1 ≤ j → j < length self.now.rows → account < account_at self.now.rows j }
+        ensures greater { (j : ℕ) → result.1 ≤ j → j < length self.now.rows
+            → account < account_at self.now.rows j }
         ensures strict { IsStrict self.now.rows }
     {
         let (Some(&(first, _)), Some(&(last, _))) = (self.rows.first(), self.rows.last()) else {

@@ -1,7 +1,7 @@
-//! The nodes and the pairs of entries that come all at once.
+//! The nodes and the rows of entries that come all at once.
 
 ghost use Rattle.std.specs.Prelude.{◌≡◌, ◌<◌, ◌≤◌, ◌^◌, IfOk, length, vec_capacity};
-ghost use Rattle.liq_order.specs.Chained.{before, below, chained, paired};
+ghost use Rattle.liq_order.specs.Chained.{before, below, chained, rows_from};
 
 use crate::places::{Node, NodeNo};
 use liq_types::NoMemory;
@@ -10,7 +10,8 @@ use std::alloc::Global;
 /// The nodes of entries, each at the place of its number.
 pub(crate) fn nodes_of(alloc: Global, entries: &[(i128, u32)]) -> Result<Vec<Node>, NoMemory>
     requires { length entries.now < 2 ^ 32 }
-    ensures nodes { IfOk result (λ nodes. nodes.items ≡ chained (length entries.now) 0 entries.now) }
+    ensures nodes { IfOk result (λ nodes. nodes.items
+        ≡ chained (length entries.now) 0 entries.now) }
     ensures room { IfOk result (λ nodes. length entries.now ≤ vec_capacity nodes) }
 {
     let Ok(mut nodes) = Vec::with_capacity(alloc, entries.len()) else {
@@ -29,7 +30,7 @@ pub(crate) fn rows_of(
     entries: &[(i128, u32)],
 ) -> Result<Vec<(u32, NodeNo)>, NoMemory>
     requires { length entries.now < 2 ^ 32 }
-    ensures { IfOk result (λ rows. rows.items ≡ paired 0 entries.now) }
+    ensures { IfOk result (λ rows. rows.items ≡ rows_from 0 entries.now) }
 {
     let Ok(mut rows) = Vec::with_capacity(alloc, entries.len()) else {
         return Err(NoMemory);

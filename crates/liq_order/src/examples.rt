@@ -1,5 +1,5 @@
-//! Worked examples, run by hand. Most functions here do nothing; each is the place where the facts of its contract are
-//! proved.
+//! Worked examples, run by hand. Most functions here do nothing; each is the place where the facts
+//! of its contract are proved.
 
 ghost use Rattle.std.specs.Prelude.{◌≡◌, ◌+◌, ◌≤◌, [], ◌∷◌, Some, length};
 ghost use Rattle.liq_order.specs.Examples.{entry, four, five, alike};
@@ -11,7 +11,8 @@ use std::sync::ledger::Ledger;
 
 /// Entries stand by their keys and, where keys are equal, by their accounts.
 pub fn sorted_example()
-    ensures five { sorted five ≡ entry 10 1 ∷ entry 20 2 ∷ entry 25 9 ∷ entry 30 3 ∷ entry 40 4 ∷ [] }
+    ensures five { sorted five
+        ≡ entry 10 1 ∷ entry 20 2 ∷ entry 25 9 ∷ entry 30 3 ∷ entry 40 4 ∷ [] }
     ensures alike { sorted alike ≡ entry 10 1 ∷ entry 20 2 ∷ entry 20 5 ∷ [] }
 {}
 
@@ -21,8 +22,8 @@ pub fn tight_hint_example()
     ensures between { with_ranked four (entry 25 9) ≡ sorted five }
 {}
 
-/// A fifth account comes between the second and the third. With these two as its hint there are four steps at most, and with
-/// any other hint eight; the list is the same.
+/// A fifth account comes between the second and the third. With these two as its hint there are
+/// four steps at most, and with any other hint eight; the list is the same.
 pub fn fifth_example<L: Ledger>(order: &mut Order, hint: &Hint, steps: &mut Steps<L>)
     requires four { order.old.entries ≡ four }
     requires room { 1 ≤ order.old.room }
@@ -33,7 +34,8 @@ pub fn fifth_example<L: Ledger>(order: &mut Order, hint: &Hint, steps: &mut Step
     order.insert(25, 9, hint, steps);
 }
 
-/// A thousand accounts come in rising order, each with its neighbours as its hint: there are four thousand steps at most.
+/// A thousand accounts come in rising order, each with its neighbours as its hint: there are four
+/// thousand steps at most.
 pub fn thousand_example<L: Ledger>(order: &mut Order, steps: &mut Steps<L>)
     requires none { order.old.entries ≡ [] }
     requires room { 1000 ≤ order.old.room }

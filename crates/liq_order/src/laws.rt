@@ -1,5 +1,5 @@
-//! What holds of the definitions that the contracts cite. The functions here do nothing: each is the place where the facts
-//! of its contract are proved.
+//! What holds of the definitions that the contracts cite. The functions here do nothing: each is
+//! the place where the facts of its contract are proved.
 
 ghost use Rattle.std.specs.Prelude.{List};
 ghost use Rattle.std.specs.List.Sorted.{IsPermutation};
@@ -14,8 +14,8 @@ pub fn sorting_sorts()
     ensures in_order { (entries : List Ranked) → IsInOrder (sorted entries) }
 {}
 
-/// The trove order has exactly the troves, each under its key. Where the table of troves has each account once, each trove
-/// comes before all that stand behind it.
+/// The trove order has exactly the troves, each under its key. Where the table of troves has each
+/// account once, each trove comes before all that stand behind it.
 pub fn trove_order_is_sorted()
     ensures same { (troves : Table Trove) → IsPermutation (ranks troves) (order_by troves) }
     ensures ascending { (troves : Table Trove) → Ascends troves → IsAscending (order_by troves) }

@@ -3,12 +3,12 @@
 
 mod accounts;
 mod at_once;
+mod cells;
 pub mod examples;
 pub mod laws;
 mod linked;
 mod list;
 mod places;
-mod writes;
 
 pub use linked::Nodes;
 pub use list::Order;

@@ -1,17 +1,15 @@
 //! Nodes that are linked in the order of their entries.
 
-ghost use Rattle.std.specs.Prelude.{◌≡◌, false, ◌+◌, ◌≤◌, [], ◌++◌, List, Some, None, IsSome, IfSome, IfNone, IfOk, IsOk, OnOk, length};
+ghost use Rattle.std.specs.Prelude.{◌≡◌, false, ◌+◌, ◌≤◌, [], Some, None, IsSome, IfSome, IfNone, IfOk, IsOk, OnOk, length};
 ghost use Rattle.std.specs.Ordering.{is_lt};
 ghost use Rattle.std.specs.declared.cmp.Ordering.TheVariants.{Less};
 ghost use Rattle.liq_types.specs.Ranked.{IsAscending, rank_order, with_ranked, without_ranked, key_in, last_account, before_in, IsTight};
-ghost use Rattle.liq_order.specs.declared.places.NodeNo.{NodeNo};
 ghost use Rattle.liq_order.specs.Listed.{AreDistinct};
-ghost use Rattle.liq_order.specs.Nodes.{entries_at, IsBehind, IsAhead, IsGap, IsIn, Visits, memory, at_place, entries, entry_of, first_or, last_or, node_of, gap_behind, gap_between, account_of_place};
+ghost use Rattle.liq_order.specs.Nodes.{entries_at, IsBehind, IsAhead, IsGap, IsIn, Visits, memory, at_place, entries, entry_of, first_or, node_of, gap_behind, gap_between, account_of_place, FindsBehind, IsFurther};
 
-use crate::accounts::Pairs;
-use crate::at_once::{nodes_of, place_before, place_below};
+use crate::accounts::Accounts;
+use crate::cells::Cells;
 use crate::places::{Gap, Node, NodeNo, comes_before};
-use crate::writes::{join, settle};
 use liq_types::{Hint, NoMemory, Steps};
 use std::alloc::Global;
 use std::marker::Model;
@@ -20,25 +18,29 @@ use std::sync::ledger::{Blank, Ledger};
 /// The nodes of a list. Each has a place, which stays as long as its entry is in the list.
 #[derive(Drop)]
 pub struct Nodes {
-    nodes: Vec<Node>,
-    free: Vec<NodeNo>,
-    pairs: Pairs,
-    first: Option<NodeNo>,
-    last: Option<NodeNo>,
-    // For so many entries there is room in all three.
+    cells: Cells,
+    accounts: Accounts,
+    // For so many entries there is room in both.
     most: usize,
 }
 
 impl Model for Nodes {
     ghost use Rattle.std.specs.Prelude.{◌-◌, length, vec_capacity};
-    ghost use Rattle.liq_order.specs.Nodes.{Ring, IsRing, IsRoomy, along, memory};
-    ghost use Rattle.liq_order.specs.Pairs.{place_of};
+    ghost use Rattle.liq_order.specs.Nodes.{Ring, IsRing, IsRoomy, come};
+    ghost use Rattle.liq_order.specs.Accounts.{place_of};
 
     ghost Value = { Ring };
 
-    ghost view = { λ n. let order = along (memory n.nodes.items) (length n.nodes.items) n.first in record { nodes = n.nodes.items; order = order; room = n.most - length order } };
+    ghost view = { λ n.
+        let order = come n.cells.nodes.items n.cells.first in
+        record { nodes = n.cells.nodes.items; order = order; room = n.most - length order } };
 
-    ghost invariant = { λ n. let order = along (memory n.nodes.items) (length n.nodes.items) n.first in IsRing n.nodes.items order n.free.items (place_of n.pairs) n.first n.last × IsRoomy n.most (length n.nodes.items) (vec_capacity n.nodes) (vec_capacity n.free) n.pairs.room (length order) };
+    ghost invariant = { λ n.
+        let cells = n.cells in
+        let order = come cells.nodes.items cells.first in
+        IsRing cells.nodes.items order cells.free.items (place_of n.accounts) cells.first cells.last
+        × IsRoomy n.most (length cells.nodes.items) (vec_capacity cells.nodes)
+        (vec_capacity cells.free) n.accounts.room (length order) };
 }
 
 impl Nodes {
@@ -46,11 +48,8 @@ impl Nodes {
         ensures { entries result ≡ [] }
     {
         Nodes {
-            nodes: Vec::new(alloc),
-            free: Vec::new(alloc),
-            pairs: Pairs::new(alloc),
-            first: None,
-            last: None,
+            cells: Cells::new(alloc),
+            accounts: Accounts::new(alloc),
             most: 0,
         }
     }
@@ -65,15 +64,9 @@ impl Nodes {
         if most > u32::MAX as usize {
             return Err(NoMemory);
         }
-        let Ok(free) = Vec::with_capacity(alloc, most) else {
-            return Err(NoMemory);
-        };
         Ok(Nodes {
-            nodes: nodes_of(alloc, entries)?,
-            free,
-            pairs: Pairs::of(alloc, entries)?,
-            first: place_below(most, 0),
-            last: place_before(most),
+            cells: Cells::of(alloc, entries)?,
+            accounts: Accounts::of(alloc, entries)?,
             most,
         })
     }
@@ -82,7 +75,7 @@ impl Nodes {
     pub fn first(&self) -> Option<NodeNo>
         ensures { result ≡ first_or None self.now.order }
     {
-        self.first
+        self.cells.first()
     }
 
     /// The node at a place that is in use. It counts as a step.
@@ -91,20 +84,19 @@ impl Nodes {
         ensures node { result.now ≡ at_place self.now at }
         ensures step { steps.new ≡ steps.old + 1 }
     {
-        steps.tick();
-        &self.nodes[at.0 as usize]
+        self.cells.look(at, steps)
     }
 
-    /// The place of an account's node: `None` exactly where the account is not in the list. It counts as a step.
+    /// The place of an account's node: `None` exactly where the account is not in the list. It
+    /// counts as a step.
     pub fn at<L: Ledger>(&self, id: u32, steps: &mut Steps<L>) -> Option<NodeNo>
-        ensures there { IfSome result (λ p. IsIn p self.now.order × ((at_place self.now p).account ≡ id)) }
+        ensures there { IfSome result (λ p. IsIn p self.now.order
+            × ((at_place self.now p).account ≡ id)) }
         ensures none { IfNone result (key_in (entries self.now) id ≡ None) }
         ensures place { result ≡ node_of (memory self.now.nodes) self.now.order id }
         ensures step { steps.new ≡ steps.old + 1 }
     {
-        steps.tick();
-        let _ = &self.first;
-        self.pairs.find(id)
+        self.accounts.find(id, steps)
     }
 
     /// The nodes, of which going along from the first visits each entry.
@@ -112,18 +104,21 @@ impl Nodes {
         ensures same { result.now ≡ self.now }
         ensures all { Visits self.now (first_or None self.now.order) None (entries self.now) }
     {
-        let _ = &self.first;
+        let _ = &self.cells;
         self
     }
 
     // ---- where an entry goes
 
-    /// The gap into which an entry belongs. With a tight hint it is the hinted one; else one goes along from the first.
+    /// The gap into which an entry belongs. With a tight hint it is the hinted one; else one goes
+    /// along from the first.
     fn gap<L: Ledger>(&self, entry: (i128, u32), hint: &Hint, steps: &mut Steps<L>) -> Gap
         requires { key_in (entries self.now) entry.1 ≡ None }
         ensures gap { IsGap self.now entry result }
-        ensures tight { IsTight (entries self.now) entry hint.now.prev hint.now.next → steps.new ≤ steps.old + 3 }
+        ensures tight { IsTight (entries self.now) entry hint.now.prev hint.now.next
+            → steps.new ≤ steps.old + 3 }
         ensures any { steps.new ≤ steps.old + (length (entries self.now) + 3) }
+        ensures least { steps.old ≤ steps.new }
     {
         match self.hinted(entry, hint, steps) {
             Some(gap) => gap,
@@ -131,7 +126,8 @@ impl Nodes {
         }
     }
 
-    // The gap between the two accounts of a hint, where they are neighbours and the entry belongs between them.
+    // The gap between the two accounts of a hint, where they are neighbours and the entry belongs
+    // between them.
     fn hinted<L: Ledger>(
         &self,
         entry: (i128, u32),
@@ -139,8 +135,10 @@ impl Nodes {
         steps: &mut Steps<L>,
     ) -> Option<Gap>
         ensures gap { IfSome result (λ g. IsGap self.now entry g) }
-        ensures tight { IsTight (entries self.now) entry hint.now.prev hint.now.next → IsSome result }
+        ensures tight { IsTight (entries self.now) entry hint.now.prev hint.now.next
+            → IsSome result }
         ensures steps { steps.new ≤ steps.old + 3 }
+        ensures least { steps.old ≤ steps.new }
     {
         let gap = self.begun(entry, hint.prev, steps)?;
         self.ending(gap, entry, hint.next, steps)
@@ -154,8 +152,9 @@ impl Nodes {
         steps: &mut Steps<L>,
     ) -> Option<Gap>
         ensures gap { IfSome result (λ g. IsBehind self.now entry g) }
-        ensures tight { (front back : List NodeNo) → self.now.order ≡ front ++ back → prev ≡ account_of_place self.now (last_or None front) → IfSome (last_or None front) (λ p. rank_order (entry_of (at_place self.now p)) entry ≡ Less) → result ≡ Some (gap_between front back) }
+        ensures tight { FindsBehind self.now entry prev result }
         ensures steps { steps.new ≤ steps.old + 2 }
+        ensures least { steps.old ≤ steps.new }
     {
         match prev {
             Some(id) => self.behind(entry, id, steps),
@@ -169,17 +168,18 @@ impl Nodes {
     {
         Gap {
             previous: None,
-            next: self.first,
+            next: self.cells.first(),
         }
     }
 
     // The gap behind an account, where the entry comes after it.
     fn behind<L: Ledger>(&self, entry: (i128, u32), id: u32, steps: &mut Steps<L>) -> Option<Gap>
         ensures gap { IfSome result (λ g. IsBehind self.now entry g) }
-        ensures tight { (front back : List NodeNo) → self.now.order ≡ front ++ back → Some id ≡ account_of_place self.now (last_or None front) → IfSome (last_or None front) (λ p. rank_order (entry_of (at_place self.now p)) entry ≡ Less) → result ≡ Some (gap_between front back) }
+        ensures tight { FindsBehind self.now entry (Some id) result }
         ensures steps { steps.new ≤ steps.old + 2 }
+        ensures least { steps.old ≤ steps.new }
     {
-        let _ = &self.first;
+        let _ = &self.cells;
         let at = self.at(id, steps)?;
         self.past(at, entry, steps)
     }
@@ -187,8 +187,10 @@ impl Nodes {
     // The gap behind a place, where the entry comes after what is there.
     fn past<L: Ledger>(&self, at: NodeNo, entry: (i128, u32), steps: &mut Steps<L>) -> Option<Gap>
         requires { IsIn at self.now.order }
-        ensures past { IfSome result (λ g. (g ≡ gap_behind self.now at) × (rank_order (entry_of (at_place self.now at)) entry ≡ Less)) }
-        ensures not { IfNone result (is_lt (rank_order (entry_of (at_place self.now at)) entry) ≡ false) }
+        ensures past { IfSome result (λ g. (g ≡ gap_behind self.now at)
+            × (rank_order (entry_of (at_place self.now at)) entry ≡ Less)) }
+        ensures not { IfNone result
+            (is_lt (rank_order (entry_of (at_place self.now at)) entry) ≡ false) }
         ensures step { steps.new ≡ steps.old + 1 }
     {
         let node = self.read(at, steps);
@@ -212,8 +214,10 @@ impl Nodes {
     ) -> Option<Gap>
         requires { IsBehind self.now entry gap }
         ensures gap { IfSome result (λ g. IsGap self.now entry g) }
-        ensures tight { next ≡ account_of_place self.now gap.next → IsAhead self.now entry gap → IsSome result }
+        ensures tight { next ≡ account_of_place self.now gap.next → IsAhead self.now entry gap
+            → IsSome result }
         ensures steps { steps.new ≤ steps.old + 1 }
+        ensures least { steps.old ≤ steps.new }
     {
         match gap.next {
             Some(at) => {
@@ -233,6 +237,7 @@ impl Nodes {
         requires { key_in (entries self.now) entry.1 ≡ None }
         ensures gap { IsGap self.now entry result }
         ensures steps { steps.new ≤ steps.old + length self.now.order }
+        ensures least { steps.old ≤ steps.new }
     {
         let mut gap = self.front();
         while let Some(further) = self.turn(gap, entry, steps) {
@@ -245,13 +250,14 @@ impl Nodes {
     fn turn<L: Ledger>(&self, gap: Gap, entry: (i128, u32), steps: &mut Steps<L>) -> Option<Gap>
         requires absent { key_in (entries self.now) entry.1 ≡ None }
         requires behind { IsBehind self.now entry gap }
-        ensures on { IfSome result (λ further. (b : IsBehind self.now entry gap) → (c : IsBehind self.now entry further) × (length c.front ≡ length b.front + 1)) }
+        ensures on { IfSome result (λ further. IsFurther self.now entry gap further) }
         ensures stop { IfNone result (IsAhead self.now entry gap) }
         ensures step { IfSome result (λ _. steps.new ≡ steps.old + 1) }
         ensures steps { steps.new ≤ steps.old + 1 }
+        ensures least { steps.old ≤ steps.new }
         ensures ended { gap.next ≡ None → steps.new ≡ steps.old }
     {
-        let _ = &self.first;
+        let _ = &self.cells;
         match gap.next {
             Some(at) => self.past(at, entry, steps),
             None => None,
@@ -260,51 +266,54 @@ impl Nodes {
 
     // ---- changes
 
-    /// Room for so many more entries, in all three. The entries stay.
+    /// Room for so many more entries. The entries stay.
     pub(crate) fn reserve(&mut self, more: usize) -> Result<(), NoMemory>
         ensures same { entries self.new ≡ entries self.old }
         ensures room { OnOk result (more ≤ self.new.room) }
         ensures kept { self.old.room ≤ self.new.room }
         ensures had { more ≤ self.old.room → IsOk result }
     {
-        let listed = self.nodes.len() - self.free.len();
+        let listed = self.cells.used();
         if more <= self.most - listed {
-            // Where there is memory, also beside the marked rows, which else would go as soon as the rows are full.
-            let _ = self.pairs.reserve(more);
+            // There is room already. But marked rows may take it up, and would all go when it is
+            // used, which takes time. So room beside them is asked for; without memory for it, the
+            // room that there is serves.
+            let _ = self.accounts.reserve(more);
             return Ok(());
         }
         if more > u32::MAX as usize - listed {
             return Err(NoMemory);
         }
-        if self.nodes.reserve(more).is_err() || self.free.reserve(listed + more).is_err() {
-            return Err(NoMemory);
-        }
-        self.pairs.reserve(more)?;
+        self.cells.reserve(more, listed + more)?;
+        self.accounts.reserve(more)?;
         self.most = listed + more;
         Ok(())
     }
 
-    /// Puts an entry where it belongs.
+    /// Puts an entry where it belongs. Finding an account's place, looking at a node and changing
+    /// the list are a step each.
     pub(crate) fn put<L: Ledger>(&mut self, key: i128, id: u32, hint: &Hint, steps: &mut Steps<L>)
         requires absent { key_in (entries self.old) id ≡ None }
         requires room { 1 ≤ self.old.room }
         ensures list { entries self.new ≡ with_ranked (entries self.old) (key, id) }
         ensures room { self.new.room + 1 ≡ self.old.room }
-        ensures tight { IsTight (entries self.old) (key, id) hint.now.prev hint.now.next → steps.new ≤ steps.old + 4 }
+        ensures tight { IsTight (entries self.old) (key, id) hint.now.prev hint.now.next
+            → steps.new ≤ steps.old + 4 }
         ensures any { steps.new ≤ steps.old + (length (entries self.old) + 4) }
+        ensures least { steps.old + 1 ≤ steps.new }
     {
         let gap = self.gap((key, id), hint, steps);
-        steps.tick();
-        self.put_between(key, id, gap);
+        self.put_between(key, id, gap, steps);
     }
 
     // Puts an entry into the gap into which it belongs.
-    fn put_between(&mut self, key: i128, id: u32, gap: Gap)
+    fn put_between<L: Ledger>(&mut self, key: i128, id: u32, gap: Gap, steps: &mut Steps<L>)
         requires absent { key_in (entries self.old) id ≡ None }
         requires room { 1 ≤ self.old.room }
         requires gap { IsGap self.old (key, id) gap }
         ensures list { entries self.new ≡ with_ranked (entries self.old) (key, id) }
         ensures room { self.new.room + 1 ≡ self.old.room }
+        ensures step { steps.new ≡ steps.old + 1 }
     {
         let node = Node {
             key,
@@ -312,38 +321,35 @@ impl Nodes {
             previous: gap.previous,
             next: gap.next,
         };
-        let at = settle(&mut self.nodes, &mut self.free, node);
-        self.pairs.put(id, at);
-        join(
-            &mut self.nodes,
-            &mut self.first,
-            &mut self.last,
-            gap,
-            Some(at),
-            Some(at),
-        );
+        let at = self.cells.link(node, steps);
+        self.accounts.put(id, at);
     }
 
-    /// Takes an account's entry out.
-    pub(crate) fn take(&mut self, id: u32)
+    /// Takes an account's entry out, in two steps: its place is found, and the list is changed.
+    fn take<L: Ledger>(&mut self, id: u32, steps: &mut Steps<L>)
         requires there { IsSome (key_in (entries self.old) id) }
         ensures list { entries self.new ≡ without_ranked (entries self.old) id }
         ensures room { self.new.room ≡ self.old.room + 1 }
+        ensures steps { steps.new ≡ steps.old + 2 }
     {
-        let at = self.pairs.take(id);
-        let Node { previous, next, .. } = self.nodes[at.0 as usize];
-        self.free.push_reserved(at);
-        join(
-            &mut self.nodes,
-            &mut self.first,
-            &mut self.last,
-            Gap { previous, next },
-            next,
-            previous,
-        );
+        let at = self.accounts.take(id, steps);
+        self.cells.unlink(at, steps);
     }
 
-    // ---- reading, with steps counted for themselves
+    // ---- with steps counted for themselves
+
+    /// Takes an account's entry out.
+    pub(crate) fn remove<L: Ledger>(&mut self, id: u32, blank: Blank)
+        requires there { IsSome (key_in (entries self.old) id) }
+        requires name { blank.name ≡ L.name }
+        requires parts { blank.parts ≡ L.parts }
+        requires one { L.parts ≡ 1 }
+        ensures list { entries self.new ≡ without_ranked (entries self.old) id }
+        ensures room { self.new.room ≡ self.old.room + 1 }
+    {
+        let mut steps = Steps::<L>::new(blank);
+        self.take(id, &mut steps);
+    }
 
     /// The account of the last entry.
     pub(crate) fn end<L: Ledger>(&self, blank: Blank) -> Option<u32>
@@ -353,7 +359,7 @@ impl Nodes {
         ensures { result ≡ last_account (entries self.now) }
     {
         let mut steps = Steps::<L>::new(blank);
-        let last = self.last?;
+        let last = self.cells.last()?;
         Some(self.read(last, &mut steps).account)
     }
 
@@ -366,7 +372,7 @@ impl Nodes {
         ensures { result ≡ before_in (entries self.now) id }
     {
         let mut steps = Steps::<L>::new(blank);
-        let _ = &self.first;
+        let _ = &self.cells;
         let at = self.at(id, &mut steps)?;
         let previous = self.read(at, &mut steps).previous?;
         Some(self.read(previous, &mut steps).account)

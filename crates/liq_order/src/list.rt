@@ -11,8 +11,8 @@ use std::alloc::Global;
 use std::marker::{Brand, Model};
 use std::sync::ledger::{Blank, Ledger};
 
-/// The accounts that have a trove, in ascending order of their keys and, where keys are equal, of their accounts. The last
-/// one counts as that of the lowest ratio.
+/// The accounts that have a trove, in ascending order of their keys and, where keys are equal, of
+/// their accounts. The last one counts as that of the lowest ratio.
 pub struct Order {
     nodes: Nodes,
 }
@@ -43,8 +43,8 @@ impl Order {
         }
     }
 
-    /// The list of these keys and accounts, in whatever order they are. No account may be there twice. `NoMemory` where there
-    /// is no memory for them, or where they are more than 2^32 - 1.
+    /// The list of these keys and accounts, in whatever order they are. No account may be there
+    /// twice. `NoMemory` where there is no memory for them, or where they are more than 2^32 - 1.
     pub fn from_ranked(alloc: Global, mut pairs: Vec<(i128, u32)>) -> Result<Order, NoMemory>
         requires { AreDistinct pairs.items }
         ensures { IfOk result (λ order. order.entries ≡ sorted pairs.items) }
@@ -54,9 +54,9 @@ impl Order {
         Ok(Order { nodes })
     }
 
-    /// Makes room for so many more entries, so that [`Order::insert`] takes no memory. The list stays, also where there is
-    /// no memory; room that there was stays too, and where it was enough none is wanted. There is room for 2^32 - 1
-    /// entries in all, and none for more.
+    /// Makes room for so many more entries, so that [`Order::insert`] takes no memory. The list
+    /// stays, also where there is no memory; room that there was stays too, and where it was enough
+    /// this does not fail. There is room for 2^32 - 1 entries in all, and none for more.
     pub fn reserve(&mut self, more: usize) -> Result<(), NoMemory>
         ensures same { self.new.entries ≡ self.old.entries }
         ensures room { OnOk result (more ≤ self.new.room) }
@@ -66,15 +66,19 @@ impl Order {
         self.nodes.reserve(more)
     }
 
-    /// Puts an account into the list under its key. The hint changes nothing but the steps: with a tight one there are four at
-    /// most, with any other one as many more as there are entries.
+    /// Puts an account into the list under its key. The hint changes nothing but the steps: with a
+    /// tight one there are four at most, with any other one as many more as there are entries. A
+    /// step is to find an account's place, to look at a node, or to change the list, and no node
+    /// is seen or changed without one.
     pub fn insert<L: Ledger>(&mut self, key: i128, id: u32, hint: &Hint, steps: &mut Steps<L>)
         requires absent { key_in self.old.entries id ≡ None }
         requires room { 1 ≤ self.old.room }
         ensures list { self.new.entries ≡ with_ranked self.old.entries (key, id) }
         ensures room { self.new.room + 1 ≡ self.old.room }
-        ensures tight { IsTight self.old.entries (key, id) hint.now.prev hint.now.next → steps.new ≤ steps.old + 4 }
+        ensures tight { IsTight self.old.entries (key, id) hint.now.prev hint.now.next
+            → steps.new ≤ steps.old + 4 }
         ensures any { steps.new ≤ steps.old + (length self.old.entries + 4) }
+        ensures least { steps.old + 1 ≤ steps.new }
     {
         self.nodes.put(key, id, hint, steps);
     }
@@ -85,7 +89,7 @@ impl Order {
         ensures list { self.new.entries ≡ without_ranked self.old.entries id }
         ensures room { self.new.room ≡ self.old.room + 1 }
     {
-        self.nodes.take(id);
+        self.nodes.remove::<Brand>(id, Blank::new(1));
     }
 
     /// The last account of the list: `None` exactly where the list is empty.
@@ -110,8 +114,8 @@ impl Order {
         self.nodes.key_of::<Brand>(id, Blank::new(1))
     }
 
-    /// The nodes of the list. Going along from the first one visits just the entries in their order, and each visited node's
-    /// previous place is the one that was visited before it.
+    /// The nodes of the list. Going along from the first one visits just the entries in their
+    /// order, and each visited node's previous place is the one that was visited before it.
     pub fn nodes(&self) -> &Nodes
         ensures entries { entries result.now ≡ self.now.entries }
         ensures visits { Visits result.now (first_or None result.now.order) None self.now.entries }

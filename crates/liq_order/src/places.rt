@@ -25,7 +25,12 @@ pub struct Node {
 impl Node {
     /// An entry's node between two places.
     pub(crate) fn of(entry: (i128, u32), previous: Option<NodeNo>, next: Option<NodeNo>) -> Node
-        ensures { result ≡ record { key = entry.0; account = entry.1; previous = previous; next = next } }
+        ensures { result ≡ record {
+          key = entry.0;
+          account = entry.1;
+          previous = previous;
+          next = next;
+        } }
     {
         Node {
             key: entry.0,
@@ -35,7 +40,8 @@ impl Node {
         }
     }
 
-    /// Whether the node's entry stands nearer the front than this one. Mostly the keys alone say it.
+    /// Whether the node's entry stands nearer the front than this one. Mostly the keys alone say
+    /// it.
     pub(crate) fn is_before(&self, entry: (i128, u32)) -> bool
         ensures { result ≡ is_lt (rank_order (entry_of self.now) entry) }
     {

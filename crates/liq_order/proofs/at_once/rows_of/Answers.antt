@@ -1,8 +1,8 @@
 use Rattle.std.proofs.Common.{List, pos, ap, ◌∙◌, arith}
 use Rattle.std.proofs.lemmas.List.{take_all}
 use Rattle.liq_types.specs.Ranked.{Ranked}
-use Rattle.liq_order.specs.Chained.{paired}
-use Rattle.liq_order.proofs.Chained.{paired_next}
+use Rattle.liq_order.specs.Chained.{rows_from}
+use Rattle.liq_order.proofs.Chained.{rows_from_next}
 use Rattle.liq_order.proofs.at_once.rows_of.Goals as goal
 
 pub push_reserved-requires : goal.push_reserved-requires
@@ -12,10 +12,10 @@ pub loop-at-preserved : goal.loop-at-preserved
 loop-at-preserved c = record {
   rows =
       c.push_reserved.ensures.items
-      ∙ paired_next c.loop-at.at c.args.entries.now (pos 0, 0) (omega (arith, c.loop-at-test.true, c.loop-at.auto.at-end)) c.loop-at.rows.items c.loop-at.invariant.rows;
+      ∙ rows_from_next c.loop-at.at c.args.entries.now (pos 0, 0) (omega (arith, c.loop-at-test.true, c.loop-at.auto.at-end)) c.loop-at.rows.items c.loop-at.invariant.rows;
   count = omega (arith, c.push_reserved.ensures.len, c.loop-at.invariant.count);
   room = omega (arith, c.push_reserved.ensures.capacity, c.loop-at.invariant.room);
 }
 
 pub returns : goal.returns
-returns c = c.loop-at.invariant.rows ∙ ap (λ (es : List Ranked). paired 0 es) (take_all c.loop-at.at c.args.entries.now (omega (arith, c.loop-at-test.false, c.loop-at.auto.at-end)))
+returns c = c.loop-at.invariant.rows ∙ ap (λ (es : List Ranked). rows_from 0 es) (take_all c.loop-at.at c.args.entries.now (omega (arith, c.loop-at-test.false, c.loop-at.auto.at-end)))

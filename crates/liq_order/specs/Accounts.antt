@@ -1,4 +1,5 @@
--- The places of accounts, as rows in ascending accounts. The row of an account that left is marked.
+-- The places of accounts, as rows in ascending accounts. The row of an account that left is marked:
+-- it has, in place of a place, one that no node has.
 use Rattle.std.specs.Prelude.{◌≡◌, ℕ, ◌+◌, ◌<◌, ◌≤◌, ◌/◌, Bool, true, false, List, [], ◌∷◌, length, if◌then◌else◌, ◌==◌, slice_index_or, Some, None, Option}
 use Rattle.std.specs.List.{count_by}
 use Rattle.liq_order.specs.declared.places.NodeNo.{NodeNo}
@@ -8,15 +9,16 @@ abbrev pub Row : Type 0
 Row = ℕ × NodeNo
 
 -- so many rows are marked, and so many more accounts can get a place without memory
-pub record Paired : Type 0 where
+pub record Rows : Type 0 where
   pub rows : List Row
   pub marked : ℕ
   pub room : ℕ
 
--- a place that no node has
+-- what a marked row has: a place that no node has
 abbrev pub mark : ℕ
 mark = 4294967295
 
+-- a row's place: none where the row is marked
 abbrev pub unless_marked : NodeNo → Option NodeNo
 unless_marked place = if place.0 == mark then None else Some place
 
@@ -25,13 +27,23 @@ abbrev pub row_of : List Row → ℕ → Option NodeNo
 row_of [] account = None
 row_of (row ∷ rows) account = if row.0 == account then Some row.1 else row_of rows account
 
-abbrev pub place_if : Option NodeNo → Option NodeNo
-place_if None = None
-place_if (Some place) = unless_marked place
+-- the same of a row that may be missing
+abbrev pub place_unless_marked : Option NodeNo → Option NodeNo
+place_unless_marked None = None
+place_unless_marked (Some place) = unless_marked place
 
 -- where the row is marked, the account has no place
-abbrev pub place_of : Paired → ℕ → Option NodeNo
-place_of p account = place_if (row_of p.rows account)
+abbrev pub place_of : Rows → ℕ → Option NodeNo
+place_of p account = place_unless_marked (row_of p.rows account)
+
+-- no account's place changes
+abbrev pub SamePlaces : Rows → Rows → Type 0
+SamePlaces old new = (account : ℕ) → place_of new account ≡ place_of old account
+
+-- the account's place is this one, or it has none, and no other place changes
+abbrev pub PlacesWith : Rows → ℕ → Option NodeNo → Rows → Type 0
+PlacesWith old account place new =
+    (a : ℕ) → place_of new a ≡ (if account == a then place else place_of old a)
 
 abbrev pub is_marked : Row → Bool
 is_marked row = row.1.0 == mark
@@ -47,7 +59,7 @@ account_at rows i = let row = slice_index_or rows i (0, record { 0 = 0 }) in row
 abbrev pub IsStrict : List Row → Type 0
 IsStrict rows = (i j : ℕ) → i < j → j < length rows → account_at rows i < account_at rows j
 
-pub record IsPairAt (rows : List Row) (account i : ℕ) : Type 0 where
+pub record IsRowAt (rows : List Row) (account i : ℕ) : Type 0 where
   pub in_range : i < length rows
   pub has_account : account_at rows i ≡ account
 
@@ -57,8 +69,8 @@ pub record IsGapFor (rows : List Row) (account i : ℕ) : Type 0 where
   pub smaller_before : (j : ℕ) → j < i → account_at rows j < account
   pub greater_after : (j : ℕ) → i ≤ j → j < length rows → account < account_at rows j
 
--- no more than a quarter is marked, and one row
-pub record IsPaired (rows : List Row) (marked : ℕ) : Type 0 where
+-- Rows in ascending accounts, of which so many are marked: a quarter of them at most, and one more.
+pub record AreRows (rows : List Row) (marked : ℕ) : Type 0 where
   pub strict : IsStrict rows
   pub counted : marked ≡ count_by is_marked rows
   pub few : marked ≤ length rows / 4 + 1

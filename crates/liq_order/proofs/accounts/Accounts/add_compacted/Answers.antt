@@ -1,6 +1,6 @@
 use Rattle.std.proofs.Common.{◌∙◌, arith}
 use Rattle.liq_order.proofs.Marks.{marked_row, some_marked}
-use Rattle.liq_order.proofs.accounts.Pairs.add_compacted.Goals as goal
+use Rattle.liq_order.proofs.accounts.Accounts.add_compacted.Goals as goal
 
 pub unreachable-requires : goal.unreachable-requires
 unreachable-requires c =
