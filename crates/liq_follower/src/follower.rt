@@ -164,8 +164,7 @@ impl Follower {
         requires inside { self.old.phase ≡ phase.Inside }
         requires room { length self.old.held + length piece.now < 128 }
         ensures at { (bytes : List ℕ) → IsAt bytes self.old → IsAt (bytes ++ piece.now) self.new }
-        ensures inside { self.new.phase ≡ phase.Inside }
-        ensures taken { self.new.taken ≡ self.old.taken }
+        ensures added { self.new ≡ record self.old { held = self.old.held ++ piece.now } }
     {
         self.held.extend(piece);
     }
@@ -202,9 +201,9 @@ impl Follower {
 
     // Counts bytes that were taken.
     fn tally(&mut self, count: usize)
-        ensures at { (bytes : List ℕ) → IsAt bytes self.old → IsAt bytes self.new }
-        ensures phase { self.new.phase ≡ self.old.phase }
-        ensures taken { self.new.taken ≡ min (self.old.taken + count) (2 ^ 64 - 1) }
+        ensures { self.new ≡ record self.old {
+          taken = min (self.old.taken + count) (2 ^ 64 - 1);
+        } }
     {
         self.taken = self.taken.saturating_add(count as u64);
     }
@@ -212,9 +211,9 @@ impl Follower {
     // The same for bytes after which the count isn't at its last value: an addition and no more.
     fn tally_few(&mut self, count: usize)
         requires few { self.old.taken + count < 2 ^ 64 }
-        ensures at { (bytes : List ℕ) → IsAt bytes self.old → IsAt bytes self.new }
-        ensures phase { self.new.phase ≡ self.old.phase }
-        ensures taken { self.new.taken ≡ min (self.old.taken + count) (2 ^ 64 - 1) }
+        ensures { self.new ≡ record self.old {
+          taken = min (self.old.taken + count) (2 ^ 64 - 1);
+        } }
     {
         self.taken += count as u64;
     }

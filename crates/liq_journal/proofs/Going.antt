@@ -4,8 +4,8 @@ use Rattle.std.specs.Prelude.{◌↔◌}
 use Rattle.liq_outside.specs.At.{DiskAt}
 use Rattle.liq_outside.specs.Disk.{Looked}
 use Rattle.liq_outside.specs.Faults.{HasCause}
-use Rattle.liq_outside.proofs.Moments.{joined}
-use Rattle.liq_journal.specs.Called.{Called}
+use Rattle.liq_outside.proofs.Moments.{joined, unmoved}
+use Rattle.liq_journal.specs.Called.{Called, Lasts}
 
 -- what it tells is there as before
 pub telling_on : (first mid last : Option (List ℕ)) → (IsSome mid ↔ IsSome first) → (IsSome last ↔ IsSome mid) → (IsSome last ↔ IsSome first)
@@ -18,12 +18,29 @@ telling_same first last same = subst (λ (o : Option (List ℕ)). IsSome o ↔ I
 pub cause_on : {T E : Type 0} (first mid last : ℕ) (result : Result T E) → mid ≡ first → HasCause mid last result → HasCause first last result
 cause_on first mid last result same cause = subst (λ (n : ℕ). HasCause n last result) same cause
 
+-- before the first call
+pub lasts_none : {D : Type 0} (at : D → DiskAt) (disk : D) → Lasts at disk disk
+lasts_none at disk = record { telling = ((λ is. is), (λ is. is)); time = unmoved at disk }
+
+-- calls behind others
+pub lasts_on : {D : Type 0} (at : D → DiskAt) (first mid last : D) → Lasts at first mid → Lasts at mid last → Lasts at first last
+lasts_on at first mid last one two = record {
+  telling = telling_on (at first).seen (at mid).seen (at last).seen one.telling two.telling;
+  time = joined at first mid last one.time two.time;
+}
+
+-- calls that only looked
+pub lasts_looked : {D : Type 0} (at : D → DiskAt) (old new : D) → Looked at old new → Lasts at old new
+lasts_looked at old new looked = record {
+  telling = telling_same (at old).seen (at new).seen looked.same;
+  time = looked.leaves.goes_on;
+}
+
 -- calls behind some that met no fault
 pub called_on : {D S T E F : Type 0} (at : D → DiskAt) (first mid last : D) (before : Result S F) (result : Result T E)
     → Called at first mid before → (at mid).faults ≡ (at first).faults → Called at mid last result → Called at first last result
 called_on at first mid last before result one same two = record {
-  telling = telling_on (at first).seen (at mid).seen (at last).seen one.telling two.telling;
-  time = joined at first mid last one.time two.time;
+  lasts = lasts_on at first mid last one.lasts two.lasts;
   cause = cause_on (at first).faults (at mid).faults (at last).faults result same two.cause;
 }
 
@@ -31,8 +48,7 @@ called_on at first mid last before result one same two = record {
 pub called_behind : {D T E : Type 0} (at : D → DiskAt) (first mid last : D) (result : Result T E)
     → Looked at first mid → (at mid).faults ≡ (at first).faults → Called at mid last result → Called at first last result
 called_behind at first mid last result looked same calls = record {
-  telling = telling_on (at first).seen (at mid).seen (at last).seen (telling_same (at first).seen (at mid).seen looked.same) calls.telling;
-  time = joined at first mid last looked.leaves.goes_on calls.time;
+  lasts = lasts_on at first mid last (lasts_looked at first mid looked) calls.lasts;
   cause = cause_on (at first).faults (at mid).faults (at last).faults result same calls.cause;
 }
 

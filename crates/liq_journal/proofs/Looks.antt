@@ -14,6 +14,7 @@ module _ {D : Type 0} (at : D → DiskAt) where
   pub looked_none : (old : D) → Looked at old old
   looked_none old = record {
     same = refl;
+    moment = refl;
     within = λ image left. left;
     keeps = λ image left. left;
     leaves = started at old (LeftNow at old) (λ image left. left);
@@ -22,6 +23,7 @@ module _ {D : Type 0} (at : D → DiskAt) where
   pub looked_on : (old mid new : D) → Looked at old mid → Looked at mid new → Looked at old new
   looked_on old mid new first second = record {
     same = second.same ∙ first.same;
+    moment = second.moment ∙ first.moment;
     within = λ image left. first.within image (second.within image left);
     keeps = λ image left. second.keeps image (first.keeps image left);
     leaves = chained at old mid new (LeftNow at old) first.leaves (weaker at mid new (LeftNow at mid) (LeftNow at old) second.leaves first.within);

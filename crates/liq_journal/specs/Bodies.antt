@@ -22,17 +22,20 @@ body_at start index = start + 129 * (index - 1) + 1
 abbrev pub IsRecorded : Written → ℕ → Command → Type 0
 IsRecorded w index command = slice_get w.commands (index - 1) ≡ Some command
 
--- The body of the accepted record of this number: it stands in its place, and spells the record's command.
-pub record IsAccepted (start : ℕ) (bytes : List ℕ) (w : Written) (index : ℕ) (body : List ℕ) : Type 0 where
+-- The body of the accepted record of this number: it stands in its place, and spells the record's
+-- command.
+pub record IsAccepted
+    (start : ℕ) (bytes : List ℕ) (w : Written) (index : ℕ) (body : List ℕ) : Type 0 where
   pub there : body ≡ piece (body_at start index) 96 bytes
   pub command : Command
   pub recorded : IsRecorded w index command
   pub spelled : IsBodyOf body command
 
--- Why there is no body at this place: the bytes of the record have another digest than the one behind them, or are no
--- command.
+-- Why there is no body at this place: the bytes of the record have another digest than the one
+-- behind them, or are no command.
 abbrev pub IsBodyFault : ℕ → ℕ → ℕ → LookFault → Type 0
 IsBodyFault generation index place fault.DiskFault = Unit {0}
 IsBodyFault generation index place (fault.Damaged damage) =
     (damage.index ≡ index)
-    × ((raw : List ℕ) × (length raw ≡ 128) × (record_on generation index place raw ≡ Err damage.what))
+    × ((raw : List ℕ) × (length raw ≡ 128)
+    × (record_on generation index place raw ≡ Err damage.what))

@@ -12,11 +12,17 @@ pub record AreRecords (generation start : ℕ) (held : List ℕ) (count : ℕ) :
   pub counted : length commands ≡ count
   pub found : (limit : ℕ) → (checkpoint : List ℕ)
       → found_records generation limit checkpoint 1 start (records most_records (drop start held))
-      ≡ Open (record { generation = generation; limit = limit; checkpoint = checkpoint; commands = commands })
+      ≡ Open (record {
+        generation = generation;
+        limit = limit;
+        checkpoint = checkpoint;
+        commands = commands;
+      })
 
 -- the first fault of them
 abbrev pub IsFaultIn : ℕ → ℕ → List ℕ → LookFault → Type 0
 IsFaultIn generation start held fault.DiskFault = Unit {0}
 IsFaultIn generation start held (fault.Damaged damage) =
     (limit : ℕ) → (checkpoint : List ℕ)
-    → found_records generation limit checkpoint 1 start (records most_records (drop start held)) ≡ Damaged damage
+    → found_records generation limit checkpoint 1 start (records most_records (drop start held))
+    ≡ Damaged damage

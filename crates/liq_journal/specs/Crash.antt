@@ -54,8 +54,8 @@ abbrev pub beginning : ℕ → List ℕ → Written
 beginning generation checkpoint =
     record { generation = generation; limit = LIM; checkpoint = checkpoint; commands = [] }
 
--- A stop within a creation leaves nothing that is open, or what was there, with some byte at place 0 where no 0 is, or
--- what is made, with any byte there.
+-- A stop within a creation leaves nothing that is open, or what was there, with some byte at place
+-- 0 where no 0 is, or what is made, with any byte there.
 abbrev pub CreateLeaves : Bool → List ℕ → Written → List ℕ → Type 0
 CreateLeaves odd held w bytes = IsClosed bytes
     ⊎ (SettleLeaves 0 held bytes ⊎ Stands odd (opened 0 bytes) w)
@@ -71,7 +71,8 @@ filled layout generation checkpoint held =
     let with_checkpoint = overwritten with_header (header_size layout) checkpoint in
     overwritten with_checkpoint (header_size layout + length checkpoint) (0 ∷ [])
 
--- what a crash may leave of a disk on which a journal is created, whose content is told and on the disk
+-- what a crash may leave of a disk on which a journal is created, whose content is told and on the
+-- disk
 abbrev pub CrashOfCreate : {D : Type 0} → (D → DiskAt) → D → D → ℕ → List ℕ → Type 0
 CrashOfCreate at old new generation checkpoint =
     (held : List ℕ) → (at old).seen ≡ Some held → Only held (LeftNow at old)

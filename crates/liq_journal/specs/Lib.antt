@@ -1,5 +1,6 @@
 pub mod Bodies
 pub mod Called
+pub mod Calls
 pub mod Causes
 pub mod Counted
 pub mod Crash

@@ -27,7 +27,8 @@ pub record IsScanOf (odd : Bool) (held : List ℕ) (scanned : Scanned) : Type 0 
   pub start_is : start_of written ≡ scanned.start
   pub count_is : length written.commands ≡ scanned.count
 
--- Why nothing was opened. Memory is wanting only where a look finds no fault, in the header and the digest over its checkpoint.
+-- Why nothing was opened. Memory is wanting only where a look finds no fault, in the header and the
+-- digest over its checkpoint.
 abbrev pub IsWhyOf : Bool → List ℕ → OpenWhy → Type 0
 IsWhyOf odd held why.Absent = found_on odd held ≡ Absent
 IsWhyOf odd held why.DiskFault = Unit {0}
@@ -39,8 +40,8 @@ pub record IsUnshut (bytes : List ℕ) : Type 0 where
   pub there : 0 < length bytes
   pub isnt : get_or bytes 0 0 ≡ 0 → ⊥
 
--- The byte that an opening shuts: behind the records where no 0 is there, and at place 0 of a disk on
--- which none is open where it is there and isn't 0.
+-- The byte that an opening shuts: behind the records where no 0 is there, and at place 0 of a disk
+-- on which none is open where it is there and isn't 0.
 abbrev pub IsUnsettled : Bool → List ℕ → ℕ → Type 0
 IsUnsettled odd held place =
     ((w : Written) × (found_on odd held ≡ Open w) × (place ≡ end_of w) × (HasGate place held → ⊥))

@@ -10,4 +10,5 @@ begins_whole bytes = (get_or bytes 0 0 == 1) && nat_lt 128 (length bytes)
 -- bytes are not all there, and no more than `most` of them.
 unfoldable pub records : ℕ → List ℕ → List (List ℕ)
 records zero bytes = []
-records (suc most) bytes = if begins_whole bytes then take 128 (drop 1 bytes) ∷ records most (drop 129 bytes) else []
+records (suc most) bytes =
+    if begins_whole bytes then take 128 (drop 1 bytes) ∷ records most (drop 129 bytes) else []

@@ -17,7 +17,8 @@ IsBodyRead generation index place held body =
 abbrev pub IsFaultRead : ℕ → ℕ → ℕ → List ℕ → LookFault → Type 0
 IsFaultRead generation index place held fault.DiskFault = Unit {0}
 IsFaultRead generation index place held (fault.Damaged damage) =
-    (damage.index ≡ index) × (record_on generation index place (piece place 128 held) ≡ Err damage.what)
+    (damage.index ≡ index)
+    × (record_on generation index place (piece place 128 held) ≡ Err damage.what)
 
 -- the body of the whole record at the place; or there is none
 abbrev pub IsTested : ℕ → ℕ → ℕ → List ℕ → Option (List ℕ) → Type 0

@@ -27,7 +27,8 @@ abbrev pub forms_then : List (Bool × ℕ) → List (Bool × What) → List (Boo
 forms_then [] rest = rest
 forms_then (test ∷ tests) rest = (test.0, Form test.1) ∷ forms_then tests rest
 
--- what has to be behind them: the bytes up to the records have to be there, then the digest has to be right
+-- what has to be behind them: the bytes up to the records have to be there, then the digest has to
+-- be right
 abbrev pub last_tests : Layout → List ℕ → List (Bool × What)
 last_tests layout bytes =
     let stored = stored_on layout bytes in
@@ -95,8 +96,8 @@ most_records = 1000001
 abbrev pub found_behind : Layout → List ℕ → Option What → Found
 found_behind layout bytes (Some what) = Damaged (record { index = 0; what = what })
 found_behind layout bytes None =
-    found_records (generation_on bytes) layout.limit (checkpoint_on layout bytes) 1 (start_on layout bytes)
-    (records most_records (drop (start_on layout bytes) bytes))
+    found_records (generation_on bytes) layout.limit (checkpoint_on layout bytes) 1
+    (start_on layout bytes) (records most_records (drop (start_on layout bytes) bytes))
 
 -- by the tests of this version
 abbrev pub found_in : Layout → Bool → List ℕ → Found

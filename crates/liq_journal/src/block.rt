@@ -14,7 +14,8 @@ use std::marker::Model;
 // As many bytes as 508 records have.
 const BLOCK_BYTES: usize = 508 * RECORD as usize;
 
-/// A part of a disk, read at once, from which records are taken one after the other. A contract sees where it begins, and its bytes.
+/// A part of a disk, read at once, from which records are taken one after the other. A contract
+/// sees where it begins, and its bytes.
 #[derive(Drop)]
 pub struct Block {
     at: u64,
@@ -72,7 +73,8 @@ impl Block {
         Ok(())
     }
 
-    // Sees to it that so many bytes from this place on are in the block, or all that the disk has there.
+    // Sees to it that so many bytes from this place on are in the block, or all that the disk has
+    // there.
     fn reach<D: Disk>(&mut self, disk: &mut D, at: u64, count: usize) -> Result<(), Failed>
         requires few { count ≤ BLOCK_BYTES }
         requires part { IfSome (D.at disk.old).seen (IsPartOf self.old) }
@@ -88,7 +90,8 @@ impl Block {
         self.fill(disk, at)
     }
 
-    // Copies its bytes from a place on into the front of `buf`: what a read of the disk gives, which comes only where it hasn't all of them.
+    // Copies its bytes from a place on into the front of `buf`: what a read of the disk gives,
+    // which comes only where it hasn't all of them.
     pub(crate) fn copy<D: Disk>(
         &mut self,
         disk: &mut D,

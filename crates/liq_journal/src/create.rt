@@ -1,7 +1,9 @@
-// A new journal on a disk: the gate at place 0 is shut, all behind it is written, and then it is opened.
+// A new journal on a disk: the gate at place 0 is shut, all behind it is written, and then it is
+// opened.
 ghost use Rattle.std.specs.Prelude.{◌≡◌, ◌≤◌, ◌+◌, ◌^◌, Some, true, List, ℕ, length, option_map, OnOk, IfSome};
-ghost use Rattle.liq_outside.specs.Disk.{LeavesOnly, LeftNow, Only, overwritten};
+ghost use Rattle.liq_outside.specs.Disk.{IsLater, LeavesOnly, LeftNow, Only, overwritten};
 ghost use Rattle.liq_journal.specs.Called.{Called};
+ghost use Rattle.liq_journal.specs.Calls.{SettledIn, calls_behind, creating_calls};
 ghost use Rattle.liq_journal.specs.Crash.{CrashOfCreate, ReadsOfCreate, IsShut, Stands, beginning, filled};
 ghost use Rattle.liq_header.specs.Header.{is_odd, is_size};
 ghost use Rattle.liq_header.specs.Layout.{version_2};
@@ -20,6 +22,7 @@ pub fn write_behind<D: Disk>(disk: &mut D, at: u64, bytes: &[u8]) -> Result<(), 
         (λ held. overwritten held at bytes.now) (D.at disk.old).seen) }
     ensures crash { ((image : List ℕ) → LeftNow D.at disk.old image → IsShut image)
         → LeavesOnly D.at disk.old disk.new IsShut }
+    ensures calls { OnOk result (IsLater D.at (calls_behind bytes.now) disk.old disk.new) }
     ensures called { Called D.at disk.old disk.new result }
 {
     if bytes.is_empty() {
@@ -28,7 +31,8 @@ pub fn write_behind<D: Disk>(disk: &mut D, at: u64, bytes: &[u8]) -> Result<(), 
     disk.write_at(at, bytes)
 }
 
-// Writes the header of version 2, the checkpoint and the first record's shut gate behind the shut gate, and syncs.
+// Writes the header of version 2, the checkpoint and the first record's shut gate behind the shut
+// gate, and syncs.
 pub fn fill<D: Disk>(disk: &mut D, generation: u64, checkpoint: &[u8]) -> Result<(), Failed>
     requires there { IfSome (D.at disk.old).seen (λ held. 1 ≤ length held) }
     requires limit { length checkpoint.now ≤ 2 ^ 36 }
@@ -38,6 +42,7 @@ pub fn fill<D: Disk>(disk: &mut D, generation: u64, checkpoint: &[u8]) -> Result
         (λ after. Only after (LeftNow D.at disk.new))) }
     ensures crash { ((image : List ℕ) → LeftNow D.at disk.old image → IsShut image)
         → LeavesOnly D.at disk.old disk.new IsShut }
+    ensures calls { OnOk result (IsLater D.at (3 + calls_behind checkpoint.now) disk.old disk.new) }
     ensures called { Called D.at disk.old disk.new result }
 {
     write_behind(disk, 1, &header_bytes(generation, checkpoint))?;
@@ -58,6 +63,8 @@ pub fn make<D: Disk>(disk: &mut D, generation: u64, checkpoint: &[u8]) -> Result
         (λ after. Only after (LeftNow D.at disk.new))) }
     ensures crash { CrashOfCreate D.at disk.old disk.new generation checkpoint.now }
     ensures reads { ReadsOfCreate D.at disk.old disk.new generation checkpoint.now }
+    ensures calls { OnOk result (SettledIn D.at 0 (creating_calls checkpoint.now)
+        disk.old disk.new) }
     ensures called { Called D.at disk.old disk.new result }
 {
     settle(disk, 0)?;

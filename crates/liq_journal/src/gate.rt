@@ -3,6 +3,7 @@ ghost use Rattle.std.specs.Prelude.{◌≡◌, ◌≤◌, ◌<◌, ◌^◌, ◌�
 ghost use Rattle.liq_outside.specs.Disk.{LeavesOnly, LeftNow, Looked, Only};
 ghost use Rattle.liq_outside.specs.Faults.{HasCause};
 ghost use Rattle.liq_journal.specs.Called.{Called};
+ghost use Rattle.liq_journal.specs.Calls.{SettledIn};
 ghost use Rattle.liq_journal.specs.Crash.{HasGate, SettleLeaves};
 
 use crate::bytes::write_synced;
@@ -34,6 +35,7 @@ pub fn settle<D: Disk>(disk: &mut D, place: u64) -> Result<(), Failed>
     ensures crash { (held : List ℕ) → (D.at disk.old).seen ≡ Some held
         → Only held (LeftNow D.at disk.old)
         → LeavesOnly D.at disk.old disk.new (SettleLeaves place held) }
+    ensures calls { OnOk result (SettledIn D.at place 0 disk.old disk.new) }
     ensures called { Called D.at disk.old disk.new result }
 {
     if is_shut(disk, place)? {

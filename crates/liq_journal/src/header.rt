@@ -14,7 +14,8 @@ use crate::reads::{count_bytes, read_at};
 use liq_header::{Head, header_size, is_absent, placed};
 use liq_outside::Disk;
 
-// The header of the disk, if it is open: its fields, which are right, and whose checkpoint is there.
+// The header of the disk, if it is open: its fields, which are right, and whose checkpoint is
+// there.
 pub fn read_header<D: Disk>(disk: &mut D, odd: bool) -> Result<Option<Head>, LookFault>
     ensures looked { Looked D.at disk.old disk.new }
     ensures read { IfOk result (λ head. IfSome (D.at disk.old).seen

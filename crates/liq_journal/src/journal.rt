@@ -4,9 +4,10 @@ ghost use Rattle.std.specs.Result.{MatchResult};
 ghost use Rattle.liq_types.specs.declared.amounts.TheConstants.{LIM};
 ghost use Rattle.liq_types.specs.declared.requests.Command.{Command};
 ghost use Rattle.liq_types.specs.Image.{IsLimit};
-ghost use Rattle.liq_outside.specs.Disk.{GoesOn, LeavesOnly, LeftNow, Looked, Only};
+ghost use Rattle.liq_outside.specs.Disk.{IsLater, LeavesOnly, LeftNow, Looked, Only};
 ghost use Rattle.liq_journal.specs.Bodies.{IsAccepted, IsBodyFault, IsJournalOf, IsRecorded, body_at};
-ghost use Rattle.liq_journal.specs.Called.{Called};
+ghost use Rattle.liq_journal.specs.Called.{Called, Lasts};
+ghost use Rattle.liq_journal.specs.Calls.{SettledIn, creating_calls};
 ghost use Rattle.liq_journal.specs.Causes.{CauseOfOpen, Counted, CountsLook};
 ghost use Rattle.liq_journal.specs.Crash.{BeforeOrAfter, CrashOfCreate, IsBodyOf, ReadsOfCreate, Stands, beginning};
 ghost use Rattle.liq_header.specs.Header.{is_odd, is_generation, is_size};
@@ -33,8 +34,8 @@ use std::mem;
 // A gate byte, 96 bytes of a command and 32 of their digest.
 pub const RECORD: u64 = 129;
 
-/// A journal on a disk. A contract sees the disk, the generation, the limit, the place of the first record's gate
-/// and the number of records.
+/// A journal on a disk. A contract sees the disk, the generation, the limit, the place of the first
+/// record's gate and the number of records.
 #[derive(Drop)]
 pub struct Journal<D> {
     disk: D,
@@ -52,19 +53,26 @@ impl<D> Model for Journal<D> {
 
     ghost Value = { JournalOn D };
 
-    ghost view = { λ j. record { disk = j.disk; generation = j.generation; limit = j.limit; start = j.start; count = j.count } };
+    ghost view = { λ j. record {
+      disk = j.disk;
+      generation = j.generation;
+      limit = j.limit;
+      start = j.start;
+      count = j.count;
+    } };
 
-    // The limit tells the version, and the records begin behind its header and at most 2^36 bytes; a scan counts one record
-    // past the last that may be.
-    ghost invariant = { λ j. (1 ≤ j.generation) × StartsWithin j.limit j.start × (j.count ≤ 1000001) };
+    // The limit tells the version, and the records begin behind its header and at most 2^36 bytes;
+    // a scan counts one record past the last that may be.
+    ghost invariant = { λ j.
+        (1 ≤ j.generation) × StartsWithin j.limit j.start × (j.count ≤ 1000001) };
 }
 
 impl<D: Disk> Journal<D> {
-    /// A new journal of version 2 on this disk, without records. The generation is at least 1, and the checkpoint has
-    /// at most 2^36 bytes, and none exactly in generation 1.
+    /// A new journal of version 2 on this disk, without records. The generation is at least 1, and
+    /// the checkpoint has at most 2^36 bytes, and none exactly in generation 1.
     ///
-    /// A crash in it leaves a disk on which none is open, or the disk as it was, or with another byte at
-    /// place 0, or the new journal, with any byte there until the last sync.
+    /// A crash in it leaves a disk on which none is open, or the disk as it was, or with another
+    /// byte at place 0, or the new journal, with any byte there until the last sync.
     pub fn create(disk: D, generation: u64, checkpoint: &[u8]) -> Result<Journal<D>, CreateFault<D>>
         requires from_one { 1 ≤ generation }
         requires limit { length checkpoint.now ≤ 2 ^ 36 }
@@ -79,9 +87,6 @@ impl<D: Disk> Journal<D> {
             (IsSettled j.generation j.start j.count)) }
         ensures durable { IfOk result (λ j. IfSome (D.at j.disk).seen
             (λ after. Only after (LeftNow D.at j.disk))) }
-        ensures telling { MatchResult result
-            (λ j. IsSome (D.at j.disk).seen ↔ IsSome (D.at disk).seen)
-            (λ e. IsSome (D.at e.disk).seen ↔ IsSome (D.at disk).seen) }
         ensures crash { MatchResult result
             (λ j. CrashOfCreate D.at disk j.disk generation checkpoint.now)
             (λ e. CrashOfCreate D.at disk e.disk generation checkpoint.now) }
@@ -91,9 +96,13 @@ impl<D: Disk> Journal<D> {
             (λ j. ReadsOfCreate D.at disk j.disk generation checkpoint.now)
             (λ e. ReadsOfCreate D.at disk e.disk generation checkpoint.now) }
 
-        ensures time { MatchResult result
-            (λ j. GoesOn D.at disk j.disk)
-            (λ e. GoesOn D.at disk e.disk) }
+        // How many device calls it makes: two fewer where a shut gate was at place 0.
+        ensures calls { IfOk result (λ j. SettledIn D.at 0 (creating_calls checkpoint.now)
+            disk j.disk) }
+
+        ensures lasts { MatchResult result
+            (λ j. Lasts D.at disk j.disk)
+            (λ e. Lasts D.at disk e.disk) }
         ensures cause { MatchResult result
             (λ j. (D.at j.disk).faults ≡ (D.at disk).faults)
             (λ e. Counted (D.at disk).faults (D.at e.disk).faults) }
@@ -111,11 +120,12 @@ impl<D: Disk> Journal<D> {
         }
     }
 
-    /// Begins the next generation on the other disk, of version 2, with this checkpoint and without records. That disk is
-    /// then this journal's, and `beside` is the one that the journal had, as it was. The checkpoint has 1 to 2^36 bytes.
+    /// Begins the next generation on the other disk, of version 2, with this checkpoint and without
+    /// records. That disk is then this journal's, and `beside` is the one that the journal had, as
+    /// it was. The checkpoint has 1 to 2^36 bytes.
     ///
-    /// After `DiskFault` the journal is as it was, on its own disk. A crash leaves of the other disk what one in
-    /// `create` leaves.
+    /// After `DiskFault` the journal is as it was, on its own disk. A crash leaves of the other
+    /// disk what one in `create` leaves.
     pub fn turn(&mut self, beside: &mut D, checkpoint: &[u8]) -> Result<(), DiskFault>
         requires more { self.old.generation + 1 < 2 ^ 64 }
         requires limit { length checkpoint.now ≤ 2 ^ 36 }
@@ -137,9 +147,6 @@ impl<D: Disk> Journal<D> {
             (IsSettled self.new.generation self.new.start self.new.count)) }
         ensures durable { OnOk result (IfSome (D.at self.new.disk).seen
             (λ after. Only after (LeftNow D.at self.new.disk))) }
-        ensures telling { MatchResult result
-            (λ _. IsSome (D.at self.new.disk).seen ↔ IsSome (D.at beside.old).seen)
-            (λ _. IsSome (D.at beside.new).seen ↔ IsSome (D.at beside.old).seen) }
         ensures crash { MatchResult result
             (λ _. CrashOfCreate D.at beside.old self.new.disk
             (self.old.generation + 1) checkpoint.now)
@@ -153,9 +160,13 @@ impl<D: Disk> Journal<D> {
             (λ _. ReadsOfCreate D.at beside.old beside.new
             (self.old.generation + 1) checkpoint.now) }
 
-        ensures time { MatchResult result
-            (λ _. GoesOn D.at beside.old self.new.disk)
-            (λ _. GoesOn D.at beside.old beside.new) }
+        // It makes as many device calls as `create`.
+        ensures calls { OnOk result (SettledIn D.at 0 (creating_calls checkpoint.now)
+            beside.old self.new.disk) }
+
+        ensures lasts { MatchResult result
+            (λ _. Lasts D.at beside.old self.new.disk)
+            (λ _. Lasts D.at beside.old beside.new) }
         ensures cause { MatchResult result
             (λ _. (D.at self.new.disk).faults ≡ (D.at beside.old).faults)
             (λ _. Counted (D.at beside.old).faults (D.at beside.new).faults) }
@@ -170,12 +181,13 @@ impl<D: Disk> Journal<D> {
         Ok(())
     }
 
-    /// Opens the journal of a disk, of either version, and gives the checkpoint's bytes; `odd` says whether
-    /// this disk has the odd generations. It begins with a sync, tests all of the disk, and shuts the byte
-    /// behind the last whole record, or place 0 of a disk on which none is open.
+    /// Opens the journal of a disk, of either version, and gives the checkpoint's bytes; `odd` says
+    /// whether this disk has the odd generations. It begins with a sync, tests all of the disk, and
+    /// shuts the byte behind the last whole record, or place 0 of a disk on which none is open.
     ///
-    /// `Absent` comes where none is open, `Damaged` with the disk's first fault, `NoMemory` for want of it. Memory is asked for only
-    /// behind a sound header and the right digest over its checkpoint, so want of it never stands for damage of these.
+    /// `Absent` comes where none is open, `Damaged` with the disk's first fault, `NoMemory` for
+    /// want of it. Memory is asked for only behind a sound header and the right digest over its
+    /// checkpoint, so want of it never stands for damage of these.
     pub fn open(alloc: Global, disk: D, odd: bool) -> Result<(Journal<D>, Vec<u8>), OpenFault<D>>
         ensures found { IfOk result (λ r. IfSome (D.at disk).seen
             (λ held. IsOpened odd held r.0.generation r.0.limit r.0.start r.0.count r.1.items)) }
@@ -194,18 +206,15 @@ impl<D: Disk> Journal<D> {
             → IfSome (D.at e.disk).seen (λ after. IsUnshut after → ⊥)) }
         ensures at_rest { IfErr result (λ e. IsAtRest e.why
             → IfSome (D.at e.disk).seen (λ after. Only after (LeftNow D.at e.disk))) }
-        ensures telling { MatchResult result
-            (λ r. IsSome (D.at r.0.disk).seen ↔ IsSome (D.at disk).seen)
-            (λ e. IsSome (D.at e.disk).seen ↔ IsSome (D.at disk).seen) }
         ensures crash { MatchResult result
             (λ r. CrashOfOpen D.at disk r.0.disk odd)
             (λ e. CrashOfOpen D.at disk e.disk odd) }
         ensures reads { MatchResult result
             (λ r. ReadsOfOpen D.at disk r.0.disk odd)
             (λ e. ReadsOfOpen D.at disk e.disk odd) }
-        ensures time { MatchResult result
-            (λ r. GoesOn D.at disk r.0.disk)
-            (λ e. GoesOn D.at disk e.disk) }
+        ensures lasts { MatchResult result
+            (λ r. Lasts D.at disk r.0.disk)
+            (λ e. Lasts D.at disk e.disk) }
         ensures cause { MatchResult result
             (λ r. (D.at r.0.disk).faults ≡ (D.at disk).faults)
             (λ e. CauseOfOpen e.why (D.at disk).faults (D.at e.disk).faults) }
@@ -233,8 +242,9 @@ impl<D: Disk> Journal<D> {
         }
     }
 
-    /// Adds a record: its bytes first, which count only once the gate before them is opened by a second
-    /// write. At `Ok` it is on the disk. After `DiskFault` nothing more may be appended: open the disk again.
+    /// Adds a record: its bytes first, which count only once the gate before them is opened by a
+    /// second write. At `Ok` it is on the disk. After `DiskFault` nothing more may be appended:
+    /// open the disk again.
     ///
     /// A crash at any moment leaves the records before the call or with the new one.
     pub fn append(&mut self, body: &[u8; 96]) -> Result<(), DiskFault>
@@ -242,9 +252,10 @@ impl<D: Disk> Journal<D> {
         requires settled { IfSome (D.at self.old.disk).seen
             (IsSettled self.old.generation self.old.start self.old.count) }
 
-        ensures generation { self.new.generation ≡ self.old.generation }
-        ensures limit { self.new.limit ≡ self.old.limit }
-        ensures start { self.new.start ≡ self.old.start }
+        ensures same { self.new ≡ record self.old {
+          disk = self.new.disk;
+          count = self.new.count;
+        } }
         ensures one_more { OnOk result (self.new.count ≡ self.old.count + 1) }
         ensures no_more { OnErr result (self.new.count ≡ self.old.count) }
 
@@ -272,6 +283,8 @@ impl<D: Disk> Journal<D> {
             → (D.at self.new.disk).seen ≡ Some after
             → BeforeOrAfter (is_odd self.old.generation) w command after }
 
+        // Its device calls: the record, a sync, the record's gate and a sync.
+        ensures calls { OnOk result (IsLater D.at 4 self.old.disk self.new.disk) }
         ensures called { Called D.at self.old.disk self.new.disk result }
     {
         let gate = self.start + RECORD * self.count;
@@ -281,18 +294,17 @@ impl<D: Disk> Journal<D> {
         Ok(())
     }
 
-    /// The body of a record, whose number is from 1 to `records`. The journal and its disk stay as they are.
+    /// The body of a record, whose number is from 1 to `records`. The journal and its disk stay as
+    /// they are.
     ///
-    /// `Damaged` comes only where the record's bytes have another digest than the one behind them, or are
-    /// no command or a rotation, and never where the disk tells its content and this is the journal.
+    /// `Damaged` comes only where the record's bytes have another digest than the one behind them,
+    /// or are no command or a rotation, and never where the disk tells its content and this is the
+    /// journal.
     pub fn body(&mut self, index: u64) -> Result<[u8; 96], LookFault>
         requires from_one { 1 ≤ index }
         requires there { index ≤ self.old.count }
 
-        ensures generation { self.new.generation ≡ self.old.generation }
-        ensures limit { self.new.limit ≡ self.old.limit }
-        ensures start { self.new.start ≡ self.old.start }
-        ensures records { self.new.count ≡ self.old.count }
+        ensures same { self.new ≡ record self.old { disk = self.new.disk } }
         ensures command { IfOk result (λ body. (command : Command) × IsBodyOf body command) }
         ensures damaged { IfErr result (IsBodyFault self.old.generation index
             (body_at self.old.start index)) }
@@ -310,13 +322,15 @@ impl<D: Disk> Journal<D> {
         read_body(&mut self.disk, self.generation, index, place)
     }
 
-    /// The command of a record, whose number is from 1 to `records`. The opening has tested it, so its digest is not
-    /// worked out again, unless its body is no command. It is read through a block, which is a part of this disk
-    /// or has no bytes, and is filled again where the record isn't in it: a block of another disk, or one from
-    /// before a write to this one, must not be given. The journal and its disk stay as they are.
+    /// The command of a record, whose number is from 1 to `records`. The opening has tested it, so
+    /// its digest is not worked out again, unless its body is no command. It is read through a
+    /// block, which is a part of this disk or has no bytes, and is filled again where the record
+    /// isn't in it: a block of another disk, or one from before a write to this one, must not be
+    /// given. The journal and its disk stay as they are.
     ///
-    /// `Damaged` comes only where the record's bytes have another digest than the one behind them, or are
-    /// no command or a rotation, and never where the disk tells its content and this is the journal.
+    /// `Damaged` comes only where the record's bytes have another digest than the one behind them,
+    /// or are no command or a rotation, and never where the disk tells its content and this is the
+    /// journal.
     pub fn command(&mut self, block: &mut Block, index: u64) -> Result<Command, LookFault>
         requires from_one { 1 ≤ index }
         requires there { index ≤ self.old.count }
@@ -325,10 +339,7 @@ impl<D: Disk> Journal<D> {
         // The block is one of the disk's also afterwards.
         ensures part { IfSome (D.at self.new.disk).seen (IsPartOf block.new) }
 
-        ensures generation { self.new.generation ≡ self.old.generation }
-        ensures limit { self.new.limit ≡ self.old.limit }
-        ensures start { self.new.start ≡ self.old.start }
-        ensures records { self.new.count ≡ self.old.count }
+        ensures same { self.new ≡ record self.old { disk = self.new.disk } }
         ensures command { IfOk result (λ command. (body : List ℕ) × IsBodyOf body command) }
         ensures damaged { IfErr result (IsBodyFault self.old.generation index
             (body_at self.old.start index)) }

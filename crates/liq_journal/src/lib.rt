@@ -1,6 +1,6 @@
-//! A journal on one disk: a header, a checkpoint, and records of 96 bytes, each behind a gate byte and
-//! before its digest. A crash at any moment leaves the records before a call or with its new one.
-//! Headers of both versions are read, and version 2 alone is written: `liq_header` has both.
+//! A journal on one disk: a header, a checkpoint, and records of 96 bytes, each behind a gate byte
+//! and before its digest. A crash at any moment leaves the records before a call or with its new
+//! one. Headers of both versions are read, and version 2 alone is written: `liq_header` has both.
 #![tactic(auto)]
 
 mod answers;

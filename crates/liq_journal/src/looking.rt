@@ -17,9 +17,9 @@ use liq_header::{Head, fields_size, header_size};
 use liq_outside::{Disk, Failed};
 use sha2::{Digest, Sha256};
 
-/// Looks at a disk: whether a journal is open on it, and of which generation. `odd` says whether this
-/// disk has the odd generations. It tests the header and the digest over the checkpoint, and none of
-/// the records. The disk stays as it is, and no memory is taken.
+/// Looks at a disk: whether a journal is open on it, and of which generation. `odd` says whether
+/// this disk has the odd generations. It tests the header and the digest over the checkpoint, and
+/// none of the records. The disk stays as it is, and no memory is taken.
 ///
 /// `Damaged` comes with the header's first fault, and `DiskFault` where a device call failed.
 pub fn look<D: Disk>(disk: &mut D, odd: bool) -> Result<Look, LookFault>
@@ -37,8 +37,9 @@ pub fn look<D: Disk>(disk: &mut D, odd: bool) -> Result<Look, LookFault>
     }
 }
 
-// The header of the disk, if it is open: sound, with the right digest over its checkpoint, which was read piece by piece. So
-// no memory is taken for a checkpoint before its digest is tested, however long the header says that it is.
+// The header of the disk, if it is open: sound, with the right digest over its checkpoint, which
+// was read piece by piece. So no memory is taken for a checkpoint before its digest is tested,
+// however long the header says that it is.
 pub fn sound_header<D: Disk>(disk: &mut D, odd: bool) -> Result<Option<Head>, LookFault>
     ensures looked { Looked D.at disk.old disk.new }
     ensures sound { IfOk result (λ head. IfSome (D.at disk.old).seen
@@ -73,7 +74,8 @@ pub fn sound_header<D: Disk>(disk: &mut D, odd: bool) -> Result<Option<Head>, Lo
     Ok(Some(head))
 }
 
-// The digest of a header's fields and of the checkpoint, which stands at the place and is read piece by piece.
+// The digest of a header's fields and of the checkpoint, which stands at the place and is read
+// piece by piece.
 fn digest_behind<D: Disk>(
     disk: &mut D,
     fields: &[u8],

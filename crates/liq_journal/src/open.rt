@@ -2,9 +2,9 @@
 ghost use Rattle.std.specs.Prelude.{◌≡◌, ◌≤◌, ◌+◌, ◌^◌, ◌⊎◌, ◌↔◌, Some, IsTrue, true, Ok, Err, List, ℕ, length, OnOk, IfOk, IfErr, IfSome, IsSome};
 ghost use Rattle.std.specs.Result.{MatchResult};
 ghost use Rattle.liq_journal.specs.Crash.{Stands};
-ghost use Rattle.liq_outside.specs.Disk.{GoesOn, LeavesOnly, LeftNow, Looked, Only};
+ghost use Rattle.liq_outside.specs.Disk.{LeavesOnly, LeftNow, Looked, Only};
 ghost use Rattle.liq_outside.specs.Faults.{HasCause};
-ghost use Rattle.liq_journal.specs.Called.{Called};
+ghost use Rattle.liq_journal.specs.Called.{Called, Lasts};
 ghost use Rattle.liq_journal.specs.Causes.{CountsOpen};
 ghost use Rattle.liq_journal.specs.declared.damage.Damage.{Damage};
 ghost use Rattle.liq_journal.specs.Opened.{AbsentLeaves, IsAtRest, IsKept, IsScanOf, IsUnshut, IsWhyOf, OpenLeaves, why_of};
@@ -24,8 +24,9 @@ use liq_header::header_size;
 use liq_outside::{Disk, Failed};
 use std::alloc::Global;
 
-// The bytes of the checkpoint, which stands at the place, read into memory: that of a sound header, whose digest over the same
-// bytes was tested. A disk whose content is told has them all, and tells the same twice.
+// The bytes of the checkpoint, which stands at the place, read into memory: that of a sound header,
+// whose digest over the same bytes was tested. A disk whose content is told has them all, and tells
+// the same twice.
 fn read_checkpoint<D: Disk>(
     alloc: Global,
     disk: &mut D,
@@ -72,7 +73,8 @@ fn why_of(why: LookFault) -> OpenWhy
     }
 }
 
-// Reads and tests all of a disk, in the order of its faults. Memory is taken behind a sound header alone.
+// Reads and tests all of a disk, in the order of its faults. Memory is taken behind a sound header
+// alone.
 fn scan<D: Disk>(alloc: Global, disk: &mut D, odd: bool) -> Result<Scanned, OpenWhy>
     ensures looked { Looked D.at disk.old disk.new }
     ensures bounds { IfOk result (λ s. StartsWithin s.limit s.start × (s.count ≤ 1000001)) }
@@ -152,7 +154,6 @@ fn settle_scanned<D: Disk>(
     ensures durable { IfOk result (λ _. (held : List ℕ) → (D.at disk.old).seen ≡ Some held
         → Only held (LeftNow D.at disk.old)
         → IfSome (D.at disk.new).seen (λ after. Only after (LeftNow D.at disk.new))) }
-    ensures telling { IsSome (D.at disk.new).seen ↔ IsSome (D.at disk.old).seen }
     ensures kept { IfErr result (λ why. IsKept why → (D.at disk.new).seen ≡ (D.at disk.old).seen) }
     ensures absent { result ≡ Err OpenWhy.Absent
         → IfSome (D.at disk.new).seen (λ after. IsUnshut after → ⊥) }
@@ -162,7 +163,7 @@ fn settle_scanned<D: Disk>(
     ensures crash { (held : List ℕ) → (D.at disk.old).seen ≡ Some held
         → Only held (LeftNow D.at disk.old)
         → LeavesOnly D.at disk.old disk.new (OpenLeaves odd held) }
-    ensures time { GoesOn D.at disk.old disk.new }
+    ensures lasts { Lasts D.at disk.old disk.new }
     ensures cause { (found ≡ Err OpenWhy.DiskFault → ⊥)
         → CountsOpen result (D.at disk.old).faults (D.at disk.new).faults }
     ensures faulted { found ≡ Err OpenWhy.DiskFault
@@ -183,7 +184,8 @@ fn settle_scanned<D: Disk>(
     }
 }
 
-// Opens the journal of a disk: syncs it, reads and tests all of it, and shuts the byte that is to be shut.
+// Opens the journal of a disk: syncs it, reads and tests all of it, and shuts the byte that is to
+// be shut.
 pub fn open_on<D: Disk>(alloc: Global, disk: &mut D, odd: bool) -> Result<Scanned, OpenWhy>
     ensures bounds { IfOk result (λ s. StartsWithin s.limit s.start × (s.count ≤ 1000001)) }
     ensures generation { IfOk result (λ s. is_generation odd s.generation ≡ true) }
@@ -199,13 +201,12 @@ pub fn open_on<D: Disk>(alloc: Global, disk: &mut D, odd: bool) -> Result<Scanne
         → IfSome (D.at disk.new).seen (λ after. IsUnshut after → ⊥) }
     ensures at_rest { IfErr result (λ why. IsAtRest why
         → IfSome (D.at disk.new).seen (λ after. Only after (LeftNow D.at disk.new))) }
-    ensures telling { IsSome (D.at disk.new).seen ↔ IsSome (D.at disk.old).seen }
     ensures crash { (held : List ℕ) → (D.at disk.old).seen ≡ Some held
         → Only held (LeftNow D.at disk.old)
         → LeavesOnly D.at disk.old disk.new (OpenLeaves odd held) }
     ensures reads { (held after : List ℕ) → (D.at disk.old).seen ≡ Some held
         → (D.at disk.new).seen ≡ Some after → OpenLeaves odd held after }
-    ensures time { GoesOn D.at disk.old disk.new }
+    ensures lasts { Lasts D.at disk.old disk.new }
     ensures cause { CountsOpen result (D.at disk.old).faults (D.at disk.new).faults }
 {
     match disk.sync() {

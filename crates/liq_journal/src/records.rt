@@ -140,8 +140,8 @@ pub fn read_body<D: Disk>(
     }
 }
 
-// The command of the record whose gate stands at the place, whatever the gate is: a record that was tested already, so that its
-// digest is worked out only where its body is no command.
+// The command of the record whose gate stands at the place, whatever the gate is: a record that was
+// tested already, so that its digest is worked out only where its body is no command.
 pub fn read_command<D: Disk>(
     disk: &mut D,
     block: &mut Block,
@@ -172,8 +172,8 @@ pub fn read_command<D: Disk>(
     }
 }
 
-// How many whole records there are from the place on, one more at most than a journal may have, each
-// tested; or the first fault of them.
+// How many whole records there are from the place on, one more at most than a journal may have,
+// each tested; or the first fault of them.
 pub fn count_records<D: Disk>(disk: &mut D, generation: u64, start: u64) -> Result<u64, LookFault>
     requires { start ≤ start_most }
     ensures looked { Looked D.at disk.old disk.new }

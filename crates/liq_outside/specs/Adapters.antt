@@ -1,4 +1,4 @@
-use Rattle.std.specs.Prelude.{ℕ, ◌≡◌, List, Result}
+use Rattle.std.specs.Prelude.{ℕ, ◌≡◌, ◌≤◌, List, Result}
 use Rattle.std.specs.Result.{MatchResult}
 use Rattle.liq_outside.specs.Calls.{one_more}
 
@@ -9,7 +9,13 @@ pub record Counted (T : Type 0) : Type 0 where
 
 -- each failure is counted, and nothing else
 abbrev pub CountsFailure : {T E : Type 0} → Result T E → ℕ → ℕ → Type 0
-CountsFailure result before after = MatchResult result (λ _. after ≡ before) (λ _. after ≡ one_more before)
+CountsFailure result before after =
+    MatchResult result (λ _. after ≡ before) (λ _. after ≡ one_more before)
+
+-- each success is counted, and nothing else
+pub record CountsSuccess {T E : Type 0} (result : Result T E) (before after : ℕ) : Type 0 where
+  pub later : before ≤ after
+  pub counted : MatchResult result (λ _. after ≡ one_more before) (λ _. after ≡ before)
 
 -- what a crash may leave of a file, of which nothing is told
 abbrev pub AnyImage : List ℕ → Type 0

@@ -6,9 +6,10 @@ use Rattle.liq_outside.specs.declared.showing.Showing.{Showing}
 pub record DiskAt : Type 1 where
   -- what a read gives, where it is told
   pub seen : Option (List ℕ)
-  -- the moment, as a number that doesn't fall
+  -- the moment: a u64, which each write and each sync that succeeds raises by one, up to its last
+  -- value
   pub moment : ℕ
-  -- what a crash at that moment may have left
+  -- what a crash may have left at each moment, the present one included
   pub left_at : ℕ → List ℕ → Type 0
   -- how many faults it has met: a u64, which stays at its last value
   pub faults : ℕ

@@ -1,4 +1,4 @@
-use Rattle.std.specs.Prelude.{ℕ, ◌+◌, List, min}
+use Rattle.std.specs.Prelude.{ℕ, zero, suc, ◌+◌, List, min}
 use Rattle.std.specs.List.{Contains}
 use Rattle.liq_outside.specs.Faults.{count_most}
 
@@ -22,6 +22,11 @@ FailsNext calls = Contains calls.failing calls.next
 -- One more. A count stays at its last value.
 abbrev pub one_more : ℕ → ℕ
 one_more n = min (n + 1) count_most
+
+-- so many more
+abbrev pub after_calls : ℕ → ℕ → ℕ
+after_calls zero count = count
+after_calls (suc n) count = one_more (after_calls n count)
 
 -- one call later
 abbrev pub begun : Calls → Calls

@@ -5,22 +5,29 @@ use Rattle.liq_outside.specs.Adapters.{CountsFailure}
 use Rattle.liq_outside.specs.Calls.{Calls, begun, faulted, one_more}
 use Rattle.liq_outside.specs.Disk.{overwritten}
 
--- a disk over a device or over none, and how many of the disk's calls have failed
+-- a disk over a device or over none
 pub record OverDevice (V : Type 0) : Type 0 where
   pub device : Option V
+  -- how many of the disk's writes and syncs have succeeded
+  pub moment : ℕ
+  -- how many of its calls have failed
   pub faults : ℕ
 
 -- each failure is counted, where that is told, and nothing else
 abbrev pub TellsFailure : {T E : Type 0} → Result T E → Option ℕ → Option ℕ → Type 0
-TellsFailure result before after = MatchResult result (λ _. after ≡ before) (λ _. after ≡ option_map one_more before)
+TellsFailure result before after =
+    MatchResult result (λ _. after ≡ before) (λ _. after ≡ option_map one_more before)
 
--- A call of the disk: without a device it fails, and the device stays where it was; each failure is counted, the
--- device's own where that is told.
-pub record IsCall {V T E : Type 0} (failures : V → Option ℕ) (old new : OverDevice V) (result : Result T E)
+-- A call of the disk: without a device it fails, and the device stays where it was; each failure is
+-- counted, the device's own where that is told.
+pub record IsCall
+    {V T E : Type 0} (failures : V → Option ℕ) (old new : OverDevice V) (result : Result T E)
     : Type 0 where
   pub missing : old.device ≡ None → IsErr result
   pub there : is_some new.device ≡ is_some old.device
-  pub caused : TellsFailure result (option_and_then failures old.device) (option_and_then failures new.device)
+  pub caused :
+      TellsFailure result (option_and_then failures old.device)
+      (option_and_then failures new.device)
   pub counted : CountsFailure result old.faults new.faults
 
 -- a device in memory
@@ -43,7 +50,10 @@ after_failure device = record device { calls = faulted (begun device.calls) }
 
 -- after a write of these bytes
 abbrev pub after_writing : DeviceInMemory → ℕ → List ℕ → DeviceInMemory
-after_writing device at bytes = record device { held = overwritten device.held at bytes; calls = begun device.calls }
+after_writing device at bytes = record device {
+  held = overwritten device.held at bytes;
+  calls = begun device.calls;
+}
 
 -- after a sync
 abbrev pub after_syncing : DeviceInMemory → DeviceInMemory

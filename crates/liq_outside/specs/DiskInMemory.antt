@@ -1,8 +1,9 @@
--- A disk in memory: its bytes, and what was done to them, by which one goes back to each earlier moment.
+-- A disk in memory: its bytes, and what was done to them, by which one goes back to each earlier
+-- moment.
 use Rattle.std.specs.Prelude.{◌≡◌, ◌⊎◌, ℕ, ◌+◌, ◌-◌, ◌<◌, ◌≤◌, List, [], ◌∷◌, ◌++◌, Some, Result, length, take, drop}
 use Rattle.std.specs.Result.{MatchResult}
 use Rattle.liq_outside.specs.At.{DiskAt}
-use Rattle.liq_outside.specs.Calls.{Calls, begun, faulted}
+use Rattle.liq_outside.specs.Calls.{Calls, begun, faulted, not_begun}
 use Rattle.liq_outside.specs.Disk.{Torn, overwritten}
 
 pub data Step : Type 0 where
@@ -31,13 +32,14 @@ abbrev pub undone_all : List ℕ → List Step → List ℕ
 undone_all held [] = held
 undone_all held (step ∷ steps) = undone_all (undone held step) steps
 
--- What a crash after these steps may leave: what is there, or any part of each write since the last sync, one that
--- failed too.
+-- What a crash after these steps may leave: what is there, or any part of each write since the last
+-- sync, one that failed too.
 abbrev pub MayBeLeft : List ℕ → List Step → List ℕ → Type 0
 MayBeLeft held [] image = image ≡ held
 MayBeLeft held (Wrote at count over ∷ steps) image =
     (image ≡ held)
-    ⊎ ((earlier : List ℕ) × MayBeLeft (undone held (Wrote at count over)) steps earlier × Torn at count earlier image)
+    ⊎ ((earlier : List ℕ) × MayBeLeft (undone held (Wrote at count over)) steps earlier
+    × Torn at count earlier image)
 MayBeLeft held (Tried at count ∷ steps) image =
     (earlier : List ℕ) × MayBeLeft held steps earlier × Torn at count earlier image
 MayBeLeft held (Synced ∷ steps) image = image ≡ held
@@ -46,27 +48,32 @@ MayBeLeft held (Synced ∷ steps) image = image ≡ held
 abbrev pub AreWrites : List ℕ → List Step → Type 0
 AreWrites held [] = Unit {0}
 AreWrites held (Wrote at count over ∷ steps) =
-    Torn at count (undone held (Wrote at count over)) held × AreWrites (undone held (Wrote at count over)) steps
+    Torn at count (undone held (Wrote at count over)) held
+    × AreWrites (undone held (Wrote at count over)) steps
 AreWrites held (Tried at count ∷ steps) = AreWrites held steps
 AreWrites held (Synced ∷ steps) = AreWrites held steps
 
 -- what a crash at moment k may have left, the moment being the number of steps
 abbrev pub WasLeft : List ℕ → List Step → ℕ → List ℕ → Type 0
 WasLeft held steps k image =
-    let since = length steps - k in MayBeLeft (undone_all held (take since steps)) (drop since steps) image
+    let since = length steps - k in
+    MayBeLeft (undone_all held (take since steps)) (drop since steps) image
 
 -- how many bytes there were at the last sync
 abbrev pub synced_length : List ℕ → List Step → ℕ
 synced_length held [] = length held
-synced_length held (Wrote at count over ∷ steps) = synced_length (undone held (Wrote at count over)) steps
+synced_length held (Wrote at count over ∷ steps) =
+    synced_length (undone held (Wrote at count over)) steps
 synced_length held (Tried at count ∷ steps) = synced_length held steps
 synced_length held (Synced ∷ steps) = length held
 
 -- the place is in the range of a write since the last sync
 abbrev pub IsReached : ℕ → List Step → Type 0
 IsReached place [] = ⊥
-IsReached place (Wrote at count over ∷ steps) = ((at ≤ place) × (place < at + count)) ⊎ IsReached place steps
-IsReached place (Tried at count ∷ steps) = ((at ≤ place) × (place < at + count)) ⊎ IsReached place steps
+IsReached place (Wrote at count over ∷ steps) =
+    ((at ≤ place) × (place < at + count)) ⊎ IsReached place steps
+IsReached place (Tried at count ∷ steps) =
+    ((at ≤ place) × (place < at + count)) ⊎ IsReached place steps
 IsReached place (Synced ∷ steps) = ⊥
 
 -- where the range of a write since the last sync is reached, what it may leave stays so
@@ -80,7 +87,7 @@ StaysLeft at count old new =
 
 -- a disk with these bytes, all of them synced
 abbrev pub fresh : List ℕ → List ℕ → DiskInMemory
-fresh bytes failing = record { held = bytes; steps = []; calls = record { failing = failing; next = 0; faults = 0 } }
+fresh bytes failing = record { held = bytes; steps = []; calls = not_begun failing }
 
 -- after a call that took no step
 abbrev pub after_look : DiskInMemory → DiskInMemory
@@ -92,7 +99,8 @@ after_failed_look disk = record disk { calls = faulted (begun disk.calls) }
 
 -- a call that looks takes no step, whether it fails or not
 abbrev pub Looks : {T E : Type 0} → Result T E → DiskInMemory → DiskInMemory → Type 0
-Looks result old new = MatchResult result (λ _. new ≡ after_look old) (λ _. new ≡ after_failed_look old)
+Looks result old new =
+    MatchResult result (λ _. new ≡ after_look old) (λ _. new ≡ after_failed_look old)
 
 -- after a write
 abbrev pub after_disk_write : DiskInMemory → ℕ → List ℕ → DiskInMemory

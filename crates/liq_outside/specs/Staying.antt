@@ -6,7 +6,12 @@ use Rattle.liq_outside.specs.Disk.{Torn}
 use Rattle.liq_outside.specs.DiskInMemory.{Step, Wrote, Tried, Synced, MayBeLeft, WasLeft, undone_all}
 
 pub torn_nothing : (at n : ℕ) (bytes : List ℕ) → Torn at n bytes bytes
-torn_nothing at n bytes = record { before = refl; behind = refl; no_shorter = le_refl (length bytes); no_longer = le-max_left (length bytes) (at + n) }
+torn_nothing at n bytes = record {
+  before = refl;
+  behind = refl;
+  no_shorter = le_refl (length bytes);
+  no_longer = le-max_left (length bytes) (at + n);
+}
 
 pub stays : (held : List ℕ) (steps : List Step) → MayBeLeft held steps held
 stays held [] = refl
@@ -15,14 +20,21 @@ stays held (Tried at count ∷ steps) = (held, stays held steps, torn_nothing at
 stays held (Synced ∷ steps) = refl
 
 -- at the present moment
-pub left_now : (held : List ℕ) (steps : List Step) (image : List ℕ) → MayBeLeft held steps image → WasLeft held steps (length steps) image
+pub left_now : (held : List ℕ) (steps : List Step) (image : List ℕ)
+    → MayBeLeft held steps image → WasLeft held steps (length steps) image
 left_now held steps image may =
-    subst (λ (n : ℕ). MayBeLeft (undone_all held (take n steps)) (drop n steps) image) (sym (sub_self (length steps))) may
+    subst (λ (n : ℕ). MayBeLeft (undone_all held (take n steps)) (drop n steps) image)
+    (sym (sub_self (length steps))) may
 
-pub is_left_now : (held : List ℕ) (steps : List Step) (image : List ℕ) → WasLeft held steps (length steps) image → MayBeLeft held steps image
+pub is_left_now : (held : List ℕ) (steps : List Step) (image : List ℕ)
+    → WasLeft held steps (length steps) image → MayBeLeft held steps image
 is_left_now held steps image left =
-    subst (λ (n : ℕ). MayBeLeft (undone_all held (take n steps)) (drop n steps) image) (sub_self (length steps)) left
+    subst (λ (n : ℕ). MayBeLeft (undone_all held (take n steps)) (drop n steps) image)
+    (sub_self (length steps)) left
 
-pub held_may_stay : (bytes held : List ℕ) (steps : List Step) → Some bytes ≡ Some held → WasLeft bytes steps (length steps) held
+pub held_may_stay : (bytes held : List ℕ) (steps : List Step)
+    → Some bytes ≡ Some held → WasLeft bytes steps (length steps) held
 held_may_stay bytes held steps is =
-    subst (λ (image : List ℕ). WasLeft bytes steps (length steps) image) (ap (λ (o : Option (List ℕ)). unwrap_or o bytes) is) (left_now bytes steps bytes (stays bytes steps))
+    subst (λ (image : List ℕ). WasLeft bytes steps (length steps) image)
+    (ap (λ (o : Option (List ℕ)). unwrap_or o bytes) is)
+    (left_now bytes steps bytes (stays bytes steps))

@@ -1,4 +1,5 @@
-// std's readers and writers as a source and a sink. As such they tell no content: only faults are told.
+// std's readers and writers as a source and a sink. As such they tell no content: only faults are
+// told.
 ghost use Rattle.std.specs.Prelude.{◌≡◌, ◌≤◌, ◌<◌, None, length, IfOk};
 ghost use Rattle.std.specs.Io.KnownBytes.{ReadConsumes, WriteAppends};
 ghost use Rattle.liq_outside.specs.Adapters.{CountsFailure};
@@ -11,7 +12,8 @@ use super::source::Source;
 use std::io::{Read, Write};
 use std::marker::Model;
 
-/// A reader as a source: each call is one read. A contract sees the reader and how many reads failed.
+/// A reader as a source: each call is one read. A contract sees the reader and how many reads
+/// failed.
 #[derive(Drop)]
 pub struct StdSource<R> {
     reader: R,
@@ -63,7 +65,8 @@ impl<R: Read> Source for StdSource<R> {
     }
 }
 
-/// A writer as a sink: each call is one write. A contract sees the writer and how many writes failed.
+/// A writer as a sink: each call is one write. A contract sees the writer and how many writes
+/// failed.
 #[derive(Drop)]
 pub struct StdSink<W> {
     writer: W,

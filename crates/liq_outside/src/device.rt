@@ -5,7 +5,8 @@ ghost use Rattle.liq_outside.specs.Disk.{overwritten};
 
 use super::failed::Failed;
 
-/// Keeps bytes by their places as the system does: each call is one call of the system, which may do a part of what it is asked.
+/// Keeps bytes by their places as the system does: each call is one call of the system, which may
+/// do a part of what it is asked.
 pub trait Device {
     /// Its bytes, where they are told.
     ghost held: { Self → Option (List ℕ) };
@@ -23,8 +24,8 @@ pub trait Device {
         ensures kept { synced self.new ≡ synced self.old }
         ensures counted { TellsFailure result (failures self.old) (failures self.new) };
 
-    /// Reads from a place on into the front of `buf`, and says how many bytes. For a buffer that isn't empty, 0 means that the
-    /// device ends there.
+    /// Reads from a place on into the front of `buf`, and says how many bytes. For a buffer that
+    /// isn't empty, 0 means that the device ends there.
     fn read_some(&mut self, at: u64, buf: &mut [u8]) -> Result<usize, Failed>
         ensures fits { IfOk result (λ n. n ≤ length buf.old) }
         ensures told { IfOk result (λ n. IfSome (held self.old)
@@ -35,8 +36,9 @@ pub trait Device {
         ensures kept { synced self.new ≡ synced self.old }
         ensures counted { TellsFailure result (failures self.old) (failures self.new) };
 
-    /// Writes bytes from the front of `bytes` over those from a place on, and past the end, and says how many: at least one of a
-    /// piece that isn't empty. After `Failed` any part of them may have been written.
+    /// Writes bytes from the front of `bytes` over those from a place on, and past the end, and
+    /// says how many: at least one of a piece that isn't empty. After `Failed` any part of them may
+    /// have been written.
     fn write_some(&mut self, at: u64, bytes: &[u8]) -> Result<usize, Failed>
         requires limit { at + length bytes.now ≤ 2 ^ 40 }
         ensures fits { IfOk result (λ n. n ≤ length bytes.now) }

@@ -1,6 +1,7 @@
-// A device as a disk: each of its calls is made again until all is done. As such it tells no content, and any image may be left.
+// A device as a disk: each of its calls is made again until all is done. As such it tells no
+// content, and any image may be left.
 ghost use Rattle.std.specs.Prelude.{◌≡◌, ◌≤◌, ◌+◌, ◌-◌, ◌^◌, None, Some, List, ℕ, is_some, length, min, take, drop, option_and_then, IfOk, IfSome, OnOk};
-ghost use Rattle.liq_outside.specs.Adapters.{AnyImage, CountsFailure};
+ghost use Rattle.liq_outside.specs.Adapters.{AnyImage, CountsFailure, CountsSuccess};
 ghost use Rattle.liq_outside.specs.Devices.{IsCall, TellsFailure};
 ghost use Rattle.liq_outside.specs.Disk.{Follows, Torn, overwritten};
 ghost use Rattle.liq_outside.specs.Faults.{HasCause};
@@ -12,12 +13,16 @@ use super::key::Key;
 use super::ours::Ours;
 use std::marker::Model;
 
-/// A device as a disk: where one call of the device does a part of what is asked, the next goes on behind it.
+/// A device as a disk: where one call of the device does a part of what is asked, the next goes on
+/// behind it.
 ///
-/// Without a device every call fails and is counted. A contract sees the device, and how many calls failed.
+/// Without a device every call fails and is counted. A contract sees the device, how many writes
+/// and syncs succeeded, which is its moment, and how many calls failed. Both counts stay at their
+/// last value.
 #[derive(Drop)]
 pub struct DeviceDisk<V> {
     device: Option<V>,
+    moment: u64,
     faults: u64,
 }
 
@@ -26,7 +31,7 @@ impl<V> Model for DeviceDisk<V> {
 
     ghost Value = { OverDevice V };
 
-    ghost view = { λ d. record { device = d.device; faults = d.faults } };
+    ghost view = { λ d. record { device = d.device; moment = d.moment; faults = d.faults } };
 }
 
 impl<V: Device> DeviceDisk<V> {
@@ -35,7 +40,11 @@ impl<V: Device> DeviceDisk<V> {
         ensures device { result.device ≡ device }
         ensures faults { result.faults ≡ 0 }
     {
-        DeviceDisk { device, faults: 0 }
+        DeviceDisk {
+            device,
+            moment: 0,
+            faults: 0,
+        }
     }
 
     /// Whether there is a device.
@@ -49,7 +58,12 @@ impl<V: Device> DeviceDisk<V> {
 impl<V: Device> Ours for DeviceDisk<V> {}
 
 impl<V: Device> Disk for DeviceDisk<V> {
-    ghost at = { λ d. record { seen = None; moment = 0; left_at = λ _ image. AnyImage image; faults = d.faults } };
+    ghost at = { λ d. record {
+      seen = None;
+      moment = d.moment;
+      left_at = λ _ image. AnyImage image;
+      faults = d.faults;
+    } };
 
     ghost seen_may_stay = { λ disk held is. tt };
 
@@ -58,6 +72,7 @@ impl<V: Device> Disk for DeviceDisk<V> {
             (λ old. n ≡ length old)) }
         ensures same { option_and_then V.held self.new.device
             ≡ option_and_then V.held self.old.device }
+        ensures moment { self.new.moment ≡ self.old.moment }
         ensures called { IsCall V.failures self.old self.new result }
         ensures cause { HasCause self.old.faults self.new.faults result }
     {
@@ -77,6 +92,7 @@ impl<V: Device> Disk for DeviceDisk<V> {
             × (take n buf.new ≡ take n (drop place old)))) }
         ensures same { option_and_then V.held self.new.device
             ≡ option_and_then V.held self.old.device }
+        ensures moment { self.new.moment ≡ self.old.moment }
         ensures called { IsCall V.failures self.old self.new result }
         ensures cause { HasCause self.old.faults self.new.faults result }
     {
@@ -93,6 +109,7 @@ impl<V: Device> Disk for DeviceDisk<V> {
             → option_and_then V.held self.old.device ≡ Some old → place ≤ length old
             → option_and_then V.held self.new.device ≡ Some (overwritten old place bytes.now)) }
         ensures crash { Follows (Torn place (length bytes.now)) AnyImage AnyImage }
+        ensures moment { CountsSuccess result self.old.moment self.new.moment }
         ensures called { IsCall V.failures self.old self.new result }
         ensures cause { HasCause self.old.faults self.new.faults result }
     {
@@ -100,6 +117,7 @@ impl<V: Device> Disk for DeviceDisk<V> {
             Some(device) => written(device, place, bytes),
             None => Err(Failed),
         };
+        let answer = timed(&mut self.moment, answer);
         counted(&mut self.faults, answer)
     }
 
@@ -108,6 +126,7 @@ impl<V: Device> Disk for DeviceDisk<V> {
             ≡ option_and_then V.held self.old.device) }
         ensures same { option_and_then V.held self.new.device
             ≡ option_and_then V.held self.old.device }
+        ensures moment { CountsSuccess result self.old.moment self.new.moment }
         ensures called { IsCall V.failures self.old self.new result }
         ensures cause { HasCause self.old.faults self.new.faults result }
     {
@@ -115,15 +134,30 @@ impl<V: Device> Disk for DeviceDisk<V> {
             Some(device) => device.sync(),
             None => Err(Failed),
         };
+        let answer = timed(&mut self.moment, answer);
         counted(&mut self.faults, answer)
     }
 
     fn moment(&self, _key: &Key) -> u64 {
-        0
+        self.moment
     }
 
     fn faults(&self) -> u64 {
         self.faults
+    }
+}
+
+// The answer, at which the moment rises where it is a success.
+fn timed(moment: &mut u64, answer: Result<(), Failed>) -> Result<(), Failed>
+    ensures same { result ≡ answer }
+    ensures counted { CountsSuccess answer moment.old moment.new }
+{
+    match answer {
+        Ok(()) => {
+            *moment = moment.saturating_add(1);
+            Ok(())
+        }
+        Err(Failed) => Err(Failed),
     }
 }
 

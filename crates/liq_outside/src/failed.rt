@@ -1,5 +1,6 @@
 // The one answer of a call that met a fault.
 
-/// The outside met a fault: the count of the object's faults rose in this call, or stands at its last value.
+/// The outside met a fault: the count of the object's faults rose in this call, or stands at its
+/// last value.
 #[derive(Clone, Copy)]
 pub struct Failed;

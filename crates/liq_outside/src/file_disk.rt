@@ -10,14 +10,16 @@ use std::fs::File;
 use std::os::fd::AsRawFd;
 use std::os::unix::fs::FileExt;
 
-/// A file as a disk: each call reads or writes at its place, and `sync` is the system's `fdatasync`.
+/// A file as a disk: each call reads or writes at its place, and `sync` is the system's
+/// `fdatasync`.
 ///
-/// Without a file every device call fails and is counted. A contract sees whether there is a file, and how many calls failed.
+/// Without a file every device call fails and is counted. A contract sees whether there is a file,
+/// and how many calls failed.
 pub type FileDisk = DeviceDisk<File>;
 
 impl DeviceDisk<File> {
-    /// The disk of this file, or of none. A file that stands in the place of a standard stream is none: what the program writes to
-    /// that stream would be written over its bytes.
+    /// The disk of this file, or of none. A file that stands in the place of a standard stream is
+    /// none: what the program writes to that stream would be written over its bytes.
     pub fn new(file: Option<File>) -> Self
         ensures taken { (f : File) → file ≡ Some f → pos 3 ≤ℤ file_raw_fd f
             → result.device ≡ Some f }

@@ -1,6 +1,7 @@
 //! Who may ask a disk for its moment.
 
-/// What it takes to ask a disk for its moment. No other crate can make one, so no body there reads a moment.
+/// What it takes to ask a disk for its moment. No other crate can make one, so no body there reads
+/// a moment.
 #[derive(Drop)]
 pub struct Key {
     made: (),

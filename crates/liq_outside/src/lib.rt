@@ -1,4 +1,5 @@
-//! What a program reads from and writes to: sources of bytes and sinks of bytes, each with a count of its faults.
+//! What a program reads from and writes to: sources of bytes and sinks of bytes, each with a count
+//! of its faults.
 //!
 //! A source or a sink may tell the bytes that it has, and always tells how many faults it has met.
 //! `Failed` comes just from the calls in which that count rose. The forms in memory tell all; those

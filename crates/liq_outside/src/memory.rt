@@ -34,7 +34,11 @@ impl Model for MemorySource {
 
     ghost Value = { SourceInMemory };
 
-    ghost view = { λ s. record { left = drop s.taken s.bytes.items; chunk = s.chunk; calls = s.schedule } };
+    ghost view = { λ s. record {
+      left = drop s.taken s.bytes.items;
+      chunk = s.chunk;
+      calls = s.schedule;
+    } };
 
     ghost invariant = { λ s. (s.taken ≤ length s.bytes.items) × (0 < s.chunk) };
 }
@@ -74,7 +78,8 @@ impl Source for MemorySource {
     ghost at = { source_at };
 
     fn read(&mut self, buf: &mut [u8]) -> Result<usize, Failed>
-        // It fails exactly where it is told to, and else takes all that buffer, chunk and rest allow.
+        // It fails exactly where it is told to, and else takes all that buffer, chunk and rest
+        // allow.
         ensures listed { IsErr result ↔ FailsNext self.old.calls }
         ensures taken { IfOk result (λ n. n ≡ count_taken self.old (length buf.old)) }
         ensures copied { IfOk result (λ n. buf.new ≡ take n self.old.left ++ drop n buf.old) }
@@ -96,9 +101,9 @@ impl Source for MemorySource {
 
 /// Holds in memory what is written, each piece whole or not at all.
 ///
-/// A write fails where its number, counted from 0, is one of those in `failing`, and where no memory
-/// is left for its bytes. It notes each time that it is shown two disks, and forgets them all where no
-/// memory is left for one. A contract sees what is held, what was shown and the calls.
+/// A write fails where its number, counted from 0, is one of those in `failing`, and where no
+/// memory is left for its bytes. It notes each time that it is shown two disks, and forgets them
+/// all where no memory is left for one. A contract sees what is held, what was shown and the calls.
 #[derive(Drop)]
 pub struct MemorySink {
     bytes: Vec<u8>,
@@ -112,7 +117,11 @@ impl Model for MemorySink {
 
     ghost Value = { SinkInMemory };
 
-    ghost view = { λ s. record { held = s.bytes.items; shown = option_map (λ v. v.items) s.shown; calls = s.schedule } };
+    ghost view = { λ s. record {
+      held = s.bytes.items;
+      shown = option_map (λ v. v.items) s.shown;
+      calls = s.schedule;
+    } };
 }
 
 impl MemorySink {
@@ -136,7 +145,8 @@ impl MemorySink {
         &self.bytes
     }
 
-    /// Whether it tells what it was shown: it does until there is no memory for a note.
+    /// Whether it still tells what it was shown. It stops where there is no memory for a note, and
+    /// forgets them all.
     pub fn tells(&self) -> bool
         ensures { result ≡ is_some self.now.shown }
     {
@@ -155,9 +165,9 @@ impl Sink for MemorySink {
     ghost at = { sink_at };
 
     fn show<D: Disk>(&mut self, left: &D, right: &D)
-        ensures held { self.new.held ≡ self.old.held }
-        ensures calls { self.new.calls ≡ self.old.calls }
-        ensures shown { Notes D.at (Some self.old.held) left.now right.now self.old.shown self.new.shown }
+        ensures same { self.new ≡ record self.old { shown = self.new.shown } }
+        ensures shown { Notes D.at (Some self.old.held) left.now right.now
+            self.old.shown self.new.shown }
     {
         let key = Key::new();
         let showing = Showing {
@@ -175,7 +185,8 @@ impl Sink for MemorySink {
     }
 
     fn write(&mut self, bytes: &[u8]) -> Result<usize, Failed>
-        // It fails where it is told to. Any other failure is want of memory, which an empty piece can't meet.
+        // It fails where it is told to. Any other failure is want of memory, which an empty piece
+        // can't meet.
         ensures listed { FailsNext self.old.calls → IsErr result }
         ensures unlisted { OnErr result (FailsNext self.old.calls ⊎ (0 < length bytes.now)) }
         ensures whole { IfOk result (λ n. n ≡ length bytes.now) }

@@ -1,4 +1,5 @@
-// A device in memory, whose reads and writes do a part of what they are asked, and whose calls fail where they are told to.
+// A device in memory, whose reads and writes do a part of what they are asked, and whose calls fail
+// where they are told to.
 ghost use Rattle.std.specs.Prelude.{◌≡◌, ◌≤◌, ◌<◌, ◌↔◌, ◌+◌, ◌-◌, ◌++◌, ◌^◌, [], Ok, Some, length, take, drop, min, IfOk, OnOk, OnErr, IsErr};
 ghost use Rattle.liq_outside.specs.Calls.{FailsNext, not_begun};
 ghost use Rattle.liq_outside.specs.Devices.{after_asking, after_failure, after_syncing, after_writing};
@@ -14,8 +15,9 @@ use std::marker::Model;
 
 /// Bytes in memory as a device: a read or a write takes a chunk at most.
 ///
-/// A call fails where its number, counted from 0, is one of those in `failing`, where no memory is left for what it has to keep, and at
-/// a write past the end. A contract sees the bytes, what they were at the last sync, the chunk and the calls.
+/// A call fails where its number, counted from 0, is one of those in `failing`, where no memory is
+/// left for what it has to keep, and at a write past the end. A contract sees the bytes, what they
+/// were at the last sync, the chunk and the calls.
 #[derive(Drop)]
 pub struct MemoryDevice {
     alloc: Global,
@@ -31,7 +33,12 @@ impl Model for MemoryDevice {
 
     ghost Value = { DeviceInMemory };
 
-    ghost view = { λ d. record { held = d.bytes.items; synced = d.synced.items; chunk = d.chunk; calls = d.schedule } };
+    ghost view = { λ d. record {
+      held = d.bytes.items;
+      synced = d.synced.items;
+      chunk = d.chunk;
+      calls = d.schedule;
+    } };
 
     ghost invariant = { λ d. 0 < d.chunk };
 }
@@ -40,7 +47,12 @@ impl MemoryDevice {
     /// A device without bytes, of which a read or a write takes at most `chunk`.
     pub fn new(alloc: Global, chunk: usize, failing: Vec<u64>) -> Self
         requires { 1 ≤ chunk }
-        ensures { result ≡ record { held = []; synced = []; chunk = chunk; calls = not_begun failing.items } }
+        ensures { result ≡ record {
+          held = [];
+          synced = [];
+          chunk = chunk;
+          calls = not_begun failing.items;
+        } }
     {
         MemoryDevice {
             alloc,

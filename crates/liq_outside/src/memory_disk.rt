@@ -1,6 +1,6 @@
 // A disk in memory, whose calls fail where they are told to, and which a crash may tear.
 ghost use Rattle.std.specs.Prelude.{◌≡◌, ◌≤◌, ◌<◌, ◌↔◌, ◌⊎◌, ◌+◌, ◌-◌, ◌++◌, ◌^◌, [], Some, length, take, drop, min, IfOk, OnOk, OnErr, IsErr};
-ghost use Rattle.liq_outside.specs.Calls.{FailsNext};
+ghost use Rattle.liq_outside.specs.Calls.{FailsNext, one_more};
 ghost use Rattle.liq_outside.specs.Faults.{HasCause};
 ghost use Rattle.liq_outside.specs.Disk.{Elapses, Follows, LeftNow, Only, Reaches, Torn, Within};
 ghost use Rattle.liq_outside.specs.DiskInMemory.{IsNoted, Looks, disk_at, fresh, after_failed_look, after_disk_write, after_sync};
@@ -18,8 +18,9 @@ use std::marker::Model;
 
 /// Bytes in memory by their places, which a crash may tear.
 ///
-/// A call fails where its number, counted from 0, is one of those in `failing`, and where no memory is
-/// left for what it has to keep. A contract sees what is held, what was done since the start, and the calls.
+/// A call fails where its number, counted from 0, is one of those in `failing`, and where no memory
+/// is left for what it has to keep. A contract sees what is held, what was done since the start,
+/// and the calls.
 #[derive(Drop)]
 pub struct MemoryDisk {
     alloc: Global,
@@ -35,7 +36,10 @@ impl Model for MemoryDisk {
 
     ghost Value = { Roomy };
 
-    ghost view = { λ d. record { disk = record { held = d.bytes.items; steps = steps_of d.made.items; calls = d.schedule }; room = vec_capacity d.made } };
+    ghost view = { λ d. record {
+      disk = record { held = d.bytes.items; steps = steps_of d.made.items; calls = d.schedule };
+      room = vec_capacity d.made;
+    } };
 
     ghost invariant = { λ d. AreWrites d.bytes.items (steps_of d.made.items) };
 }
@@ -60,9 +64,10 @@ impl MemoryDisk {
         &self.bytes
     }
 
-    /// The disk after a crash at this moment, with no call failing. It is one of the images that may be left; which one is not
-    /// promised. As it is built, choice 0 keeps all that was written, 1 nothing that wasn't synced, 2 and 3 a half of each write,
-    /// 4 to 7 the same with other bytes in place of those that are lost.
+    /// The disk after a crash at this moment, with no call failing. It is one of the images that
+    /// may be left; which one is not promised. As it is built, choice 0 keeps all that was written,
+    /// 1 nothing that wasn't synced, 2 and 3 a half of each write, 4 to 7 the same with other bytes
+    /// in place of those that are lost.
     pub fn crash(self, choice: u64) -> MemoryDisk
         ensures left { LeftNow disk_at self result.disk.held }
         ensures synced { result.disk ≡ fresh result.disk.held [] }
@@ -134,6 +139,8 @@ impl Disk for MemoryDisk {
         ensures noted { OnOk result (Reaches (Torn place (length bytes.now))
             (LeftNow disk_at self.old) (LeftNow disk_at self.new)) }
         ensures keeps { Within (LeftNow disk_at self.old) (LeftNow disk_at self.new) }
+        ensures one { OnOk result (length self.new.disk.steps
+            ≡ one_more (length self.old.disk.steps)) }
         ensures time { Elapses disk_at self.old self.new }
         ensures cause { HasCause self.old.disk.calls.faults self.new.disk.calls.faults result }
     {
@@ -161,6 +168,8 @@ impl Disk for MemoryDisk {
         ensures not_synced { OnErr result (self.new.disk ≡ after_failed_look self.old.disk) }
         ensures only { OnOk result (Only self.old.disk.held (LeftNow disk_at self.new)) }
         ensures crash { Within (LeftNow disk_at self.new) (LeftNow disk_at self.old) }
+        ensures one { OnOk result (length self.new.disk.steps
+            ≡ one_more (length self.old.disk.steps)) }
         ensures time { Elapses disk_at self.old self.new }
         ensures cause { HasCause self.old.disk.calls.faults self.new.disk.calls.faults result }
     {

@@ -9,19 +9,19 @@ use super::failed::Failed;
 
 /// Takes bytes to the end of what it holds.
 pub trait Sink {
-    /// What is told of it: the bytes that it holds, what it was shown, and how many faults it has met.
+    /// What is told of it: the bytes that it holds, what it was shown, and how many faults it has
+    /// met.
     ghost at: { Self → SinkAt };
 
-    /// It is shown two disks as they are now, so that what they hold is told beside what it holds. It is no call that
-    /// may fail.
+    /// It is shown two disks as they are now, so that what they hold is told beside what it holds.
+    /// It is no call that may fail.
     fn show<D: Disk>(&mut self, left: &D, right: &D)
-        ensures same { (at self.new).held ≡ (at self.old).held }
-        ensures faults { (at self.new).faults ≡ (at self.old).faults }
+        ensures same { at self.new ≡ record (at self.old) { shown = (at self.new).shown } }
         ensures shown { Notes D.at (at self.old).held left.now right.now (at self.old).shown
             (at self.new).shown };
 
-    /// Appends bytes from the front of `bytes`, and says how many: at least one of a piece that isn't
-    /// empty. `Failed` appended none.
+    /// Appends bytes from the front of `bytes`, and says how many: at least one of a piece that
+    /// isn't empty. `Failed` appended none.
     fn write(&mut self, bytes: &[u8]) -> Result<usize, Failed>
         ensures fits { IfOk result (λ n. n ≤ length bytes.now) }
         ensures some { 0 < length bytes.now → IfOk result (λ n. 0 < n) }

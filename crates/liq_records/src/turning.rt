@@ -1,8 +1,10 @@
 //! How a rotation turns to the other disk.
-ghost use Rattle.std.specs.Prelude.{◌≡◌, ◌≤◌, ◌<◌, ◌^◌, ◌+◌, ◌↔◌, Some, List, ℕ, length, true, MatchResult, IfOk};
-ghost use Rattle.std.specs.Prelude.{IfSome, IsSome, OnErr, OnOk};
-ghost use Rattle.liq_outside.specs.Disk.{GoesOn, LeftNow, Only};
+ghost use Rattle.std.specs.Prelude.{◌≡◌, ◌≤◌, ◌<◌, ◌^◌, ◌+◌, Some, List, ℕ, length, true, MatchResult, IfOk};
+ghost use Rattle.std.specs.Prelude.{IfSome, OnErr, OnOk};
+ghost use Rattle.liq_outside.specs.Disk.{LeftNow, Only};
 ghost use Rattle.liq_types.specs.declared.amounts.TheConstants.{LIM};
+ghost use Rattle.liq_journal.specs.Called.{Lasts};
+ghost use Rattle.liq_journal.specs.Calls.{SettledIn, creating_calls};
 ghost use Rattle.liq_journal.specs.Causes.{Counted};
 ghost use Rattle.liq_journal.specs.Crash.{CrashOfCreate, Stands, beginning, is_odd};
 ghost use Rattle.liq_journal.specs.Settled.{IsSettled};
@@ -42,16 +44,16 @@ pub fn turn<D: Disk>(
         (IsSettled taken.new.generation taken.new.start taken.new.count)) }
     ensures durable { OnOk result (IfSome (D.at taken.new.disk).seen
         (λ after. Only after (LeftNow D.at taken.new.disk))) }
-    ensures telling { MatchResult result
-        (λ _. IsSome (D.at taken.new.disk).seen ↔ IsSome (D.at beside.old).seen)
-        (λ _. IsSome (D.at beside.new).seen ↔ IsSome (D.at beside.old).seen) }
     ensures crash { MatchResult result
         (λ _. CrashOfCreate D.at beside.old taken.new.disk
         (taken.old.generation + 1) checkpoint.now)
         (λ _. CrashOfCreate D.at beside.old beside.new (taken.old.generation + 1) checkpoint.now) }
-    ensures time { MatchResult result
-        (λ _. GoesOn D.at beside.old taken.new.disk)
-        (λ _. GoesOn D.at beside.old beside.new) }
+    // Its device calls are those of `Journal::turn`.
+    ensures calls { OnOk result (SettledIn D.at 0 (creating_calls checkpoint.now)
+        beside.old taken.new.disk) }
+    ensures lasts { MatchResult result
+        (λ _. Lasts D.at beside.old taken.new.disk)
+        (λ _. Lasts D.at beside.old beside.new) }
     ensures cause { MatchResult result
         (λ _. (D.at taken.new.disk).faults ≡ (D.at beside.old).faults)
         (λ _. Counted (D.at beside.old).faults (D.at beside.new).faults) }

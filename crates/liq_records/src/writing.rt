@@ -1,6 +1,6 @@
 //! How a command's record is written.
 ghost use Rattle.std.specs.Prelude.{◌≡◌, ◌<◌, ◌+◌, Some, List, ℕ, false, IfSome, OnErr, OnOk};
-ghost use Rattle.liq_outside.specs.Disk.{LeavesOnly, LeftNow, Only};
+ghost use Rattle.liq_outside.specs.Disk.{IsLater, LeavesOnly, LeftNow, Only};
 ghost use Rattle.liq_journal.specs.Called.{Called};
 ghost use Rattle.liq_journal.specs.Crash.{BeforeOrAfter, Stands, is_odd};
 ghost use Rattle.liq_journal.specs.Settled.{IsSettled};
@@ -20,8 +20,10 @@ pub fn write_record<D: Disk>(taken: &mut Journal<D>, command: &Command) -> Resul
     requires settled { IfSome (D.at taken.old.disk).seen
         (IsSettled taken.old.generation taken.old.start taken.old.count) }
 
-    ensures generation { taken.new.generation ≡ taken.old.generation }
-    ensures start { taken.new.start ≡ taken.old.start }
+    ensures same { taken.new ≡ record taken.old {
+      disk = taken.new.disk;
+      count = taken.new.count;
+    } }
     ensures one_more { OnOk result (taken.new.count ≡ taken.old.count + 1) }
     ensures no_more { OnErr result (taken.new.count ≡ taken.old.count) }
 
@@ -38,6 +40,8 @@ pub fn write_record<D: Disk>(taken: &mut Journal<D>, command: &Command) -> Resul
         → Only held (LeftNow D.at taken.old.disk) → Stands (is_odd taken.old.generation) held w
         → LeavesOnly D.at taken.old.disk taken.new.disk
         (BeforeOrAfter (is_odd taken.old.generation) w (read_back command.now)) }
+    // Its device calls are those of `Journal::append`.
+    ensures calls { OnOk result (IsLater D.at 4 taken.old.disk taken.new.disk) }
     ensures called { Called D.at taken.old.disk taken.new.disk result }
 {
     match taken.append(&encode(command)) {

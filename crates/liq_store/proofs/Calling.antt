@@ -2,9 +2,11 @@
 use Rattle.std.proofs.Common.{◌≡◌, ◌↔◌, inl, inr, ℕ, List, Bool, true, false, ◌&&◌, if◌then◌else◌, Option, Some, None, IfSome, IsSome, refl, sym, ◌∙◌, ap, subst}
 use Rattle.std.proofs.Math.Bool.{and-false}
 use Rattle.liq_outside.specs.At.{DiskAt}
-use Rattle.liq_outside.specs.Disk.{GoesOn, LeavesOnly, LeftSince}
+use Rattle.liq_outside.specs.Disk.{GoesOn, IsLater, LeavesOnly, LeftSince}
 use Rattle.liq_outside.proofs.Moments.{started, unmoved}
 use Rattle.liq_types.specs.declared.events.ListChange.{ListChange}
+use Rattle.liq_types.specs.declared.requests.Call.{Call}
+use Rattle.liq_types.specs.declared.requests.Call.TheVariants.{Rotate}
 use Rattle.liq_types.specs.declared.requests.Command.{Command}
 use Rattle.liq_types.specs.declared.requests.Request.{Request}
 use Rattle.liq_types.specs.declared.requests.Request.TheVariants.{Do, Ask}
@@ -15,7 +17,7 @@ use Rattle.liq_types.specs.declared.replies.Reply.{Reply}
 use Rattle.liq_types.specs.declared.replies.Answer.TheVariants as answer
 use Rattle.liq_types.specs.State.{State}
 use Rattle.liq_core.specs.Core.{Core, StandsFor}
-use Rattle.liq_rules.specs.Step.{Refused, Repeated, Ruling, is_allowed, ruling}
+use Rattle.liq_rules.specs.Step.{Allowed, Refused, Repeated, Ruling, is_allowed, ruling}
 use Rattle.liq_journal.specs.Crash.{BeforeOrAfter, CreateLeaves, Stands}
 use Rattle.liq_journal.specs.Settled.{IsSettled, JournalOn}
 use Rattle.liq_journal.specs.Written.{Open, Written, found_on, is_rotate, start_of}
@@ -44,6 +46,33 @@ refused_stays s c refusal is = ap (λ (r : Ruling). is_rotate c.call && is_allow
 -- and one of another verb
 pub other_stays : (s : State) (c : Command) → is_rotate c.call ≡ false → is_rotation s (Do c) ≡ false
 other_stays s c stays = ap (λ (b : Bool). b && is_allowed (ruling s c)) stays
+
+-- what comes again is not accepted
+pub repeated_not : (s : State) (request : Request) (c : Command) (kept : Done)
+    → request ≡ Do c → ruling s c ≡ Repeated kept → IsAccepted s request → ⊥
+repeated_not s request c kept is ruled accepted =
+    let no : Repeated kept ≡ Allowed = sym ruled ∙ subst (λ (q : Request). IsAccepted s q) is accepted in absurd (cc (no))
+
+-- nor is what is refused
+pub refused_not : (s : State) (request : Request) (c : Command) (refusal : Refusal)
+    → request ≡ Do c → ruling s c ≡ Refused refusal → IsAccepted s request → ⊥
+refused_not s request c refusal is ruled accepted =
+    let no : Refused refusal ≡ Allowed = sym ruled ∙ subst (λ (q : Request). IsAccepted s q) is accepted in absurd (cc (no))
+
+-- an accepted command of this verb is a rotation
+pub rotates_then : (s : State) (request : Request) (c : Command)
+    → request ≡ Do c → c.call ≡ Rotate → IsAccepted s request → is_rotation s request ≡ false → ⊥
+rotates_then s request c is call accepted none =
+    let allowed : ruling s c ≡ Allowed = subst (λ (q : Request). IsAccepted s q) is accepted in
+    let rotation : is_rotation s (Do c) ≡ true =
+    ap (λ (r : Ruling). is_rotate c.call && is_allowed r) allowed ∙ ap (λ (k : Call). is_rotate k && true) call in
+    let no : true ≡ false = sym rotation ∙ ap (is_rotation s) (sym is) ∙ none in absurd (cc (no))
+
+-- the disk that is taken is so much later
+pub taken_later : {D : Type 0} (at : D → DiskAt) (side : Side) (t b t' b' : D) (n : ℕ) → IsLater at n t t'
+    → IsLater at n (on side (on side t b) (on side b t)) (on side (on side t' b') (on side b' t'))
+taken_later at Left t b t' b' n later = later
+taken_later at Right t b t' b' n later = later
 
 -- A reply to one takes no other disk.
 pub reply_stays : (s : State) (request : Request) (reply : Reply) (side : Side) (start : ℕ) → is_rotation s request ≡ false

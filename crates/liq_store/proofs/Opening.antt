@@ -1,7 +1,8 @@
 -- What an opening of two disks finds and leaves, by what it finds and leaves of each.
 use Rattle.std.proofs.Common.{◌≡◌, ◌≢◌, ◌⊎◌, inl, inr, ◌↔◌, ℕ, List, [], Option, Some, None, IfSome, IsSome, Bool, true, false, Result, Ok, Err, IfOk, IfErr, refl, sym, ◌∙◌, ap, ap₂, subst, arith, ◌≤◌, ⊎_elim}
 use Rattle.liq_outside.specs.At.{DiskAt}
-use Rattle.liq_outside.specs.Disk.{GoesOn, LeavesOnly, LeftNow, Only}
+use Rattle.liq_outside.specs.Disk.{LeavesOnly, LeftNow, Only}
+use Rattle.liq_journal.specs.Called.{Lasts}
 use Rattle.liq_outside.specs.Faults.{Rose}
 use Rattle.liq_outside.proofs.Moments.{chained, weaker}
 use Rattle.liq_types.specs.State.{State}
@@ -49,8 +50,7 @@ StandsAs at odd old result = record {
   journal : IfOk result (IsCounted odd);
   crash : CrashOfOpen at old (disk_in result) odd;
   reads : ReadsOfOpen at old (disk_in result) odd;
-  telling : IsSome (at (disk_in result)).seen ↔ IsSome (at old).seen;
-  time : GoesOn at old (disk_in result);
+  lasts : Lasts at old (disk_in result);
   cause : CountsStand result (at old).faults (at (disk_in result)).faults;
 }
 
@@ -83,7 +83,7 @@ module _ {D : Type 0} (at : D → DiskAt) where
       by : (o : Option (List ℕ)) → (at (disk_in (Ok stood))).seen ≡ o → IfSome o (λ now. IsStanding odd now stood)
       by None none = tt
       by (Some now) told =
-          let before = told_too (at (disk_in (Ok stood))).seen (at old).seen (is.telling.1, is.telling.0) now told in
+          let before = told_too (at (disk_in (Ok stood))).seen (at old).seen (is.lasts.telling.1, is.lasts.telling.0) now told in
           as_it_stands odd before.0 now stood (is.same tt before.0 now before.1 told) (is.found before.0 before.1)
           (subst (λ (o : Option (List ℕ)). IfSome o (λ after. IsLeftOn after (Ok stood))) told is.left)
 
@@ -94,10 +94,10 @@ module _ {D : Type 0} (at : D → DiskAt) where
     stands_still fl fr l r x y tl tr tx ty = state_alike l r x y (sl.same fl l x tl tx) (sr.same fr r y tr ty)
 
     left_told : (l : List ℕ) → (at left).seen ≡ Some l → (x : List ℕ) × ((at (disk_in lr)).seen ≡ Some x)
-    left_told l tl = told_too (at left).seen (at (disk_in lr)).seen sl.telling l tl
+    left_told l tl = told_too (at left).seen (at (disk_in lr)).seen sl.lasts.telling l tl
 
     right_told : (r : List ℕ) → (at right).seen ≡ Some r → (y : List ℕ) × ((at (disk_in rr)).seen ≡ Some y)
-    right_told r tr = told_too (at right).seen (at (disk_in rr)).seen sr.telling r tr
+    right_told r tr = told_too (at right).seen (at (disk_in rr)).seen sr.lasts.telling r tr
 
     state_before : IsFaultless lr → IsFaultless rr → (core : Core)
         → ((x y : List ℕ) → (at (disk_in lr)).seen ≡ Some x → (at (disk_in rr)).seen ≡ Some y → (s : State) × (state_on x y ≡ Ok s) × StandsFor core s)
@@ -143,14 +143,14 @@ module _ {D : Type 0} (at : D → DiskAt) where
 
     pub left_created : (l r : List ℕ) → (at left).seen ≡ Some l → (at right).seen ≡ Some r → Only l (LeftNow at left) → LeavesOnly at left now (LeftLeaves l r)
     left_created l r tl tr only =
-        let m = told_too (at left).seen (at dl).seen sl.telling l tl in
+        let m = told_too (at left).seen (at dl).seen sl.lasts.telling l tl in
         chained at left dl now (LeftLeaves l r)
         (weaker at left dl (OpenLeaves true l) (LeftLeaves l r) (sl.crash l tl only) (λ image opened. inl opened))
         (weaker at dl now (CreateLeaves true m.0 (beginning 1 [])) (LeftLeaves l r) (creates.crash m.0 m.1 (only_it m.0 m.1)) (λ image made. from_old l r m.0 image tl tr m.1 made))
 
     pub created_reads : (l r x : List ℕ) → (at left).seen ≡ Some l → (at right).seen ≡ Some r → (at now).seen ≡ Some x → LeftLeaves l r x
     created_reads l r x tl tr tx =
-        let m = told_too (at left).seen (at dl).seen sl.telling l tl in
+        let m = told_too (at left).seen (at dl).seen sl.lasts.telling l tl in
         from_old l r m.0 x tl tr m.1 (creates.reads m.0 x m.1 (only_it m.0 m.1) tx)
 
   -- ---- whichever it is

@@ -1,7 +1,7 @@
 -- Two disks with which nothing is wrong, and the store that begins on them.
-use Rattle.std.specs.Prelude.{◌≡◌, ◌⊎◌, ◌↔◌, ◌<◌, ℕ, List, [], Some, IfSome, IsSome, Bool}
+use Rattle.std.specs.Prelude.{◌≡◌, ◌⊎◌, ◌<◌, ℕ, List, [], Some, IfSome, Bool}
 use Rattle.liq_outside.specs.At.{DiskAt}
-use Rattle.liq_outside.specs.Disk.{GoesOn}
+use Rattle.liq_journal.specs.Called.{Lasts}
 use Rattle.liq_journal.specs.Causes.{Counted}
 use Rattle.liq_journal.specs.Crash.{CrashOfCreate, ReadsOfCreate}
 use Rattle.liq_journal.specs.Opened.{IsUnshut}
@@ -43,8 +43,7 @@ IsNothing (Holding journal core) = ⊥
 pub record Creates {D : Type 0} (at : D → DiskAt) (old new : D) : Type 0 where
   pub crash : CrashOfCreate at old new 1 []
   pub reads : ReadsOfCreate at old new 1 []
-  pub telling : IsSome (at new).seen ↔ IsSome (at old).seen
-  pub time : GoesOn at old new
+  pub lasts : Lasts at old new
 
 -- The left disk stays, or where both hold nothing the first generation is created on it.
 abbrev pub BeginsLeft : {D : Type 0} → (D → DiskAt) → Stood D → Stood D → D → Type 0

@@ -1,12 +1,12 @@
 -- What a call does to the disks of a store.
 use Rattle.std.specs.Prelude.{◌≡◌, ◌↔◌, ℕ, List, Some, None, IsSome, true, false}
 use Rattle.liq_outside.specs.At.{DiskAt}
-use Rattle.liq_outside.specs.Disk.{GoesOn, LeavesOnly}
+use Rattle.liq_outside.specs.Disk.{GoesOn, IsLater, LeavesOnly}
 use Rattle.liq_types.specs.declared.requests.Command.{Command}
 use Rattle.liq_types.specs.declared.requests.Request.{Request}
 use Rattle.liq_types.specs.declared.requests.Request.TheVariants.{Do}
 use Rattle.liq_types.specs.declared.replies.Answer.{Answer}
-use Rattle.liq_types.specs.declared.replies.Answer.TheVariants.{NoMemory}
+use Rattle.liq_types.specs.declared.replies.Answer.TheVariants.{NoMemory, Reply}
 use Rattle.liq_types.specs.State.{State}
 use Rattle.liq_core.specs.Core.{StandsFor}
 use Rattle.liq_journal.specs.Crash.{BeforeOrAfter, CreateLeaves}
@@ -17,6 +17,14 @@ use Rattle.liq_store.specs.Keeping.{IsKeptAround, LeavesPairs}
 use Rattle.liq_rules.specs.Memory.{IsAccepted}
 use Rattle.liq_store.specs.Rotating.{is_rotation, rotation_of, side_after, start_after}
 use Rattle.liq_store.specs.Stored.{Stored, disk_beside, taken_disk}
+
+-- An accepted command that is answered, and is no rotation, makes the device calls of one record, on the disk that is
+-- taken.
+abbrev pub AppendsOnce : {D : Type 0} → (D → DiskAt) → Stored D → Request → Answer → Stored D → Type 0
+AppendsOnce at old request (Reply reply) new =
+    (s : State) → StandsFor old.core s → IsAccepted s request → is_rotation s request ≡ false
+    → IsLater at 4 (taken_disk old) (taken_disk new)
+AppendsOnce at old request _ new = Unit {0}
 
 -- Only an accepted command is written: a rotation on the disk that was beside, which is taken after the reply, and any
 -- other on the one that was taken.

@@ -1,7 +1,8 @@
 // One disk, whole: its own bytes tested, and the commands of its journal made again.
-ghost use Rattle.std.specs.Prelude.{◌≡◌, ◌↔◌, Some, Ok, List, ℕ, true, length, IfOk, IfSome, IsSome};
-ghost use Rattle.liq_outside.specs.Disk.{GoesOn, Looked};
+ghost use Rattle.std.specs.Prelude.{◌≡◌, Some, Ok, List, ℕ, true, length, IfOk, IfSome};
+ghost use Rattle.liq_outside.specs.Disk.{Looked};
 ghost use Rattle.liq_journal.specs.Bodies.{IsJournalOf};
+ghost use Rattle.liq_journal.specs.Called.{Lasts};
 ghost use Rattle.liq_journal.specs.Opened.{CrashOfOpen, ReadsOfOpen};
 ghost use Rattle.liq_journal.specs.Written.{Written, found_on, is_generation};
 ghost use Rattle.liq_store.specs.Keeping.{IsAtRest};
@@ -80,8 +81,7 @@ pub fn stand<D: Disk>(alloc: Global, disk: D, odd: bool) -> Result<Stood<D>, Sta
 
     ensures crash { CrashOfOpen D.at disk (disk_in result) odd }
     ensures reads { ReadsOfOpen D.at disk (disk_in result) odd }
-    ensures telling { IsSome (D.at (disk_in result)).seen ↔ IsSome (D.at disk).seen }
-    ensures time { GoesOn D.at disk (disk_in result) }
+    ensures lasts { Lasts D.at disk (disk_in result) }
     ensures cause { CountsStand result (D.at disk).faults (D.at (disk_in result)).faults }
 {
     match Journal::open(alloc, disk, odd) {

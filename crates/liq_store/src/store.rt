@@ -24,7 +24,7 @@ ghost use Rattle.liq_pairs.specs.Unfinished.{IsRecovered, LeftLeaves};
 ghost use Rattle.liq_records.specs.Reading.{IsReadable};
 ghost use Rattle.liq_store.specs.Answering.{Answers, IsUnreadable};
 ghost use Rattle.liq_store.specs.Beginning.{BeginsLeft, Creates, IsEarlier, IsStoodOn, IsUnbegun};
-ghost use Rattle.liq_store.specs.Calling.{WritesOn};
+ghost use Rattle.liq_store.specs.Calling.{AppendsOnce, WritesOn};
 ghost use Rattle.liq_store.specs.Causes.{CausesAccepted, CausesAnswer, stopped_after, stopped_after_reading};
 ghost use Rattle.liq_store.specs.Judging.{disk_of};
 ghost use Rattle.liq_store.specs.Keeping.{IsAtRest, IsInOrder, LeavesPairs};
@@ -197,6 +197,7 @@ impl<D: Disk> Store<D> {
         // Only an accepted command is written. A stop leaves two disks that are kept for the state before the call or
         // after it; after a reply, by `order`, for that after it.
         ensures disks { WritesOn D.at self.old request.now result self.new }
+        ensures appended { AppendsOnce D.at self.old request.now result self.new }
         ensures order { IsInOrder D.at self.new }
     {
         if let Some(faults) = self.stopped {
@@ -223,6 +224,7 @@ impl<D: Disk> Store<D> {
             (record { left = (D.at self.old.left).faults; right = (D.at self.old.right).faults })
             (record { left = (D.at self.new.left).faults; right = (D.at self.new.right).faults }) }
         ensures disks { WritesOn D.at self.old request.now result self.new }
+        ensures appended { AppendsOnce D.at self.old request.now result self.new }
         ensures order { IsInOrder D.at self.new }
     {
         let command = match request {
@@ -311,10 +313,11 @@ impl<D: Disk> Store<D> {
         ensures readable { IsSome (D.at (taken_disk self.old)).seen → IfErr result IsReadable }
         ensures looked { Looked D.at (taken_disk self.old) (taken_disk self.new) }
         ensures beside { disk_beside self.new ≡ disk_beside self.old }
-        ensures side { self.new.side ≡ self.old.side }
-        ensures start { self.new.start ≡ self.old.start }
-        ensures core { self.new.core ≡ self.old.core }
-        ensures changes { self.new.changes ≡ self.old.changes }
+        ensures same { self.new ≡ record self.old {
+          left = self.new.left;
+          right = self.new.right;
+          stopped = self.new.stopped;
+        } }
         ensures stops { self.new.stopped ≡ stopped_after_reading self.old.stopped result
             (record { left = (D.at self.new.left).faults; right = (D.at self.new.right).faults }) }
         ensures cause { CausesAccepted result
@@ -360,8 +363,7 @@ impl<D: Disk> Store<D> {
 
     /// Shows a sink both disks as they are now, the left one first. It is no device call.
     pub fn show<K: Sink>(&self, out: &mut K)
-        ensures same { (K.at out.new).held ≡ (K.at out.old).held }
-        ensures faults { (K.at out.new).faults ≡ (K.at out.old).faults }
+        ensures same { K.at out.new ≡ record (K.at out.old) { shown = (K.at out.new).shown } }
         ensures shown { Notes D.at (K.at out.old).held self.now.left self.now.right
             (K.at out.old).shown (K.at out.new).shown }
     {

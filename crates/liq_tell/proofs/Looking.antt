@@ -17,6 +17,7 @@ module _ {D : Type 0} (at : D → DiskAt) where
   unlooked : (disk : D) → Looked at disk disk
   unlooked disk = record {
     same = refl;
+    moment = refl;
     within = λ image left. left;
     keeps = λ image left. left;
     leaves =

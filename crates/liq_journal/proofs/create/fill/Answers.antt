@@ -28,12 +28,12 @@ returns-clause-filled g c = on_ok c.sync.result ((g.D.Disk.at c.sync.new.self).s
 pub returns-in_err-write_behind-2-clause-called : goal.returns-in_err-write_behind-2-clause-called
 returns-in_err-write_behind-2-clause-called g c =
     let calls = called_on g.D.Disk.at c.args.disk.now c.write_behind.new.disk c.write_behind-2.new.disk _ _ c.write_behind.ensures.called c.in_ok-write_behind.ensures.called.cause.ok c.write_behind-2.ensures.called in
-    record { telling = calls.telling; time = calls.time; cause = search rules }
+    record { lasts = calls.lasts; cause = search rules }
 
 pub returns-in_err-write_behind-3-clause-called : goal.returns-in_err-write_behind-3-clause-called
 returns-in_err-write_behind-3-clause-called g c =
     let calls = called_on g.D.Disk.at c.args.disk.now c.write_behind-2.new.disk c.write_behind-3.new.disk _ _ (called_on g.D.Disk.at c.args.disk.now c.write_behind.new.disk c.write_behind-2.new.disk _ _ c.write_behind.ensures.called c.in_ok-write_behind.ensures.called.cause.ok c.write_behind-2.ensures.called) (c.in_ok-write_behind-2.ensures.called.cause.ok ∙ c.in_ok-write_behind.ensures.called.cause.ok) c.write_behind-3.ensures.called in
-    record { telling = calls.telling; time = calls.time; cause = search rules }
+    record { lasts = calls.lasts; cause = search rules }
 
 pub returns-clause-called : goal.returns-clause-called
 returns-clause-called g c =
@@ -41,7 +41,9 @@ returns-clause-called g c =
     let same = c.in_ok-write_behind-2.ensures.called.cause.ok ∙ c.in_ok-write_behind.ensures.called.cause.ok in
     let both = called_on g.D.Disk.at c.args.disk.now c.write_behind-2.new.disk c.write_behind-3.new.disk _ _ first same c.write_behind-3.ensures.called in
     called_on g.D.Disk.at c.args.disk.now c.write_behind-3.new.disk c.sync.new.self _ _ both (c.in_ok-write_behind-3.ensures.called.cause.ok ∙ same) (record {
-      telling = telling_same (g.D.Disk.at c.write_behind-3.new.disk).seen (g.D.Disk.at c.sync.new.self).seen c.sync.ensures.same;
-      time = c.sync.ensures.time.goes_on;
+      lasts = record {
+        telling = telling_same (g.D.Disk.at c.write_behind-3.new.disk).seen (g.D.Disk.at c.sync.new.self).seen c.sync.ensures.same;
+        time = c.sync.ensures.time.goes_on;
+      };
       cause = c.sync.ensures.cause;
     })

@@ -1,7 +1,7 @@
 use Rattle.std.proofs.Common.{◌≡◌, ◌≤◌, ◌∙◌, List, ℕ, [], ◌∷◌, Option, Some, option_map, IfSome, length, take, subst, sym, rules}
 use Rattle.liq_outside.specs.Disk.{LeftNow, Only, overwritten}
 use Rattle.liq_journal.specs.Crash.{HasGate}
-use Rattle.liq_journal.proofs.Going.{called_behind, on_ok_from, telling_same}
+use Rattle.liq_journal.proofs.Going.{called_behind, lasts_looked, on_ok_from}
 use Rattle.liq_journal.proofs.Settling.{settle_looked, settle_written, gate_told, front_told}
 use Rattle.liq_journal.proofs.gate.settle.Goals as goal
 
@@ -19,15 +19,13 @@ returns-clause-crash g c = λ held told only.
 
 pub returns-in_err-is_shut-clause-called : goal.returns-in_err-is_shut-clause-called
 returns-in_err-is_shut-clause-called g c = record {
-  telling = telling_same (g.D.Disk.at c.args.disk.now).seen (g.D.Disk.at c.is_shut.new.disk).seen c.is_shut.ensures.looked.same;
-  time = c.is_shut.ensures.looked.leaves.goes_on;
+  lasts = lasts_looked g.D.Disk.at c.args.disk.now c.is_shut.new.disk c.is_shut.ensures.looked;
   cause = search rules;
 }
 
 pub returns-then-branch-clause-called : goal.returns-then-branch-clause-called
 returns-then-branch-clause-called g c = record {
-  telling = telling_same (g.D.Disk.at c.args.disk.now).seen (g.D.Disk.at c.is_shut.new.disk).seen c.is_shut.ensures.looked.same;
-  time = c.is_shut.ensures.looked.leaves.goes_on;
+  lasts = lasts_looked g.D.Disk.at c.args.disk.now c.is_shut.new.disk c.is_shut.ensures.looked;
   cause = search rules;
 }
 

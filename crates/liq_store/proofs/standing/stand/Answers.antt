@@ -14,13 +14,13 @@ use Rattle.liq_store.proofs.standing.stand.Goals as goal
 pub returns-in-Ok-clause-found : goal.returns-in-Ok-clause-found
 returns-in-Ok-clause-found g c held told =
     let j = c.in-Ok.journal in
-    let o = opened_as (g.D.Disk.at c.args.disk).seen (g.D.Disk.at j.disk).seen c.args.odd j.generation j.limit j.start j.count _ c.in-Ok.ensures.telling c.in-Ok.ensures.generation c.in-Ok.ensures.found c.in-Ok.ensures.stands held told in
+    let o = opened_as (g.D.Disk.at c.args.disk).seen (g.D.Disk.at j.disk).seen c.args.odd j.generation j.limit j.start j.count _ c.in-Ok.ensures.lasts.telling c.in-Ok.ensures.generation c.in-Ok.ensures.found c.in-Ok.ensures.stands held told in
     found_by c.args.odd held o.2.written j c.hold.result o.2.found o.2.generation_is (c.hold.ensures.holds o.0 o.2.written o.1 o.2.journal o.2.limit_is o.2.checkpoint_is o.2.count_is) c.hold.ensures.journal
 
 pub returns-in-Ok-clause-same : goal.returns-in-Ok-clause-same
 returns-in-Ok-clause-same g c faultless held after told told_after =
     let j = c.in-Ok.journal in
-    let o = opened_as (g.D.Disk.at c.args.disk).seen (g.D.Disk.at j.disk).seen c.args.odd j.generation j.limit j.start j.count _ c.in-Ok.ensures.telling c.in-Ok.ensures.generation c.in-Ok.ensures.found c.in-Ok.ensures.stands held told in
+    let o = opened_as (g.D.Disk.at c.args.disk).seen (g.D.Disk.at j.disk).seen c.args.odd j.generation j.limit j.start j.count _ c.in-Ok.ensures.lasts.telling c.in-Ok.ensures.generation c.in-Ok.ensures.found c.in-Ok.ensures.stands held told in
     let same = some_same after o.0 (g.D.Disk.at j.disk).seen (sym c.hold.ensures.looked.same ∙ told_after) o.1 in
     ap (found_on c.args.odd) same ∙ o.2.stands.found ∙ sym o.2.found
 
@@ -62,7 +62,7 @@ returns-in-NoMemory-clause-same g c faultless held after told told_after =
 pub returns-in-Ok-clause-shut : goal.returns-in-Ok-clause-shut
 returns-in-Ok-clause-shut g c faultless held after told told_after =
     let j = c.in-Ok.journal in
-    let o = opened_as (g.D.Disk.at c.args.disk).seen (g.D.Disk.at j.disk).seen c.args.odd j.generation j.limit j.start j.count _ c.in-Ok.ensures.telling c.in-Ok.ensures.generation c.in-Ok.ensures.found c.in-Ok.ensures.stands held told in
+    let o = opened_as (g.D.Disk.at c.args.disk).seen (g.D.Disk.at j.disk).seen c.args.odd j.generation j.limit j.start j.count _ c.in-Ok.ensures.lasts.telling c.in-Ok.ensures.generation c.in-Ok.ensures.found c.in-Ok.ensures.stands held told in
     let same = some_same after o.0 (g.D.Disk.at j.disk).seen (sym c.hold.ensures.looked.same ∙ told_after) o.1 in
     subst (λ (bytes : List ℕ). OnlyShuts c.args.odd held bytes) (sym same)
     (shut_behind c.args.odd held o.0 o.2.written o.2.found o.2.stands (c.in-Ok.ensures.reads held o.0 told o.1))

@@ -1,4 +1,4 @@
-use Rattle.std.proofs.Common.{[], ℕ, sym, subst, ◌∙◌}
+use Rattle.std.proofs.Common.{[], ℕ, ap, sym, subst, ◌∙◌}
 use Rattle.liq_journal.specs.Crash.{Stands, beginning, is_odd}
 use Rattle.liq_journal.specs.Written.{and_then}
 use Rattle.test_disks.proofs.in_a_row.two_records.Goals as goal
@@ -11,6 +11,6 @@ returns-in-Ok-append-2 g c = λ held told.
     let a = c.in-Ok.ensures.created held told in
     let created = subst (λ (n : ℕ). Stands (is_odd n) a.0 none) (sym c.in-Ok.ensures.known.0) a.2 in
     let b = c.in-Ok-append.ensures.appended a.0 none c.args.first.now a.1 created (record { spelled = c.encode.ensures.back c.requires.hints.0; no_rotation = c.requires.no_rotation.0 }) in
-    let first = subst (λ (n : ℕ). Stands (is_odd n) b.0 one) (sym c.append.ensures.generation) b.2 in
+    let first = subst (λ (n : ℕ). Stands (is_odd n) b.0 one) (sym (ap (λ j. j.generation) c.append.ensures.same)) b.2 in
     let d = c.in-Ok-append-2.ensures.appended b.0 one c.args.second.now b.1 first (record { spelled = c.encode-2.ensures.back c.requires.hints.1; no_rotation = c.requires.no_rotation.1 }) in
-    (d.0, d.1, subst (λ (n : ℕ). Stands (is_odd n) d.0 two) (c.append.ensures.generation ∙ c.in-Ok.ensures.known.0) d.2)
+    (d.0, d.1, subst (λ (n : ℕ). Stands (is_odd n) d.0 two) (ap (λ j. j.generation) c.append.ensures.same ∙ c.in-Ok.ensures.known.0) d.2)

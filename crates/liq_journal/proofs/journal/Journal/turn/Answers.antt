@@ -16,4 +16,4 @@ returns-clause-created g c held told = rw (c.swap.ensures.x_after, ← c.self.vi
 pub returns-clause-settled : goal.returns-clause-settled
 returns-clause-settled g c =
     rw c.swap.ensures.x_after
-    (begun_settled (g.D.Disk.at c.args.beside.now).seen (g.D.Disk.at c.make.new.disk).seen (c.self.inside.generation + 1) c.args.checkpoint.now c.make.ensures.called.telling c.in_ok-make.ensures.created)
+    (begun_settled (g.D.Disk.at c.args.beside.now).seen (g.D.Disk.at c.make.new.disk).seen (c.self.inside.generation + 1) c.args.checkpoint.now c.make.ensures.called.lasts.telling c.in_ok-make.ensures.created)

@@ -1,5 +1,7 @@
 use Rattle.std.proofs.Common.{refl, ap, subst}
 use Rattle.liq_types.specs.declared.replies.Answer.TheVariants as answer
+use Rattle.liq_types.specs.declared.requests.Request.{Request}
+use Rattle.liq_rules.specs.Memory.{IsAccepted}
 use Rattle.liq_store.specs.Calling.{WritesOn}
 use Rattle.liq_store.specs.Rotating.{is_rotation}
 use Rattle.liq_store.specs.Stored.{Stored}
@@ -17,3 +19,6 @@ returns-in-Some-clause-disks g c =
     subst (λ (o : Stored g.row.D.Denot). WritesOn g.D.Disk.at c.args.self.now c.args.request.now (answer.Stopped c.in-Some.faults) o) c.self.view_is
     (stays_on g.D.Disk.at c.self.inside.side c.self.inside.taken c.self.inside.beside c.self.inside.protocol c.self.inside.stopped c.self.inside.changes.items c.self.invariant c.args.self.now c.self.view_is c.self.inside.protocol c.self.inside.stopped c.self.inside.changes.items c.args.request.now (answer.Stopped c.in-Some.faults)
     (λ s stands. (refl, refl)))
+
+pub returns-in-Ask-clause-appended : goal.returns-in-Ask-clause-appended
+returns-in-Ask-clause-appended g c s stands accepted none = absurd (subst (λ (q : Request). IsAccepted s q) c.in-Ask.is accepted)

@@ -1,5 +1,6 @@
 use Rattle.std.proofs.Common.{◌∙◌, ◌++◌, inl, ℕ, Option, Some, refl, sym, ap, ap₂, subst, arith}
 use Rattle.liq_types.specs.declared.image.Image.{Image}
+use Rattle.liq_outside.specs.Disk.{IsLater}
 use Rattle.liq_types.specs.declared.replies.Answer.TheVariants as answer
 use Rattle.liq_types.specs.declared.replies.Reply.TheVariants.{No, Said}
 use Rattle.liq_types.specs.State.{State}
@@ -19,10 +20,10 @@ use Rattle.liq_store.specs.Causes.{OneRose, counts_of}
 use Rattle.liq_store.specs.Keeping.{IsInOrder}
 use Rattle.liq_rules.specs.Memory.{IsAccepted, TakesMemory}
 use Rattle.liq_store.specs.Rotating.{is_rotation}
-use Rattle.liq_store.specs.Stored.{Stored}
+use Rattle.liq_store.specs.Stored.{Stored, taken_disk}
 use Rattle.liq_store.specs.Within.{IsWithin, stored}
 use Rattle.liq_store.proofs.Appending.{all_has, appends, appends_on, has_same, kept_near, some_isnt_none, still_has, went_on}
-use Rattle.liq_store.proofs.Calling.{refused_stays, repeated_stays, reply_stays, stays_on}
+use Rattle.liq_store.proofs.Calling.{refused_not, refused_stays, repeated_not, repeated_stays, reply_stays, rotates_then, stays_on, taken_later}
 use Rattle.liq_store.proofs.Counts.{beside_rose, stopped_on, taken_rose, taken_still, turned_still}
 use Rattle.liq_store.proofs.Going.{order_going, order_halted, order_same, within_same}
 use Rattle.liq_store.proofs.Rulings.{none_told, ruled, told_by_ruling}
@@ -86,7 +87,7 @@ pub invariant_of-self-in-Err : goal.invariant_of-self-in-Err
 invariant_of-self-in-Err g c =
     let t = turns_by g.D.Disk.at c.self.inside.side c.self.inside.taken c.self.inside.beside c.turn.new.beside c.self.inside.protocol c.self.inside.stopped c.in-Do.command c.deref.result.now (ap (λ (o : Stored g.row.D.Denot). o.stopped) c.self.view_is ∙ c.requires.going) c.self.invariant
     (rotation_from c.self.inside.protocol c.prepare.new.protocol c.protocol.result.now c.in-Ready.planned c.in-Do.command c.in-Ok.checkpoint.items c.deref.result.now c.prepare.ensures.same c.protocol.ensures (c.in-Ready.ensures.ready.0 ∙ unhinted_rotation c.in-Do.command c.in-Rotate.is) c.deref.ensures.value c.in-Ok.ensures.rotation)
-    c.in-Err.ensures.telling c.in-Err.ensures.crash c.in-Err.ensures.time in
+    c.in-Err.ensures.lasts.telling c.in-Err.ensures.crash c.in-Err.ensures.lasts.time in
     subst (λ (j : JournalOn g.row.D.Denot). IsWithin g.D.Disk.at c.self.inside.side j c.turn.new.beside c.prepare.new.protocol (Some c.sum_of_faults.result) c.prepare.new.changes.items) (sym c.in-Err.ensures.kept)
     (turning_halts g.D.Disk.at c.self.inside.side c.self.inside.taken c.self.inside.beside c.turn.new.beside c.self.inside.protocol c.in-Do.command c.deref.result.now t g.met.D.Disk.seen_may_stay c.self.inside.stopped c.self.invariant c.prepare.new.protocol c.prepare.ensures.same c.sum_of_faults.result)
 
@@ -94,7 +95,7 @@ pub returns-in-Err-clause-order : goal.returns-in-Err-clause-order
 returns-in-Err-clause-order g c =
     let t = turns_by g.D.Disk.at c.self.inside.side c.self.inside.taken c.self.inside.beside c.turn.new.beside c.self.inside.protocol c.self.inside.stopped c.in-Do.command c.deref.result.now (ap (λ (o : Stored g.row.D.Denot). o.stopped) c.self.view_is ∙ c.requires.going) c.self.invariant
     (rotation_from c.self.inside.protocol c.prepare.new.protocol c.protocol.result.now c.in-Ready.planned c.in-Do.command c.in-Ok.checkpoint.items c.deref.result.now c.prepare.ensures.same c.protocol.ensures (c.in-Ready.ensures.ready.0 ∙ unhinted_rotation c.in-Do.command c.in-Rotate.is) c.deref.ensures.value c.in-Ok.ensures.rotation)
-    c.in-Err.ensures.telling c.in-Err.ensures.crash c.in-Err.ensures.time in
+    c.in-Err.ensures.lasts.telling c.in-Err.ensures.crash c.in-Err.ensures.lasts.time in
     subst (λ (j : JournalOn g.row.D.Denot). IsInOrder g.D.Disk.at (stored c.self.inside.side j c.turn.new.beside c.prepare.new.protocol (Some c.sum_of_faults.result) c.prepare.new.changes.items)) (sym c.in-Err.ensures.kept)
     (turning_halts g.D.Disk.at c.self.inside.side c.self.inside.taken c.self.inside.beside c.turn.new.beside c.self.inside.protocol c.in-Do.command c.deref.result.now t {changes = c.prepare.new.changes.items} g.met.D.Disk.seen_may_stay c.self.inside.stopped c.self.invariant c.prepare.new.protocol c.prepare.ensures.same c.sum_of_faults.result).order
 
@@ -102,7 +103,7 @@ pub returns-in-Err-clause-disks : goal.returns-in-Err-clause-disks
 returns-in-Err-clause-disks g c =
     let t = turns_by g.D.Disk.at c.self.inside.side c.self.inside.taken c.self.inside.beside c.turn.new.beside c.self.inside.protocol c.self.inside.stopped c.in-Do.command c.deref.result.now (ap (λ (o : Stored g.row.D.Denot). o.stopped) c.self.view_is ∙ c.requires.going) c.self.invariant
     (rotation_from c.self.inside.protocol c.prepare.new.protocol c.protocol.result.now c.in-Ready.planned c.in-Do.command c.in-Ok.checkpoint.items c.deref.result.now c.prepare.ensures.same c.protocol.ensures (c.in-Ready.ensures.ready.0 ∙ unhinted_rotation c.in-Do.command c.in-Rotate.is) c.deref.ensures.value c.in-Ok.ensures.rotation)
-    c.in-Err.ensures.telling c.in-Err.ensures.crash c.in-Err.ensures.time in
+    c.in-Err.ensures.lasts.telling c.in-Err.ensures.crash c.in-Err.ensures.lasts.time in
     subst (λ (j : JournalOn g.row.D.Denot). WritesOn g.D.Disk.at c.args.self.now c.args.request.now answer.DiskFault (stored c.self.inside.side j c.turn.new.beside c.prepare.new.protocol (Some c.sum_of_faults.result) c.prepare.new.changes.items)) (sym c.in-Err.ensures.kept)
     (turning_failed g.D.Disk.at c.self.inside.side c.self.inside.taken c.self.inside.beside c.turn.new.beside c.self.inside.protocol c.in-Do.command c.deref.result.now t c.self.inside.stopped c.self.inside.changes.items c.self.invariant c.args.self.now c.self.view_is c.args.request.now c.in-Do.is c.prepare.new.protocol (Some c.sum_of_faults.result) c.prepare.new.changes.items)
 
@@ -110,7 +111,7 @@ pub invariant_of-self-in-Rotate : goal.invariant_of-self-in-Rotate
 invariant_of-self-in-Rotate g c =
     let t = turns_by g.D.Disk.at c.self.inside.side c.self.inside.taken c.self.inside.beside c.turn.new.taken.disk c.self.inside.protocol c.self.inside.stopped c.in-Do.command c.deref.result.now (ap (λ (o : Stored g.row.D.Denot). o.stopped) c.self.view_is ∙ c.requires.going) c.self.invariant
     (rotation_from c.self.inside.protocol c.prepare.new.protocol c.protocol.result.now c.in-Ready.planned c.in-Do.command c.in-Ok.checkpoint.items c.deref.result.now c.prepare.ensures.same c.protocol.ensures (c.in-Ready.ensures.ready.0 ∙ unhinted_rotation c.in-Do.command c.in-Rotate.is) c.deref.ensures.value c.in-Ok.ensures.rotation)
-    c.in-Ok-turn.ensures.telling c.in-Ok-turn.ensures.crash c.in-Ok-turn.ensures.time in
+    c.in-Ok-turn.ensures.lasts.telling c.in-Ok-turn.ensures.crash c.in-Ok-turn.ensures.lasts.time in
     subst (λ (x : Side). IsWithin g.D.Disk.at x c.turn.new.taken c.turn.new.beside c.make-done.new.protocol c.self.inside.stopped c.prepare.new.changes.items) (sym c.in-Ok-turn.ensures.side)
     (subst (λ (d : g.row.D.Denot). IsWithin g.D.Disk.at (other c.self.inside.side) c.turn.new.taken d c.make-done.new.protocol c.self.inside.stopped c.prepare.new.changes.items) (sym c.in-Ok-turn.ensures.exchanged)
     (subst (λ (o : Option ℕ). IsWithin g.D.Disk.at (other c.self.inside.side) c.turn.new.taken c.self.inside.taken.disk c.make-done.new.protocol o c.prepare.new.changes.items) (sym (ap (λ (o : Stored g.row.D.Denot). o.stopped) c.self.view_is ∙ c.requires.going))
@@ -121,7 +122,7 @@ pub returns-in-Rotate-clause-order : goal.returns-in-Rotate-clause-order
 returns-in-Rotate-clause-order g c =
     let t = turns_by g.D.Disk.at c.self.inside.side c.self.inside.taken c.self.inside.beside c.turn.new.taken.disk c.self.inside.protocol c.self.inside.stopped c.in-Do.command c.deref.result.now (ap (λ (o : Stored g.row.D.Denot). o.stopped) c.self.view_is ∙ c.requires.going) c.self.invariant
     (rotation_from c.self.inside.protocol c.prepare.new.protocol c.protocol.result.now c.in-Ready.planned c.in-Do.command c.in-Ok.checkpoint.items c.deref.result.now c.prepare.ensures.same c.protocol.ensures (c.in-Ready.ensures.ready.0 ∙ unhinted_rotation c.in-Do.command c.in-Rotate.is) c.deref.ensures.value c.in-Ok.ensures.rotation)
-    c.in-Ok-turn.ensures.telling c.in-Ok-turn.ensures.crash c.in-Ok-turn.ensures.time in
+    c.in-Ok-turn.ensures.lasts.telling c.in-Ok-turn.ensures.crash c.in-Ok-turn.ensures.lasts.time in
     subst (λ (x : Side). IsInOrder g.D.Disk.at (stored x c.turn.new.taken c.turn.new.beside c.make-done.new.protocol c.self.inside.stopped c.prepare.new.changes.items)) (sym c.in-Ok-turn.ensures.side)
     (subst (λ (d : g.row.D.Denot). IsInOrder g.D.Disk.at (stored (other c.self.inside.side) c.turn.new.taken d c.make-done.new.protocol c.self.inside.stopped c.prepare.new.changes.items)) (sym c.in-Ok-turn.ensures.exchanged)
     (subst (λ (o : Option ℕ). IsInOrder g.D.Disk.at (stored (other c.self.inside.side) c.turn.new.taken c.self.inside.taken.disk c.make-done.new.protocol o c.prepare.new.changes.items)) (sym (ap (λ (o : Stored g.row.D.Denot). o.stopped) c.self.view_is ∙ c.requires.going))
@@ -132,7 +133,7 @@ pub returns-in-Rotate-clause-disks : goal.returns-in-Rotate-clause-disks
 returns-in-Rotate-clause-disks g c =
     let t = turns_by g.D.Disk.at c.self.inside.side c.self.inside.taken c.self.inside.beside c.turn.new.taken.disk c.self.inside.protocol c.self.inside.stopped c.in-Do.command c.deref.result.now (ap (λ (o : Stored g.row.D.Denot). o.stopped) c.self.view_is ∙ c.requires.going) c.self.invariant
     (rotation_from c.self.inside.protocol c.prepare.new.protocol c.protocol.result.now c.in-Ready.planned c.in-Do.command c.in-Ok.checkpoint.items c.deref.result.now c.prepare.ensures.same c.protocol.ensures (c.in-Ready.ensures.ready.0 ∙ unhinted_rotation c.in-Do.command c.in-Rotate.is) c.deref.ensures.value c.in-Ok.ensures.rotation)
-    c.in-Ok-turn.ensures.telling c.in-Ok-turn.ensures.crash c.in-Ok-turn.ensures.time in
+    c.in-Ok-turn.ensures.lasts.telling c.in-Ok-turn.ensures.crash c.in-Ok-turn.ensures.lasts.time in
     subst (λ (x : Side). WritesOn g.D.Disk.at c.args.self.now c.args.request.now (answer.Reply (Said c.make-done.result)) (stored x c.turn.new.taken c.turn.new.beside c.make-done.new.protocol c.self.inside.stopped c.prepare.new.changes.items)) (sym c.in-Ok-turn.ensures.side)
     (subst (λ (d : g.row.D.Denot). WritesOn g.D.Disk.at c.args.self.now c.args.request.now (answer.Reply (Said c.make-done.result)) (stored (other c.self.inside.side) c.turn.new.taken d c.make-done.new.protocol c.self.inside.stopped c.prepare.new.changes.items)) (sym c.in-Ok-turn.ensures.exchanged)
     (turning_done g.D.Disk.at c.self.inside.side c.self.inside.taken c.self.inside.beside c.turn.new.taken.disk c.self.inside.protocol c.in-Do.command c.deref.result.now t c.self.inside.stopped c.self.inside.changes.items c.self.invariant c.args.self.now c.self.view_is c.args.request.now c.in-Do.is (Said c.make-done.result) c.make-done.new.protocol c.self.inside.stopped c.prepare.new.changes.items c.turn.new.taken.generation c.turn.new.taken.limit c.turn.new.taken.start c.turn.new.taken.count c.in-Ok-turn.ensures.known.2))
@@ -172,29 +173,29 @@ write_record-requires-clause-few g c =
 
 pub invariant_of-self-in-Err-write_record : goal.invariant_of-self-in-Err-write_record
 invariant_of-self-in-Err-write_record g c =
-    let a = appends g.D.Disk.at c.self.inside.side c.self.inside.taken c.write_record.new.taken c.self.inside.beside c.self.inside.protocol c.self.inside.stopped c.in-Do.command c.in-Ready.planned (ap (λ (o : Stored g.row.D.Denot). o.stopped) c.self.view_is ∙ c.requires.going) c.self.invariant c.in-Ready.ensures.prepared c.write_record.ensures.called.telling c.write_record.ensures.crash in
+    let a = appends g.D.Disk.at c.self.inside.side c.self.inside.taken c.write_record.new.taken c.self.inside.beside c.self.inside.protocol c.self.inside.stopped c.in-Do.command c.in-Ready.planned (ap (λ (o : Stored g.row.D.Denot). o.stopped) c.self.view_is ∙ c.requires.going) c.self.invariant c.in-Ready.ensures.prepared c.write_record.ensures.called.lasts.telling c.write_record.ensures.crash in
     record {
       order = order_same g.D.Disk.at c.self.inside.changes.items _ c.self.inside.side c.write_record.new.taken c.self.inside.beside c.self.inside.protocol c.prepare.new.protocol (Some c.sum_of_faults-in-Err-write_record.result) c.prepare.ensures.same (order_halted g.D.Disk.at c.self.inside.side c.write_record.new.taken c.self.inside.beside c.self.inside.protocol c.sum_of_faults-in-Err-write_record.result g.met.D.Disk.seen_may_stay (kept_near g.D.Disk.at c.self.inside.side c.self.inside.taken c.write_record.new.taken c.self.inside.beside c.self.inside.protocol c.in-Do.command a));
-      generation_is = c.write_record.ensures.generation ∙ c.self.invariant.generation_is ∙ sym (ap (λ (i : Image). i.generation) c.prepare.ensures.same.image);
-      parity_is = ap is_odd c.write_record.ensures.generation ∙ c.self.invariant.parity_is;
+      generation_is = (ap (λ j. j.generation) c.write_record.ensures.same) ∙ c.self.invariant.generation_is ∙ sym (ap (λ (i : Image). i.generation) c.prepare.ensures.same.image);
+      parity_is = ap is_odd (ap (λ j. j.generation) c.write_record.ensures.same) ∙ c.self.invariant.parity_is;
       count_is = c.in-Err-write_record.ensures.no_more ∙ c.self.invariant.count_is ∙ sym c.prepare.ensures.same.records;
-      told = has_same (g.D.Disk.at c.write_record.new.taken.disk).seen c.self.inside.taken.generation c.self.inside.taken.start c.self.inside.taken.count c.write_record.new.taken.generation c.write_record.new.taken.start c.write_record.new.taken.count c.write_record.ensures.generation c.write_record.ensures.start c.in-Err-write_record.ensures.no_more (still_has g.D.Disk.at c.self.inside.side c.self.inside.taken c.write_record.new.taken c.self.inside.beside c.self.inside.protocol c.in-Do.command a g.met.D.Disk.seen_may_stay);
+      told = has_same (g.D.Disk.at c.write_record.new.taken.disk).seen c.self.inside.taken.generation c.self.inside.taken.start c.self.inside.taken.count c.write_record.new.taken.generation c.write_record.new.taken.start c.write_record.new.taken.count (ap (λ j. j.generation) c.write_record.ensures.same) (ap (λ j. j.start) c.write_record.ensures.same) c.in-Err-write_record.ensures.no_more (still_has g.D.Disk.at c.self.inside.side c.self.inside.taken c.write_record.new.taken c.self.inside.beside c.self.inside.protocol c.in-Do.command a g.met.D.Disk.seen_may_stay);
       settled = λ no. absurd (some_isnt_none c.sum_of_faults-in-Err-write_record.result no);
     }
 
 pub returns-in-Err-write_record-clause-order : goal.returns-in-Err-write_record-clause-order
 returns-in-Err-write_record-clause-order g c =
-    let a = appends g.D.Disk.at c.self.inside.side c.self.inside.taken c.write_record.new.taken c.self.inside.beside c.self.inside.protocol c.self.inside.stopped c.in-Do.command c.in-Ready.planned (ap (λ (o : Stored g.row.D.Denot). o.stopped) c.self.view_is ∙ c.requires.going) c.self.invariant c.in-Ready.ensures.prepared c.write_record.ensures.called.telling c.write_record.ensures.crash in
+    let a = appends g.D.Disk.at c.self.inside.side c.self.inside.taken c.write_record.new.taken c.self.inside.beside c.self.inside.protocol c.self.inside.stopped c.in-Do.command c.in-Ready.planned (ap (λ (o : Stored g.row.D.Denot). o.stopped) c.self.view_is ∙ c.requires.going) c.self.invariant c.in-Ready.ensures.prepared c.write_record.ensures.called.lasts.telling c.write_record.ensures.crash in
     order_same g.D.Disk.at c.self.inside.changes.items _ c.self.inside.side c.write_record.new.taken c.self.inside.beside c.self.inside.protocol c.prepare.new.protocol (Some c.sum_of_faults-in-Err-write_record.result) c.prepare.ensures.same (order_halted g.D.Disk.at c.self.inside.side c.write_record.new.taken c.self.inside.beside c.self.inside.protocol c.sum_of_faults-in-Err-write_record.result g.met.D.Disk.seen_may_stay (kept_near g.D.Disk.at c.self.inside.side c.self.inside.taken c.write_record.new.taken c.self.inside.beside c.self.inside.protocol c.in-Do.command a))
 
 pub returns-in-Err-write_record-clause-disks : goal.returns-in-Err-write_record-clause-disks
 returns-in-Err-write_record-clause-disks g c =
-    let a = appends g.D.Disk.at c.self.inside.side c.self.inside.taken c.write_record.new.taken c.self.inside.beside c.self.inside.protocol c.self.inside.stopped c.in-Do.command c.in-Ready.planned (ap (λ (o : Stored g.row.D.Denot). o.stopped) c.self.view_is ∙ c.requires.going) c.self.invariant c.in-Ready.ensures.prepared c.write_record.ensures.called.telling c.write_record.ensures.crash in
-    appends_on g.D.Disk.at c.self.inside.side c.self.inside.taken c.write_record.new.taken c.self.inside.beside c.self.inside.protocol c.in-Do.command a c.args.self.now c.self.inside.stopped c.self.view_is c.args.request.now c.in-Do.is (not_rotate c.in-Do.command.call c.in_default.not-Rotate) c.write_record.ensures.start c.write_record.ensures.called.time answer.DiskFault (λ none. absurd (cc (none))) c.prepare.new.protocol (Some c.sum_of_faults-in-Err-write_record.result) c.prepare.new.changes.items
+    let a = appends g.D.Disk.at c.self.inside.side c.self.inside.taken c.write_record.new.taken c.self.inside.beside c.self.inside.protocol c.self.inside.stopped c.in-Do.command c.in-Ready.planned (ap (λ (o : Stored g.row.D.Denot). o.stopped) c.self.view_is ∙ c.requires.going) c.self.invariant c.in-Ready.ensures.prepared c.write_record.ensures.called.lasts.telling c.write_record.ensures.crash in
+    appends_on g.D.Disk.at c.self.inside.side c.self.inside.taken c.write_record.new.taken c.self.inside.beside c.self.inside.protocol c.in-Do.command a c.args.self.now c.self.inside.stopped c.self.view_is c.args.request.now c.in-Do.is (not_rotate c.in-Do.command.call c.in_default.not-Rotate) (ap (λ j. j.start) c.write_record.ensures.same) c.write_record.ensures.called.lasts.time answer.DiskFault (λ none. absurd (cc (none))) c.prepare.new.protocol (Some c.sum_of_faults-in-Err-write_record.result) c.prepare.new.changes.items
 
 pub invariant_of-self-2 : goal.invariant_of-self-2
 invariant_of-self-2 g c =
-    let a = appends g.D.Disk.at c.self.inside.side c.self.inside.taken c.write_record.new.taken c.self.inside.beside c.self.inside.protocol c.self.inside.stopped c.in-Do.command c.in-Ready.planned (ap (λ (o : Stored g.row.D.Denot). o.stopped) c.self.view_is ∙ c.requires.going) c.self.invariant c.in-Ready.ensures.prepared c.write_record.ensures.called.telling c.write_record.ensures.crash in
+    let a = appends g.D.Disk.at c.self.inside.side c.self.inside.taken c.write_record.new.taken c.self.inside.beside c.self.inside.protocol c.self.inside.stopped c.in-Do.command c.in-Ready.planned (ap (λ (o : Stored g.row.D.Denot). o.stopped) c.self.view_is ∙ c.requires.going) c.self.invariant c.in-Ready.ensures.prepared c.write_record.ensures.called.lasts.telling c.write_record.ensures.crash in
     let settled = c.in-Ok-write_record.ensures.settled in
     let s = state_of c.self.inside.protocol in
     let stands = c.prepare.ensures.stands in
@@ -204,8 +205,8 @@ invariant_of-self-2 g c =
     let counted = counts_on c.self.inside.protocol c.make-done-2.new.protocol s c.in-Do.command stays stands step in
     record {
       order = subst (λ (o : Option ℕ). IsInOrder g.D.Disk.at (stored c.self.inside.side c.write_record.new.taken c.self.inside.beside c.make-done-2.new.protocol o c.note.new.changes.items)) (sym (ap (λ (o : Stored g.row.D.Denot). o.stopped) c.self.view_is ∙ c.requires.going)) (order_going g.D.Disk.at c.self.inside.side c.write_record.new.taken c.self.inside.beside c.make-done-2.new.protocol (went_on g.D.Disk.at c.self.inside.side c.self.inside.taken c.write_record.new.taken c.self.inside.beside c.self.inside.protocol c.in-Do.command a c.make-done-2.new.protocol (state_of c.self.inside.protocol) c.prepare.ensures.stands (λ t so. let is = c.in-Ready.ensures.prepared t so in prepared_steps c.make-done-2.new.protocol t c.in-Do.command c.in-Ready.planned is (c.make-done-2.ensures.state t (stands_after c.self.inside.protocol c.prepare.new.protocol t c.prepare.ensures.same so))) c.in-Ok-write_record.ensures.durable c.in-Ok-write_record.ensures.appended));
-      generation_is = c.write_record.ensures.generation ∙ c.self.invariant.generation_is ∙ sym (generation_stays c.self.inside.protocol c.make-done-2.new.protocol s c.in-Do.command stays stands step);
-      parity_is = ap is_odd c.write_record.ensures.generation ∙ c.self.invariant.parity_is;
+      generation_is = (ap (λ j. j.generation) c.write_record.ensures.same) ∙ c.self.invariant.generation_is ∙ sym (generation_stays c.self.inside.protocol c.make-done-2.new.protocol s c.in-Do.command stays stands step);
+      parity_is = ap is_odd (ap (λ j. j.generation) c.write_record.ensures.same) ∙ c.self.invariant.parity_is;
       count_is = omega (arith, c.in-Ok-write_record.ensures.one_more, c.self.invariant.count_is, counted);
       told = all_has (g.D.Disk.at c.write_record.new.taken.disk).seen c.write_record.new.taken.generation c.write_record.new.taken.start c.write_record.new.taken.count settled;
       settled = λ none. settled;
@@ -213,13 +214,32 @@ invariant_of-self-2 g c =
 
 pub returns-clause-order : goal.returns-clause-order
 returns-clause-order g c =
-    let a = appends g.D.Disk.at c.self.inside.side c.self.inside.taken c.write_record.new.taken c.self.inside.beside c.self.inside.protocol c.self.inside.stopped c.in-Do.command c.in-Ready.planned (ap (λ (o : Stored g.row.D.Denot). o.stopped) c.self.view_is ∙ c.requires.going) c.self.invariant c.in-Ready.ensures.prepared c.write_record.ensures.called.telling c.write_record.ensures.crash in
+    let a = appends g.D.Disk.at c.self.inside.side c.self.inside.taken c.write_record.new.taken c.self.inside.beside c.self.inside.protocol c.self.inside.stopped c.in-Do.command c.in-Ready.planned (ap (λ (o : Stored g.row.D.Denot). o.stopped) c.self.view_is ∙ c.requires.going) c.self.invariant c.in-Ready.ensures.prepared c.write_record.ensures.called.lasts.telling c.write_record.ensures.crash in
     subst (λ (o : Option ℕ). IsInOrder g.D.Disk.at (stored c.self.inside.side c.write_record.new.taken c.self.inside.beside c.make-done-2.new.protocol o c.note.new.changes.items)) (sym (ap (λ (o : Stored g.row.D.Denot). o.stopped) c.self.view_is ∙ c.requires.going)) (order_going g.D.Disk.at c.self.inside.side c.write_record.new.taken c.self.inside.beside c.make-done-2.new.protocol (went_on g.D.Disk.at c.self.inside.side c.self.inside.taken c.write_record.new.taken c.self.inside.beside c.self.inside.protocol c.in-Do.command a c.make-done-2.new.protocol (state_of c.self.inside.protocol) c.prepare.ensures.stands (λ t so. let is = c.in-Ready.ensures.prepared t so in prepared_steps c.make-done-2.new.protocol t c.in-Do.command c.in-Ready.planned is (c.make-done-2.ensures.state t (stands_after c.self.inside.protocol c.prepare.new.protocol t c.prepare.ensures.same so))) c.in-Ok-write_record.ensures.durable c.in-Ok-write_record.ensures.appended))
 
 pub returns-clause-disks : goal.returns-clause-disks
 returns-clause-disks g c =
-    let a = appends g.D.Disk.at c.self.inside.side c.self.inside.taken c.write_record.new.taken c.self.inside.beside c.self.inside.protocol c.self.inside.stopped c.in-Do.command c.in-Ready.planned (ap (λ (o : Stored g.row.D.Denot). o.stopped) c.self.view_is ∙ c.requires.going) c.self.invariant c.in-Ready.ensures.prepared c.write_record.ensures.called.telling c.write_record.ensures.crash in
-    appends_on g.D.Disk.at c.self.inside.side c.self.inside.taken c.write_record.new.taken c.self.inside.beside c.self.inside.protocol c.in-Do.command a c.args.self.now c.self.inside.stopped c.self.view_is c.args.request.now c.in-Do.is (not_rotate c.in-Do.command.call c.in_default.not-Rotate) c.write_record.ensures.start c.write_record.ensures.called.time (answer.Reply (Said c.make-done-2.result)) (λ none. absurd (cc (none))) c.make-done-2.new.protocol c.self.inside.stopped c.note.new.changes.items
+    let a = appends g.D.Disk.at c.self.inside.side c.self.inside.taken c.write_record.new.taken c.self.inside.beside c.self.inside.protocol c.self.inside.stopped c.in-Do.command c.in-Ready.planned (ap (λ (o : Stored g.row.D.Denot). o.stopped) c.self.view_is ∙ c.requires.going) c.self.invariant c.in-Ready.ensures.prepared c.write_record.ensures.called.lasts.telling c.write_record.ensures.crash in
+    appends_on g.D.Disk.at c.self.inside.side c.self.inside.taken c.write_record.new.taken c.self.inside.beside c.self.inside.protocol c.in-Do.command a c.args.self.now c.self.inside.stopped c.self.view_is c.args.request.now c.in-Do.is (not_rotate c.in-Do.command.call c.in_default.not-Rotate) (ap (λ j. j.start) c.write_record.ensures.same) c.write_record.ensures.called.lasts.time (answer.Reply (Said c.make-done-2.result)) (λ none. absurd (cc (none))) c.make-done-2.new.protocol c.self.inside.stopped c.note.new.changes.items
+
+pub returns-in-Again-clause-appended : goal.returns-in-Again-clause-appended
+returns-in-Again-clause-appended g c s stands accepted none =
+    let here : StandsFor c.self.inside.protocol s = subst (λ (o : Stored g.row.D.Denot). StandsFor o.core s) (sym c.self.view_is) stands in
+    absurd (repeated_not s c.args.request.now c.in-Do.command c.in-Again.done c.in-Do.is (c.in-Again.ensures.prepared s here) accepted)
+
+pub returns-in-No-clause-appended : goal.returns-in-No-clause-appended
+returns-in-No-clause-appended g c s stands accepted none =
+    let here : StandsFor c.self.inside.protocol s = subst (λ (o : Stored g.row.D.Denot). StandsFor o.core s) (sym c.self.view_is) stands in
+    absurd (refused_not s c.args.request.now c.in-Do.command c.in-No.refusal c.in-Do.is (c.in-No.ensures.prepared s here) accepted)
+
+pub returns-in-Rotate-clause-appended : goal.returns-in-Rotate-clause-appended
+returns-in-Rotate-clause-appended g c s stands accepted none =
+    absurd (rotates_then s c.args.request.now c.in-Do.command c.in-Do.is c.in-Rotate.is accepted none)
+
+pub returns-clause-appended : goal.returns-clause-appended
+returns-clause-appended g c s stands accepted none =
+    subst (λ (o : Stored g.row.D.Denot). IsLater g.D.Disk.at 4 (taken_disk o) (taken_disk (stored c.self.inside.side c.write_record.new.taken c.self.inside.beside c.make-done-2.new.protocol c.self.inside.stopped c.note.new.changes.items))) c.self.view_is
+    (taken_later g.D.Disk.at c.self.inside.side c.self.inside.taken.disk c.self.inside.beside c.write_record.new.taken.disk c.self.inside.beside 4 c.in-Ok-write_record.ensures.calls)
 
 pub returns-in-Again-clause-step : goal.returns-in-Again-clause-step
 returns-in-Again-clause-step g c s stands =
