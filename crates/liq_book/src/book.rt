@@ -10,7 +10,6 @@ ghost use Rattle.liq_book.specs.Items.{chronicle};
 
 use crate::entering::enter;
 use crate::items::{ENTRIES_MOST, Halt};
-use crate::looking::Looking;
 use crate::origin::Origin;
 use crate::publishing::publish;
 use crate::service::Closed;
@@ -18,7 +17,7 @@ use liq_core::laws::protocols_are_sound;
 use liq_outside::Disk;
 use liq_store::Store;
 use liq_types::{Answer, Entry, Hint, NoMemory, Request};
-use liq_views::{Finder, Publication, Publisher};
+use liq_views::{Publication, Publisher};
 use std::alloc::Global;
 use std::marker::{Model, PhantomData};
 use std::sync::Wait;
@@ -68,8 +67,6 @@ impl History {
 pub struct Book<D: Disk, O: Origin> {
     pub(crate) store: Store<D>,
     pub(crate) publisher: Publisher,
-    // It looks at what was published last.
-    pub(crate) finder: Finder,
     pub(crate) entries: Vec<Entry>,
     pub(crate) halt: Option<Halt>,
     pub(crate) of: PhantomData<O>,
@@ -100,12 +97,7 @@ impl<D: Disk, O: Origin> Book<D, O> {
     ghost use Rattle.liq_book.specs.Publishing.{Publishes, PublishesNothing, open_book};
 
     /// A book without entries, over a store that was never stopped, whose opened list was published.
-    pub(crate) fn new(
-        alloc: Global,
-        store: Store<D>,
-        publisher: Publisher,
-        finder: Finder,
-    ) -> Book<D, O>
+    pub(crate) fn new(alloc: Global, store: Store<D>, publisher: Publisher) -> Book<D, O>
         requires going { store.stopped ≡ None }
         requires origin { IsAtOrigin D.at O.state O.left O.right store }
         requires listed { TellsList store }
@@ -117,7 +109,6 @@ impl<D: Disk, O: Origin> Book<D, O> {
         Book {
             store,
             publisher,
-            finder,
             entries: Vec::new(alloc),
             halt: None,
             of: PhantomData,
@@ -142,7 +133,6 @@ impl<D: Disk, O: Origin> Book<D, O> {
         let Book {
             store,
             publisher,
-            finder: _,
             entries: _,
             halt: _,
             of: _,
@@ -158,7 +148,6 @@ impl<D: Disk, O: Origin> Book<D, O> {
         let Book {
             store,
             publisher,
-            finder: _,
             entries,
             halt,
             of,
@@ -194,17 +183,13 @@ impl<D: Disk, O: Origin> Book<D, O> {
         }
         forget_opening(&mut self.store, self.entries.as_slice());
         protocols_are_sound(self.store.protocol());
-        let looking = Looking {
-            finder: &mut self.finder,
-            given: hint,
-        };
         match enter(
             &mut self.store,
             &mut self.entries,
             session,
             calls,
             request,
-            looking,
+            hint,
         ) {
             Answer::Reply(reply) => Answer::Reply(reply),
             Answer::DiskFault => {

@@ -3,18 +3,18 @@ ghost use Rattle.std.specs.Prelude.{◌<◌, ◌+◌, ◌^◌, vec_capacity, vec
 ghost use Rattle.liq_book.specs.Entering.{IsCalled, IsEntered};
 
 use liq_outside::Disk;
-use liq_store::{HintSource, Store};
-use liq_types::{Answer, Entry, Request};
+use liq_store::Store;
+use liq_types::{Answer, Entry, Hint, Request};
 
 /// Answers a session's request as `Store::call` does, and enters a reply behind all entries, as the session's next one: so many of
 /// its calls got one before. With any other answer the entries stay. There is room for the entry.
-pub(crate) fn enter<D: Disk, H: HintSource + Drop>(
+pub(crate) fn enter<D: Disk>(
     store: &mut Store<D>,
     entries: &mut Vec<Entry>,
     session: u8,
     calls: u32,
     request: &Request,
-    hint: H,
+    hint: &Hint,
 ) -> Answer
     requires room { vec_len entries.old < vec_capacity entries.old }
     requires calls { calls + 1 < 2 ^ 32 }

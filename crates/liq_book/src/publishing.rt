@@ -90,8 +90,8 @@ impl<'a, D: Disk, O: Origin> Desk for Publishing<'a, D, O> {
     }
 }
 
-/// Publishes what the store has to tell of its list, as this version, and lets that go, with the guide of the list: what was published
-/// last and the changes since are as good a guide. Without memory the store keeps both, and tells the same at the next publication.
+/// Publishes what the store has to tell of its list, as this version, and lets that go. Without memory
+/// the store keeps it, and tells the same at the next publication.
 pub(crate) fn publish<D: Disk, W: Wait>(
     store: &mut Store<D>,
     publisher: &mut Publisher,
@@ -114,7 +114,6 @@ pub(crate) fn publish<D: Disk, W: Wait>(
     match publisher.publish(rt, store.changes(), number) {
         Ok(sent) => {
             store.clear_changes();
-            store.drop_guide();
             Ok(sent)
         }
         Err(NoMemory) => Err(NoMemory),

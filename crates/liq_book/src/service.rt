@@ -27,7 +27,6 @@ pub struct Service<D: Disk, O: Origin> {
 }
 
 /// What a service leaves: its store, all entries, and the halt, once there was one.
-/// Once the list was published the store has no guide of it: whoever goes on with the store gives hints, or opens it again.
 #[derive(Drop)]
 pub struct Closed<D: Disk, O: Origin> {
     pub store: Store<D>,

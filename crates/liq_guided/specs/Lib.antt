@@ -1,1 +1,3 @@
+pub mod Hints
+pub mod ListGuides
 pub mod Redone

@@ -1,34 +1,37 @@
 //! A protocol, and beside it the guide of its ordered list.
 
-ghost use Rattle.std.specs.Prelude.{◌≡◌, ◌+◌, ℕ, false, IfOk, OnOk};
+ghost use Rattle.std.specs.Prelude.{◌≡◌, ◌≤◌, ◌+◌, ℕ, false, IfOk, OnOk};
 ghost use Rattle.liq_types.specs.Image.{IsLimit};
 ghost use Rattle.liq_types.specs.State.{State, opening_with};
 ghost use Rattle.liq_types.specs.declared.replies.Reply.TheVariants.{Said};
 ghost use Rattle.liq_types.specs.declared.requests.Request.TheVariants.{Do, Ask};
 ghost use Rattle.liq_core.specs.Core.{SameContent, StandsFor};
 ghost use Rattle.liq_core.specs.Plan.{HasRoom, IsPlannedOn};
+ghost use Rattle.liq_core.specs.Steps.{last_put, used_hint, words_of};
+ghost use Rattle.liq_guide.specs.Followed.{all_listed};
+ghost use Rattle.liq_standing.specs.Steps.{TakesFew};
 ghost use Rattle.liq_core.specs.Turn.{Plans};
 ghost use Rattle.liq_rules.specs.Step.{step};
 ghost use Rattle.liq_rules.specs.Verbs.{rotates};
+ghost use Rattle.liq_guided.specs.Hints.{IsExact, hint_used};
 ghost use Rattle.liq_guided.specs.Redone.{IsRedone};
 
+use crate::hints::Hints;
+use crate::list_guide::ListGuide;
 use crate::redone::RedoFault;
-use liq_core::laws::protocols_stand;
+use liq_core::laws::{lists_stand, protocols_are_sound_states, protocols_stand};
 use liq_core::{PlanFault, Planned, Protocol, Turn, unhinted};
-use liq_guide::{Guide, last_put};
 use liq_types::{Command, Done, Hint, NoMemory, Query, Reply, Steps};
 use std::alloc::Global;
 use std::marker::Model;
 use std::sync::ledger::Ledger;
 
-/// A protocol whose list is asked with the hint of its guide, as long as there is one. Contracts see the protocol: no hint
-/// changes it.
+/// A protocol whose list is asked with the hint of its guide, which is never let go: where there is
+/// no memory for the guide there is none for the protocol, or for the command that it would follow.
+/// Contracts see the protocol: no hint changes it.
 pub struct Guided {
     protocol: Protocol,
-    // None once it was let go.
-    guide: Option<Guide>,
-    // Where the trove stands that the reserved command puts last.
-    hint: Option<Hint>,
+    guide: ListGuide,
 }
 
 // Written out, as that of the protocol is.
@@ -37,17 +40,19 @@ impl Drop for Guided {
         let Guided {
             protocol: _,
             guide: _,
-            hint: _,
         } = self;
     }
 }
 
 impl Model for Guided {
     ghost use Rattle.liq_core.specs.Core.{Core};
+    ghost use Rattle.liq_guided.specs.ListGuides.{IsGuideOf};
 
     ghost Value = { Core };
 
     ghost view = { λ g. g.protocol };
+
+    ghost invariant = { λ g. IsGuideOf g.protocol.list g.guide };
 }
 
 impl Guided {
@@ -56,10 +61,11 @@ impl Guided {
         requires { IsLimit limit }
         ensures { StandsFor result (opening_with limit) }
     {
+        let protocol = Protocol::with_limit(alloc, limit);
+        lists_stand(&protocol);
         Guided {
-            protocol: Protocol::with_limit(alloc, limit),
-            guide: Some(Guide::new(alloc)),
-            hint: None,
+            protocol,
+            guide: ListGuide::new(alloc),
         }
     }
 
@@ -67,18 +73,8 @@ impl Guided {
     pub fn of(alloc: Global, protocol: Protocol) -> Result<Guided, NoMemory>
         ensures { IfOk result (λ guided. guided ≡ protocol) }
     {
-        let mut guide = Guide::new(alloc);
-        // One after the other, since of a single change nothing is noted aside, and from the last one on, since the place before all
-        // others is found at once.
-        let changes = protocol.list(alloc)?;
-        for change in changes.iter().rev() {
-            guide.follow(&[*change])?;
-        }
-        Ok(Guided {
-            protocol,
-            guide: Some(guide),
-            hint: None,
-        })
+        let guide = ListGuide::of(alloc, &protocol)?;
+        Ok(Guided { protocol, guide })
     }
 
     /// Puts the opening under this limit in place of the opening under another.
@@ -102,20 +98,8 @@ impl Guided {
     pub fn into_protocol(self) -> Protocol
         ensures { result ≡ self }
     {
-        let Guided {
-            protocol,
-            guide: _,
-            hint: _,
-        } = self;
+        let Guided { protocol, guide: _ } = self;
         protocol
-    }
-
-    /// Lets its guide go, for good. From then on each hint is the one that is given with a command.
-    pub fn drop_guide(&mut self)
-        ensures { self.new ≡ self.old }
-    {
-        self.guide = None;
-        self.hint = None;
     }
 
     /// The generation of its journal.
@@ -146,40 +130,51 @@ impl Guided {
         self.protocol.plan(command)
     }
 
-    /// Makes room for what the planned command writes. The guide follows it.
-    pub fn reserve(&mut self, planned: &Planned) -> Result<(), NoMemory>
+    /// Makes room for what the planned command writes. The guide follows it, and says between whom the
+    /// account will stand that it puts last, if it puts any.
+    pub fn reserve(&mut self, planned: &Planned) -> Result<Option<Hint>, NoMemory>
         ensures same { SameContent self.old self.new }
         ensures room { OnOk result (HasRoom self.new planned.now) }
+        // Of the list with the command made the hint is tight.
+        ensures exact { IfOk result (IsExact (all_listed self.old.list planned.now.changes)
+            (last_put planned.now.changes)) }
     {
+        protocols_are_sound_states(&self.protocol);
+        lists_stand(&self.protocol);
+        protocols_stand(&self.protocol);
         self.protocol.reserve(planned)?;
-        self.hint = match &mut self.guide {
-            Some(guide) => {
-                guide.follow(planned.list_changes())?;
-                guide.hint(planned.list_changes())
-            }
-            None => None,
-        };
-        Ok(())
+        self.guide.follow(&self.protocol, planned.list_changes())
     }
 
-    /// Whether a command for which room was reserved puts a trove for which no guide has a hint.
-    pub fn needs_hint(&self, planned: &Planned) -> bool {
-        self.hint.is_none() && last_put(planned.list_changes()).is_some()
-    }
-
-    /// Makes the planned command's step, for which room was reserved. The hint that is given counts where the guide has none.
-    pub fn apply<L: Ledger>(&mut self, planned: Planned, hint: &Hint, steps: &mut Steps<L>) -> Done
+    /// Makes the planned command's step, for which room was reserved. It is planned without its own
+    /// hint words, which stand among the hints: of these one is used.
+    pub fn apply<L: Ledger>(
+        &mut self,
+        planned: Planned,
+        hints: &Hints,
+        steps: &mut Steps<L>,
+    ) -> Done
         requires planned { IsPlannedOn self.old planned }
         requires room { HasRoom self.old planned }
         ensures state { (s : State) → StandsFor self.old s → StandsFor self.new (step s (Do planned.command)).0 }
         ensures reply { (s : State) → StandsFor self.old s → (step s (Do planned.command)).1 ≡ Said result }
+        ensures list { self.new.list ≡ all_listed self.old.list planned.changes }
+        ensures few { TakesFew self.new.list
+            (used_hint (words_of planned.command.call) (hint_used hints.now))
+            (last_put planned.changes) steps.old steps.new }
     {
-        let hint = self.hint.unwrap_or(*hint);
-        self.protocol.apply(planned, &hint, steps)
+        protocols_are_sound_states(&self.protocol);
+        lists_stand(&self.protocol);
+        protocols_stand(&self.protocol);
+        let is_followed = self.guide.has_followed(planned.list_changes());
+        let done = self.protocol.apply(planned, &hints.used(), steps);
+        self.guide.settle(is_followed);
+        done
     }
 
-    /// Makes the step of a command that was accepted long ago, without its own hint words. Where it makes none all is as
-    /// before.
+    /// Makes the step of a command that was accepted long ago, without its own hint words. Where it
+    /// makes none all is as before. However long the list is, the place of its trove takes at most four
+    /// steps.
     pub fn redo<L: Ledger>(
         &mut self,
         command: &Command,
@@ -188,6 +183,7 @@ impl Guided {
         ensures redone { (s : State) → StandsFor self.old s → IsRedone s command.now self.new result }
         ensures counted { rotates command.now.call ≡ false → OnOk result (self.new.records ≡ self.old.records + 1) }
         ensures generation { rotates command.now.call ≡ false → OnOk result (self.new.image.generation ≡ self.old.image.generation) }
+        ensures few { OnOk result (steps.new ≤ steps.old + 4) }
     {
         protocols_stand(&self.protocol);
         let planned = match self.plan(&unhinted(command)) {
@@ -197,8 +193,8 @@ impl Guided {
             Err(PlanFault::NoMemory) => return Err(RedoFault::NoMemory),
         };
         match self.reserve(&planned) {
-            Ok(()) => {
-                let _ = self.apply(planned, &Hint::NONE, steps);
+            Ok(exact) => {
+                let _ = self.apply(planned, &Hints::of_guide(exact), steps);
                 Ok(())
             }
             Err(NoMemory) => Err(RedoFault::NoMemory),

@@ -2,7 +2,10 @@
 #![tactic(auto)]
 
 mod guided;
+mod hints;
+mod list_guide;
 mod redone;
 
 pub use guided::Guided;
+pub use hints::{Hints, words_of};
 pub use redone::RedoFault;

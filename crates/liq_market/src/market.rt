@@ -25,9 +25,9 @@ use crate::touching::{NAMED_MOST, note};
 use liq_checkpoint::{ImageBytes, decode, encode};
 use liq_core::laws::{lists_stand, protocols_are_sound, protocols_stand};
 use liq_core::{ImageFault, PlanFault, Protocol, Turn};
-use liq_guided::Guided;
+use liq_guided::{Guided, Hints};
 use liq_types::amounts::LIM;
-use liq_types::{Call, Command, Hint, Image, NoMemory, Query, Reply, Request, Steps};
+use liq_types::{Call, Command, Image, NoMemory, Query, Reply, Request, Steps};
 use std::alloc::Global;
 use std::marker::{Brand, Model};
 use std::sync::ledger::{Blank, Ledger};
@@ -272,10 +272,12 @@ impl Market {
         };
         self.touched
             .reserve(NAMED_MOST + planned.list_changes().len())?;
-        self.guided.reserve(&planned)?;
+        let exact = self.guided.reserve(&planned)?;
         note(&mut self.touched, &command.call, planned.list_changes());
         let mut steps = Steps::<L>::new(blank);
-        let done = self.guided.apply(planned, &Hint::NONE, &mut steps);
+        let done = self
+            .guided
+            .apply(planned, &Hints::of_guide(exact), &mut steps);
         Ok(Reply::Said(done))
     }
 }

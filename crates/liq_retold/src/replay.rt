@@ -14,10 +14,10 @@ ghost use Rattle.liq_retold.specs.Making.{PlansNext, MakesNext};
 use crate::fault::ReplayFault;
 use crate::onlooker::Onlooker;
 use liq_core::{PlanFault, Planned, Protocol, Turn, unhinted};
-use liq_guided::Guided;
+use liq_guided::{Guided, Hints};
 use liq_journal::{Damage, What};
 use liq_pairs::code_of;
-use liq_types::{Command, Hint, Steps};
+use liq_types::{Command, Steps};
 use std::alloc::Global;
 use std::marker::Brand;
 use std::sync::ledger::{Blank, Ledger};
@@ -82,8 +82,8 @@ fn make<O: Onlooker, L: Ledger>(
 {
     let planned = plan(protocol, command, index)?;
     onlooker.see(protocol.protocol(), &planned)?;
-    protocol.reserve(&planned)?;
-    protocol.apply(planned, &Hint::NONE, steps);
+    let exact = protocol.reserve(&planned)?;
+    protocol.apply(planned, &Hints::of_guide(exact), steps);
     Ok(())
 }
 

@@ -4,7 +4,6 @@
 
 mod answers;
 mod checkpoint;
-mod hint_source;
 mod judging;
 mod preparing;
 mod reading;
@@ -14,7 +13,6 @@ mod store;
 mod telling;
 
 pub use answers::{StoreFault, StoreWhy};
-pub use hint_source::HintSource;
 pub use liq_pairs::Side;
 pub use liq_records::AcceptedFault;
 pub use store::Store;

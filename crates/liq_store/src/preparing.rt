@@ -8,18 +8,18 @@ ghost use Rattle.liq_core.specs.Plan.{HasRoom, IsPlannedOn};
 ghost use Rattle.liq_rules.specs.Step.{step};
 ghost use Rattle.liq_store.specs.Preparing.{HasRoomBehind, IsPrepared, IsReady};
 
-use crate::hint_source::HintSource;
 use liq_core::laws::protocols_stand;
 use liq_core::{PlanFault, Planned, Turn, unhinted};
-use liq_guided::Guided;
+use liq_guided::{Guided, Hints};
 use liq_types::{Command, Done, Hint, ListChange, Refusal, Steps};
 use std::sync::ledger::{Blank, Ledger};
 
 // What comes of a command before anything is written.
 #[derive(Drop)]
 pub enum Prepared {
-    // It is planned, and there is room for it.
-    Ready(Planned),
+    // It is planned, and there is room for it. The guide says between whom the account will stand that
+    // it puts last, if it puts any.
+    Ready(Planned, Option<Hint>),
     // It comes again, and makes no step.
     Again(Done),
     // It is refused, and makes none.
@@ -49,17 +49,16 @@ pub fn prepare(protocol: &mut Guided, changes: &mut Vec<ListChange>, command: &C
         return Prepared::NoMemory;
     };
     match protocol.reserve(&planned) {
-        Ok(()) => Prepared::Ready(planned),
+        Ok(exact) => Prepared::Ready(planned, exact),
         Err(_) => Prepared::NoMemory,
     }
 }
 
-// Makes the step of a planned command. The changes are all that wait, its own last. Its steps are counted on a ledger of their own.
-pub fn make<L: Ledger, H: HintSource + Drop>(
+// Makes the step of a planned command. Its steps are counted on a ledger of their own.
+pub fn make<L: Ledger>(
     protocol: &mut Guided,
     planned: Planned,
-    source: H,
-    changes: &[ListChange],
+    hints: &Hints,
     blank: Blank,
 ) -> Done
     requires name { blank.name ≡ L.name }
@@ -70,11 +69,6 @@ pub fn make<L: Ledger, H: HintSource + Drop>(
     ensures state { (s : State) → StandsFor protocol.old s → StandsFor protocol.new (step s (Do planned.command)).0 }
     ensures reply { (s : State) → StandsFor protocol.old s → (step s (Do planned.command)).1 ≡ Said result }
 {
-    let hint = if protocol.needs_hint(&planned) {
-        source.hint(changes)
-    } else {
-        Hint::NONE
-    };
     let mut steps = Steps::<L>::new(blank);
-    protocol.apply(planned, &hint, &mut steps)
+    protocol.apply(planned, hints, &mut steps)
 }

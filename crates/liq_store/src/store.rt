@@ -36,7 +36,6 @@ ghost use Rattle.liq_store.specs.Telling.{told};
 ghost use Rattle.liq_store.specs.Within.{IsWithin, stored};
 
 use crate::answers::{StoreFault, StoreWhy};
-use crate::hint_source::HintSource;
 use crate::judging::{disk_of, judge};
 use crate::preparing::{Prepared, make, prepare};
 use crate::reading::read_commands;
@@ -44,12 +43,12 @@ use crate::rotating::checkpoint_after;
 use crate::standing::{Stood, stand};
 use crate::telling::{clear, note};
 use liq_core::Protocol;
-use liq_guided::Guided;
+use liq_guided::{Guided, Hints, words_of};
 use liq_journal::Journal;
 use liq_outside::{Disk, Sink};
 use liq_pairs::Side;
 use liq_records::{AcceptedFault, later_side, turn, write_record};
-use liq_types::{Answer, Call, Command, ListChange, Reply, Request};
+use liq_types::{Answer, Call, Command, Hint, ListChange, Reply, Request};
 use std::alloc::Global;
 use std::marker::{Brand, Model};
 use std::sync::ledger::Blank;
@@ -174,8 +173,9 @@ impl<D: Disk> Store<D> {
     /// the next generation that an accepted rotation begins is on the other one, which is then taken.
     ///
     /// After `DiskFault` the store is stopped: every later call is answered `Stopped`, with the sum of both counts after
-    /// that one. After `NoMemory` all is as before. A hint is asked for only once the guide of the list was let go.
-    pub fn call<H: HintSource + Drop>(&mut self, request: &Request, hint: H) -> Answer
+    /// that one. After `NoMemory` all is as before. The store has a guide of its list, whose hint counts
+    /// before the command's own words and before the given one.
+    pub fn call(&mut self, request: &Request, hint: &Hint) -> Answer
         // A store that is stopped answers that, to queries too, and stays as it is.
         ensures stopped { (sum : ℕ) → self.old.stopped ≡ Some sum → (result ≡ Answer.Stopped sum)
             × (self.new ≡ self.old) }
@@ -211,7 +211,7 @@ impl<D: Disk> Store<D> {
 
     // The same of a command, where the store isn't stopped: apart, so that what its plan takes is neither cleared nor
     // moved for a query.
-    fn carry_out<H: HintSource + Drop>(&mut self, request: &Request, hint: H) -> Answer
+    fn carry_out(&mut self, request: &Request, hint: &Hint) -> Answer
         requires going { self.old.stopped ≡ None }
         requires command { (query : Query) → request.now ≢ Ask query }
         ensures step { (s : State) → StandsFor self.old.core s
@@ -231,11 +231,16 @@ impl<D: Disk> Store<D> {
             Request::Do(command) => command,
             Request::Ask(_) => unreachable!(),
         };
-        let planned = match prepare(&mut self.protocol, &mut self.changes, command) {
-            Prepared::Ready(planned) => planned,
+        let (planned, exact) = match prepare(&mut self.protocol, &mut self.changes, command) {
+            Prepared::Ready(planned, exact) => (planned, exact),
             Prepared::Again(done) => return Answer::Reply(Reply::Said(done)),
             Prepared::No(refusal) => return Answer::Reply(Reply::No(refusal)),
             Prepared::NoMemory => return Answer::NoMemory,
+        };
+        let hints = Hints {
+            exact,
+            words: words_of(&command.call),
+            given: *hint,
         };
         if let Call::Rotate = command.call {
             let Ok(checkpoint) = checkpoint_after(self.alloc, self.protocol.protocol(), &planned)
@@ -250,8 +255,7 @@ impl<D: Disk> Store<D> {
                 }
             };
             self.side = side;
-            // A rotation changes nothing in the list.
-            let done = make::<Brand, H>(&mut self.protocol, planned, hint, &[], Blank::new(1));
+            let done = make::<Brand>(&mut self.protocol, planned, &hints, Blank::new(1));
             return Answer::Reply(Reply::Said(done));
         }
         match write_record(&mut self.taken, command) {
@@ -262,13 +266,7 @@ impl<D: Disk> Store<D> {
             }
         }
         note(&mut self.changes, planned.list_changes());
-        let done = make::<Brand, H>(
-            &mut self.protocol,
-            planned,
-            hint,
-            &self.changes,
-            Blank::new(1),
-        );
+        let done = make::<Brand>(&mut self.protocol, planned, &hints, Blank::new(1));
         Answer::Reply(Reply::Said(done))
     }
 
@@ -351,14 +349,6 @@ impl<D: Disk> Store<D> {
         ensures order { IsInOrder D.at self.new }
     {
         clear(self.alloc, &mut self.changes);
-    }
-
-    /// Lets the guide of the list go, for good. From then on whoever calls is asked for each hint; without one a call that puts a
-    /// trove goes along the list. All that is seen stays.
-    pub fn drop_guide(&mut self)
-        ensures { self.new ≡ self.old }
-    {
-        self.protocol.drop_guide();
     }
 
     /// Shows a sink both disks as they are now, the left one first. It is no device call.

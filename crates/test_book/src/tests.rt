@@ -2,6 +2,5 @@
 
 mod checks;
 mod full;
-mod looking;
 mod seats;
 mod stores;

@@ -5,6 +5,7 @@ mod checks;
 mod commands;
 mod followed;
 mod full_journal;
+mod hints;
 mod reviews;
 mod runs;
 mod stores;

@@ -47,10 +47,10 @@ impl<D: Disk, O: Origin> Service<D, O> {
         let Ok(room) = Vec::with_capacity(alloc, sessions as usize) else {
             return Err(store);
         };
-        let Ok((publisher, finders, finder)) = opened(rt, alloc, store.changes(), sessions) else {
+        let Ok((publisher, finders)) = opened(rt, alloc, store.changes(), sessions) else {
             return Err(store);
         };
-        let book = match BoxedBook::new(alloc, Book::new(alloc, store, publisher, finder)) {
+        let book = match BoxedBook::new(alloc, Book::new(alloc, store, publisher)) {
             Ok(book) => book,
             Err(book) => return Err(unused(rt, book)),
         };
@@ -64,26 +64,25 @@ impl<D: Disk, O: Origin> Service<D, O> {
     }
 }
 
-/// A publisher of the list that these changes make, as version 0, with a finder for each session and
-/// one more, which have seen nothing yet.
+/// A publisher of the list that these changes make, as version 0, with a finder for each session,
+/// which has seen nothing yet.
 fn opened<W: Wait>(
     rt: &W,
     alloc: Global,
     changes: &[ListChange],
     sessions: u8,
-) -> Result<(Publisher, Vec<Finder<Pane>>, Finder<Pane>), NoMemory>
+) -> Result<(Publisher, Vec<Finder<Pane>>), NoMemory>
     ensures opened { IfOk result (λ made. HasOpened changes.now made.0) }
     ensures count { IfOk result (λ made. length made.1.items ≡ sessions) }
     ensures fresh { IfOk result
         (λ made. All (λ f. IsFresh made.0 f.window × (f.last ≡ 0)) made.1.items) }
 {
     let room = Vec::with_capacity(alloc, sessions as usize)?;
-    let mut publisher = Publisher::alone(alloc, u32::from(sessions) + 1)?;
+    let mut publisher = Publisher::alone(alloc, u32::from(sessions))?;
     match publisher.publish(rt, changes, 0) {
         Ok(_) => {
             let finders = publisher.all_finders(room, u32::from(sessions));
-            let finder = publisher.finder();
-            Ok((publisher, finders, finder))
+            Ok((publisher, finders))
         }
         Err(NoMemory) => {
             publisher.close(rt);

@@ -17,9 +17,7 @@ impl<D: Disk, O: Origin> Service<D, O> {
     /// Publishes the list of this moment when the seat's turn has come, as the version after all entries. What the seat then has
     /// seen begins with what it had seen, and nothing of its session is new. The publication is told by its number, which is that of the
     /// entries that the seat then has seen. Without memory finders are shown what they were shown
-    /// before, and the next publication tells what this one would have told. Once a session has published, a call looks for its hint in
-    /// what was published last, with what changed since: so publish behind each call that changes the list, as [`crate::Publishing`]
-    /// does. Where many such calls were not published, each further one takes longer.
+    /// before, and the next publication tells what this one would have told.
     pub fn publish<W: Wait>(
         &self,
         rt: &W,

@@ -3,7 +3,7 @@
 use crate::tests::checks::{NOWHERE, shows};
 use crate::tests::runs::{disk, funding};
 use liq_outside::MemoryDisk;
-use liq_store::{HintSource, Store};
+use liq_store::Store;
 use liq_types::{Call, Command, Hint, HintWords, ListChange, Request};
 use std::alloc::Global;
 use std::test::Fail;
@@ -88,55 +88,4 @@ fn changes_are_told(rt: HostRuntime) -> Result<(), Fail> {
     let is_right = told == ([1, 2, 2, 0], 2);
     shows(&rt, "what a store tells of its list", is_right);
     Ok(())
-}
-
-// Notes how many changes it is told where it is asked for a hint.
-#[derive(Drop)]
-struct Noting<'a> {
-    told: &'a mut u64,
-}
-
-impl<'a> HintSource for Noting<'a> {
-    fn hint(self, changes: &[ListChange]) -> Hint {
-        *self.told = told(changes);
-        Hint::NONE
-    }
-}
-
-// How many changes whoever gives a hint is told, for a command that puts no trove and for one that does: 0 where nobody is
-// asked. None without memory.
-fn ask_for_hints(alloc: Global, has_guide: bool) -> Option<[u64; 2]> {
-    let left = disk(alloc, &[], &[]).ok()?;
-    let right = disk(alloc, &[], &[]).ok()?;
-    let Ok(mut store) = Store::open(alloc, left, right) else {
-        return None;
-    };
-    if !has_guide {
-        store.drop_guide();
-    }
-    let mut with_funding = 0;
-    let _ = store.call(
-        &funding(1),
-        Noting {
-            told: &mut with_funding,
-        },
-    );
-    let mut with_opening = 0;
-    let _ = store.call(
-        &opening(2),
-        Noting {
-            told: &mut with_opening,
-        },
-    );
-    Some([with_funding, with_opening])
-}
-
-// While there is a guide nobody is asked. Once it was let go, whoever gives a hint is told all changes that wait, the command's
-// own last.
-#[test]
-fn hints_are_asked_for(rt: HostRuntime) {
-    let alloc = rt.alloc();
-    let asked = (ask_for_hints(alloc, true), ask_for_hints(alloc, false));
-    let is_right = asked == (Some([0, 0]), Some([0, 2]));
-    shows(&rt, "who is asked for a hint", is_right);
 }

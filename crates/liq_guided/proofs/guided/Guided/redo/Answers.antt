@@ -1,6 +1,9 @@
-use Rattle.std.proofs.Common.{◌∙◌, inl, subst, sym}
+use Rattle.std.proofs.Common.{◌∙◌, List, ap, inl, subst, sym}
+use Rattle.liq_types.specs.Ranked.{Ranked}
+use Rattle.liq_guide.specs.Followed.{all_listed}
 use Rattle.liq_core.specs.Core.{Core, StandsFor, state_of}
 use Rattle.liq_core.proofs.SameContents.{stands_after}
+use Rattle.liq_guided.proofs.Tight.{few_taken}
 use Rattle.liq_guided.proofs.Steps.{counts_on, generation_stays, planned_allowed, stepped}
 use Rattle.liq_guided.proofs.guided.Guided.redo.Goals as goal
 
@@ -31,3 +34,15 @@ returns-in-Err-clause-redone g c s h =
       inl (sym (c.unhinted.ensures.ruling s) ∙ planned_allowed s c.unhinted.result c.in-Ok-New.planned is),
       stands_after c.args.self.now c.reserve.new.self s c.reserve.ensures.same h,
     )
+
+pub returns-in-Ok-clause-few : goal.returns-in-Ok-clause-few
+returns-in-Ok-clause-few g c =
+    let s = state_of c.args.self.now in
+    let stands = subst (λ (p : Core). StandsFor p (state_of p)) c.self.view_is c.protocols_stand.ensures in
+    let is = (rw c.in-Ok-New.field-0-is at c.in-Ok-New.ensures) s stands in
+    let plan = c.in-Ok-New.planned in
+    few_taken (all_listed c.args.self.now.list plan.changes) c.apply.new.self.list plan c.args.command.now
+    c.in-Ok.exact c.of_guide.result c.args.steps.now c.apply.new.steps
+    (is.0 ∙ c.unhinted.ensures.same) c.of_guide.ensures
+    (c.apply.ensures.list ∙ ap (λ (l : List Ranked). all_listed l plan.changes) c.reserve.ensures.same.list)
+    c.in-Ok.ensures.exact c.apply.ensures.few

@@ -1,0 +1,165 @@
+//! The guide of a protocol's list.
+ghost use Rattle.std.specs.Prelude.{◌≡◌, [], true, false, IfOk, OnOk, OnErr};
+ghost use Rattle.liq_guide.specs.Followed.{all_listed, hint_of_last};
+ghost use Rattle.liq_guided.specs.ListGuides.{IsGuideOf};
+
+use liq_core::Protocol;
+use liq_core::laws::{lists_stand, protocols_are_sound_states, protocols_stand};
+use liq_guide::Guide;
+use liq_types::{Hint, ListChange, NoMemory};
+use std::alloc::Global;
+
+/// Room for so many changes is kept from command to command. Few commands make more.
+const KEPT: usize = 64;
+
+/// The guide of a protocol's list, which is ahead of it while room is reserved for a command.
+#[derive(Drop)]
+pub(crate) struct ListGuide {
+    pub(crate) alloc: Global,
+    pub(crate) guide: Guide,
+    /// What the guide has followed and the protocol has not made.
+    pub(crate) ahead: Vec<ListChange>,
+    /// The protocol has made something else: the guide says nothing of its list.
+    pub(crate) is_stale: bool,
+}
+
+impl ListGuide {
+    /// The guide of an empty list.
+    pub(crate) fn new(alloc: Global) -> ListGuide
+        ensures { IsGuideOf [] result }
+    {
+        ListGuide {
+            alloc,
+            guide: Guide::new(alloc),
+            ahead: Vec::new(alloc),
+            is_stale: false,
+        }
+    }
+
+    /// The guide of a protocol's list. There may be no memory for it.
+    pub(crate) fn of(alloc: Global, protocol: &Protocol) -> Result<ListGuide, NoMemory>
+        ensures { IfOk result (λ g. (g.guide ≡ protocol.now.list) × (g.ahead.items ≡ [])) }
+    {
+        Ok(ListGuide {
+            alloc,
+            guide: guide_of(alloc, protocol)?,
+            ahead: Vec::new(alloc),
+            is_stale: false,
+        })
+    }
+
+    /// Follows the changes that a command will make, and tells between whom the account will stand that
+    /// they put last, if any. A command that was followed before and has not been made since is
+    /// forgotten.
+    pub(crate) fn follow(
+        &mut self,
+        protocol: &Protocol,
+        changes: &[ListChange],
+    ) -> Result<Option<Hint>, NoMemory>
+        requires { IsGuideOf protocol.now.list self.old }
+        ensures same { IsGuideOf protocol.now.list self.new }
+        ensures exact { IfOk result (λ hint. hint
+            ≡ hint_of_last (all_listed protocol.now.list changes.now) changes.now) }
+    {
+        self.catch_up(protocol)?;
+        self.ahead.extend_from_slice(changes)?;
+        match self.guide.follow(changes) {
+            Ok(()) => Ok(self.guide.hint(changes)),
+            Err(NoMemory) => {
+                self.ahead.clear();
+                Err(NoMemory)
+            }
+        }
+    }
+
+    /// It has the protocol's list as it is. Where it hasn't, it is made anew.
+    fn catch_up(&mut self, protocol: &Protocol) -> Result<(), NoMemory>
+        requires { IsGuideOf protocol.now.list self.old }
+        ensures ok { OnOk result ((self.new.guide ≡ protocol.now.list)
+            × (self.new.ahead.items ≡ [])) }
+        ensures err { OnErr result (IsGuideOf protocol.now.list self.new) }
+    {
+        if self.is_stale || !self.ahead.is_empty() {
+            *self = ListGuide::of(self.alloc, protocol)?;
+        }
+        Ok(())
+    }
+
+    /// Whether it has followed just these changes.
+    pub(crate) fn has_followed(&self, changes: &[ListChange]) -> bool
+        ensures { result ≡ true → (self.now.ahead.items ≡ changes.now)
+            × (self.now.is_stale ≡ false) }
+    {
+        !self.is_stale && are_same(&self.ahead, changes)
+    }
+
+    /// The protocol has made a command: the one that was followed, or another.
+    pub(crate) fn settle(&mut self, is_followed: bool)
+        ensures guide { self.new.guide ≡ self.old.guide }
+        ensures made { is_followed ≡ true → self.new.ahead.items ≡ [] }
+        ensures stale { is_followed ≡ false → self.new.is_stale ≡ true }
+    {
+        self.is_stale = !is_followed;
+        if self.ahead.capacity() <= KEPT {
+            self.ahead.clear();
+        } else {
+            self.ahead = Vec::new(self.alloc);
+        }
+    }
+}
+
+/// The guide of a protocol's list as it is.
+fn guide_of(alloc: Global, protocol: &Protocol) -> Result<Guide, NoMemory>
+    ensures { IfOk result (λ guide. guide ≡ protocol.now.list) }
+{
+    protocols_are_sound_states(protocol);
+    lists_stand(protocol);
+    protocols_stand(protocol);
+    let mut guide = Guide::new(alloc);
+    let mut changes = protocol.list(alloc)?;
+    // One after the other, since of a single change nothing is noted aside, and from the last one on,
+    // since the place before all others is found at once.
+    while let Some(change) = changes.pop() {
+        guide.follow(&[change])?;
+    }
+    Ok(guide)
+}
+
+/// Whether two lists have the same changes.
+fn are_same(left: &[ListChange], right: &[ListChange]) -> bool
+    ensures { result ≡ true → left.now ≡ right.now }
+{
+    if left.len() != right.len() {
+        return false;
+    }
+    for i in 0..left.len() {
+        if !is_same(&left[i], &right[i]) {
+            return false;
+        }
+    }
+    true
+}
+
+fn is_same(change: &ListChange, other: &ListChange) -> bool
+    ensures { result ≡ true → change.now ≡ other.now }
+{
+    match (*change, *other) {
+        (ListChange::Put { key, account }, ListChange::Put { key: k, account: a }) => {
+            key == k && account == a
+        }
+        (ListChange::Gone { account }, ListChange::Gone { account: a }) => account == a,
+        (
+            ListChange::Words {
+                snap_stakes,
+                snap_coll,
+                sum_debt,
+            },
+            ListChange::Words {
+                snap_stakes: stakes,
+                snap_coll: coll,
+                sum_debt: debt,
+            },
+        ) => snap_stakes == stakes && snap_coll == coll && sum_debt == debt,
+        _ => false,
+    }
+}
