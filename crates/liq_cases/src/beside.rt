@@ -1,7 +1,8 @@
 //! What no file asks for: sessions that are held back, so that it shows whether they are served at once; one whose calls show what is
-//! published behind each; and words that the system does not give.
+//! published behind each; sources that go on behind their end; and words that the system does not give.
 
 use crate::devices::{Devices, through};
+use crate::endings::check_endings;
 use crate::waiting::{Holds, Versions, Waiting};
 use liq_casefiles::{Told, put_words};
 use liq_outside::MemorySink;
@@ -131,6 +132,7 @@ pub fn tell_beside<R: Threads + Wait + Sync>(rt: &R, alloc: Global) -> Result<St
     check_missed(&mut told, &gate);
     check_hints(&mut told, &gate);
     check_published(rt, alloc, &mut told)?;
+    check_endings(rt, alloc, &mut told)?;
     for (fault, line, status) in &UNGIVEN {
         check_ungiven(alloc, &mut told, *fault, line, *status)?;
     }

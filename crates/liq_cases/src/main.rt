@@ -7,6 +7,7 @@ mod beside;
 mod cases;
 mod devices;
 mod disks;
+mod endings;
 mod facts;
 mod forged;
 mod performing;

@@ -51,10 +51,10 @@ unopened at left right fault h other l r s told_l told_r is a b told_a told_b =
     (stands, λ kept. still_kept l r a b s stands (h.reads l r a b s told_l told_r kept told_a told_b))
 
 -- so they are left by a run that read nothing
-pub standing_still : {D : Type 0} (at : D → DiskAt) (left right : D) (bytes l r : List ℕ) (unread : Option (List ℕ))
-    (s : State) → unread ≡ Some bytes → state_on l r ≡ Ok s → DisksStay at (Err NoMemory) l r s left right
-    → DisksHold at (Err NoMemory) bytes unread l r s left right []
-standing_still at left right bytes l r unread s none is still a b told_a told_b =
+pub standing_still : {D : Type 0} (at : D → DiskAt) (left right : D) (l r : List ℕ) (told unread : Option (List ℕ))
+    (s : State) → unread ≡ told → state_on l r ≡ Ok s → DisksStay at (Err NoMemory) l r s left right
+    → DisksHold at (Err NoMemory) told unread l r s left right []
+standing_still at left right l r told unread s none is still a b told_a told_b =
     let so = still a b told_a told_b in
     (still_stand l r a b s (so.0 ∙ sym is) is, λ were. so.1 (were (refl, none)))
 

@@ -20,17 +20,19 @@ use Rattle.liq_ends.specs.declared.halts.Halt.{Halt}
 use Rattle.liq_ends.specs.declared.halts.Halt.TheVariants.{DiskFault, Damaged, NoMemory}
 use Rattle.liq_ends.specs.Requests.{IsNext}
 
--- nothing was read, so that the opening may have failed
-abbrev pub IsUnread : List ℕ → Option (List ℕ) → List Request → Type 0
-IsUnread bytes unread requests = (requests ≡ []) × (unread ≡ Some bytes)
+-- Nothing was read, so that the opening may have failed. `told` is what the source told before, and `unread` what it
+-- still tells.
+abbrev pub IsUnread : Option (List ℕ) → Option (List ℕ) → List Request → Type 0
+IsUnread told unread requests = (requests ≡ []) × (unread ≡ told)
 
 -- Where a run met a disk's fault: in the opening, before a line was read; or at the next line's command, which is
 -- accepted after these requests.
-abbrev pub IsFaultOfRun : State → Result (Unit {0}) Halt → List ℕ → Option (List ℕ) → List Request → Fault → Type 0
-IsFaultOfRun start (Err DiskFault) bytes unread requests fault =
-    ((fault ≡ InOpening) × IsUnread bytes unread requests) ⊎ ((c : Command) × (fault ≡ AtCommand c)
-    × IsNext bytes requests (Do c) × (ruling (run start requests).0 c ≡ Allowed))
-IsFaultOfRun start _ bytes unread requests fault = fault ≡ NoFault
+abbrev pub IsFaultOfRun : State → Result (Unit {0}) Halt → Option (List ℕ) → Option (List ℕ)
+    → List Request → Fault → Type 0
+IsFaultOfRun start (Err DiskFault) told unread requests fault =
+    ((fault ≡ InOpening) × IsUnread told unread requests) ⊎ ((c : Command) × (fault ≡ AtCommand c)
+    × IsNext told requests (Do c) × (ruling (run start requests).0 c ≡ Allowed))
+IsFaultOfRun start _ told unread requests fault = fault ≡ NoFault
 
 -- where a word met one that only tells what is on the disks, or that opened no store: it leaves what an opening may
 -- leave
@@ -61,17 +63,17 @@ module _ {D : Type 0} (at : D → DiskAt) where
 
   -- The disks of a run that began with l and r on them, for which they stood for the state `start`: they are kept for
   -- the state after the requests.
-  abbrev pub DisksHold : Result (Unit {0}) Halt → List ℕ → Option (List ℕ) → List ℕ → List ℕ
+  abbrev pub DisksHold : Result (Unit {0}) Halt → Option (List ℕ) → Option (List ℕ) → List ℕ → List ℕ
       → State → D → D → List Request → Type 0
   -- After a disk's fault they are kept for that state, or for it after the next line's command, if it is accepted
   -- there. Or the opening failed, and left what it may leave of disks that were kept.
-  DisksHold (Err DiskFault) bytes unread l r start left right asked = OfBoth left right (λ a b.
-      let s = (run start asked).0 in (IsUnread bytes unread asked × (IsKept l r start → IsRecovered l r start a b))
-      ⊎ (IsKept a b s ⊎ ((c : Command) × IsNext bytes asked (Do c) × (ruling s c ≡ Allowed) × IsKept a b (after s c))))
+  DisksHold (Err DiskFault) told unread l r start left right asked = OfBoth left right (λ a b.
+      let s = (run start asked).0 in (IsUnread told unread asked × (IsKept l r start → IsRecovered l r start a b))
+      ⊎ (IsKept a b s ⊎ ((c : Command) × IsNext told asked (Do c) × (ruling s c ≡ Allowed) × IsKept a b (after s c))))
   -- Where memory may have been wanted for the opening they stand for that state, and stay kept.
-  DisksHold (Err NoMemory) bytes unread l r start left right asked = OfBoth left right (λ a b.
-      let s = (run start asked).0 in StandFor a b s × ((IsUnread bytes unread asked → IsKept l r start) → IsKept a b s))
-  DisksHold _ bytes unread l r start left right asked = OfBoth left right (λ a b. IsKept a b (run start asked).0)
+  DisksHold (Err NoMemory) told unread l r start left right asked = OfBoth left right (λ a b.
+      let s = (run start asked).0 in StandFor a b s × ((IsUnread told unread asked → IsKept l r start) → IsKept a b s))
+  DisksHold _ told unread l r start left right asked = OfBoth left right (λ a b. IsKept a b (run start asked).0)
 
   -- The disks of a word that only tells what is on them: they stand for just the state for which l and r stood, and are
   -- kept for it.

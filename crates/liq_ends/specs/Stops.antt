@@ -1,5 +1,5 @@
 -- Where a word ends, and what it has written by then.
-use Rattle.std.specs.Prelude.{ℕ, ◌≡◌, ◌≢◌, ◌≤◌, ◌∷◌, [], ◌++◌, ◌⊎◌, List, length, Option, Result, Ok, Err}
+use Rattle.std.specs.Prelude.{ℕ, ◌≡◌, ◌≢◌, ◌≤◌, ◌+◌, ◌∷◌, [], ◌++◌, ◌⊎◌, List, length, Option, IfSome, Result, Ok, Err}
 use Rattle.liq_outside.specs.At.{DiskAt}
 use Rattle.liq_outside.specs.declared.showing.Showing.{Showing}
 use Rattle.liq_types.specs.declared.amounts.TheConstants.{LINES_MOST}
@@ -14,7 +14,7 @@ use Rattle.liq_journal.specs.declared.damage.Damage.{Damage}
 use Rattle.liq_pairs.specs.declared.side.Side.{Side}
 use Rattle.liq_pairs.specs.Past.{Fault}
 use Rattle.liq_ends.specs.declared.halts.Halt.{Halt}
-use Rattle.liq_ends.specs.declared.halts.Halt.TheVariants.{WriteFault, Damaged, DamagedInput, NoMemory, Rotated}
+use Rattle.liq_ends.specs.declared.halts.Halt.TheVariants.{BadLine, WriteFault, Damaged, DamagedInput, NoMemory, Limit, Rotated}
 use Rattle.liq_ends.specs.Answered.{KeepsAnswered, Told}
 use Rattle.liq_ends.specs.Disks.{DisksHold, IsFaultOfRun, IsUnread, LeavesDamaged, LeavesOfRun}
 use Rattle.liq_ends.specs.Output.{last, lines}
@@ -53,19 +53,23 @@ abbrev pub StopsDamaged : {D : Type 0} → (D → DiskAt) → D → D → List �
 StopsDamaged at old_left old_right l r side damage end fault before now left right = (halt : Halt) × (end ≡ Err halt)
     × LeavesDamaged at old_left old_right l r side damage (Err halt) left right × Adds [] (last halt) fault before now
 
--- Why a run from a state ended after these requests of the bytes. `left` is what the source still tells.
-abbrev pub EndsAfter : State → Result (Unit {0}) Halt → List ℕ → Option (List ℕ) → List Request → Type 0
+-- Why a run from a state ended behind these requests, whatever its source tells. `told` is what that told before, and
+-- `unread` what it still tells.
+abbrev pub EndsAfter : State → Result (Unit {0}) Halt → Option (List ℕ) → Option (List ℕ) → List Request → Type 0
+-- the next line is no request
+EndsAfter start (Err (BadLine number)) told unread requests = number ≡ length requests + 1
 -- a run over damaged disks begins nowhere
-EndsAfter start (Err (Damaged side number)) bytes left requests = ⊥
+EndsAfter start (Err (Damaged side number)) told unread requests = ⊥
 -- what it reads are requests
-EndsAfter start (Err (DamagedInput number)) bytes left requests = ⊥
--- and it goes on in whatever generation
-EndsAfter start (Err (Rotated generation)) bytes left requests = ⊥
+EndsAfter start (Err (DamagedInput number)) told unread requests = ⊥
 -- memory is asked for before a line is read, and then only for a command that is allowed or plans a list
-EndsAfter start (Err NoMemory) bytes left requests = ReadsTo IsRequest bytes left requests (Err NoMemory)
-    × (IsUnread bytes left requests ⊎ ((request : Request) × IsNext bytes requests request
-    × TakesMemory (run start requests).0 request))
-EndsAfter start end bytes left requests = ReadsTo IsRequest bytes left requests end
+EndsAfter start (Err NoMemory) told unread requests = IsUnread told unread requests
+    ⊎ ((request : Request) × IsNext told requests request × TakesMemory (run start requests).0 request)
+-- as many lines were answered as one run answers
+EndsAfter start (Err (Limit number)) told unread requests = (number ≡ LINES_MOST) × (length requests ≡ LINES_MOST)
+-- and it goes on in whatever generation
+EndsAfter start (Err (Rotated generation)) told unread requests = ⊥
+EndsAfter start _ told unread requests = Unit {0}
 
 -- What a run has written by its end: all replies, and the last line where it stopped. Where the sink met a fault at a
 -- reply, it is a front of the requests' lines that ends within the last of them.
@@ -78,22 +82,23 @@ WritesUpTo start (Err WriteFault) fault requests before now = (part : List ℕ) 
 WritesUpTo start end fault requests before now =
     TellsBehind (lines start requests) (lines start requests) end fault before now
 
--- How a run ends that began with these bytes in its source and with l and r on its disks, for which they stood for this
--- state. `unread` is what the source still tells; `before` and `now` are what the sink held and holds, and `shown` and
+-- How a run ends that began with l and r on its disks, for which they stood for this state. `told` is what the source
+-- told, and `unread` what it still tells; `before` and `now` are what the sink held and holds, and `shown` and
 -- `shown_now` what it was shown by then.
 pub record EndsIn {D : Type 0} (at : D → DiskAt) (old_left old_right : D) (start : State)
-    (end : Result (Unit {0}) Halt) (bytes l r : List ℕ) (unread : Option (List ℕ))
+    (end : Result (Unit {0}) Halt) (told : Option (List ℕ)) (l r : List ℕ) (unread : Option (List ℕ))
     (sink_fails : Type 0) (before now : Option (List ℕ))
     (shown shown_now : Option (List Showing)) (left right : D) : Type 0 where
   pub requests : List Request
   -- they are no more than one run answers
   pub few : length requests ≤ LINES_MOST
-  pub read : EndsAfter start end bytes unread requests
+  pub why : EndsAfter start end told unread requests
+  pub read : IfSome told (λ bytes. ReadsTo IsRequest bytes unread requests end)
   pub written : WritesUpTo start end sink_fails requests before now
-  pub disks : DisksHold at end bytes unread l r start left right requests
+  pub disks : DisksHold at end told unread l r start left right requests
   -- where a disk met a fault
   pub fault : Fault
-  pub fault_is : IsFaultOfRun start end bytes unread requests fault
+  pub fault_is : IsFaultOfRun start end told unread requests fault
   pub past : LeavesOfRun at old_left old_right (λ met. met ≡ fault) l r start requests left right
   -- and wherever a stop was, all that was answered by then is on the disks
   pub answered : Told before shown now shown_now (λ was earlier is all.

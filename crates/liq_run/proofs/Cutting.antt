@@ -2,6 +2,7 @@
 use Rattle.std.proofs.Common.{◌≡◌, ◌≢◌, ℕ, ◌<◌, ◌≤◌, List, [], ◌∷◌, ◌++◌, length, take, drop, Option, Err, refl, ap, sym, subst, ◌∙◌, append_assoc, append-nil, length-append, length-drop, arith, inl, inr}
 use Rattle.std.specs.Prelude.{◌⊎◌}
 use Rattle.std.proofs.lemmas.List.{take-append-drop}
+use Rattle.std.proofs.lemmas.Option.{IfSome_then}
 use Rattle.std.specs.List.{AllZip}
 use Rattle.liq_types.specs.declared.amounts.TheConstants.{LINES_MOST}
 use Rattle.liq_types.specs.declared.requests.Request.{Request}
@@ -11,7 +12,7 @@ use Rattle.liq_rules.specs.Step.{accepted, run, step}
 use Rattle.liq_ends.specs.declared.halts.Halt.TheVariants.{WriteFault}
 use Rattle.liq_ends.specs.Output.{lines}
 use Rattle.liq_ends.specs.Requests.{IsRequest}
-use Rattle.liq_run.specs.Progress.{Written, Comes}
+use Rattle.liq_run.specs.Progress.{Begins, Comes, Written}
 use Rattle.liq_lines.specs.Writing.{WritesPart}
 use Rattle.liq_lines.proofs.Bytes.{writes_more}
 use Rattle.liq_lines.specs.Saying.{BeginsWith}
@@ -95,20 +96,21 @@ cut_behind : (front part missing whole : List ℕ) → missing ≢ [] → whole 
 cut_behind front part [] whole some is = absurd (some refl)
 cut_behind front part (x ∷ missing) whole some is = omega (arith, ap length is, length-append (front ++ part) (x ∷ missing), length-append front part)
 
-pub cut_comes : (start : State) (core : Core) (past : List Request → Type 0) (kept : State → Request → Type 0) (stopped : List Request → Request → Type 0) → (bytes : List ℕ) (requests : List Request) (left : Option (List ℕ)) (waited waits : List ℕ) (more : List (List ℕ)) (before now after : Option (List ℕ)) → length requests ≤ LINES_MOST → BeginsWith IsRequest bytes requests more → Written start requests waited before now → StandsFor core (run start requests).0 → past requests → WritesPart now waited after → Comes start (Err WriteFault) core past kept stopped bytes left waits before after
-cut_comes start core past kept stopped bytes requests left waited waits more before now after few begins written stands passed part =
+pub cut_comes : (start : State) (core : Core) (past : List Request → Type 0) (kept : State → Request → Type 0) (stopped : List Request → Request → Type 0) → (told : Option (List ℕ)) (requests : List Request) (left : Option (List ℕ)) (waited waits : List ℕ) (before now after : Option (List ℕ)) → length requests ≤ LINES_MOST → Begins told requests → Written start requests waited before now → StandsFor core (run start requests).0 → past requests → WritesPart now waited after → Comes start (Err WriteFault) core past kept stopped told left waits before after
+cut_comes start core past kept stopped told requests left waited waits before now after few begins written stands passed part =
     let k = part.0 in
     let all = written.replies ∙ ap (λ (t : List ℕ). written.front ++ t) (sym (take-append-drop k waited)) ∙ sym (append_assoc written.front (take k waited) (drop k waited)) in
     let c = cut_at start requests (written.front ++ take k waited) (drop k waited) all (missing_some k waited part.1) in
     let same = c.split ∙ sym (append_assoc c.earlier (c.request ∷ []) c.later) in
     let steady = written.steady c.earlier c.later c.request c.split (cut_behind written.front (take k waited) c.missing _ c.some c.whole) in
-    let b = begins_front bytes (c.earlier ++ c.request ∷ []) c.later more (subst (λ (rs : List Request). BeginsWith IsRequest bytes rs more) same begins) in
+    let begun : Begins told (c.earlier ++ c.request ∷ []) =
+    IfSome_then told (subst (Begins told) same begins) (λ bytes b. begins_front bytes (c.earlier ++ c.request ∷ []) c.later b.0 b.1) in
     record {
       requests = c.earlier ++ c.request ∷ [];
       few = omega (arith, few, ap length same, length-append (c.earlier ++ c.request ∷ []) c.later);
-      read = (b.0, b.1);
-      more = b.0;
-      begins = b.1;
+      why = tt;
+      read = begun;
+      begins = begun;
       written = (
         written.front ++ take k waited,
         writes_more before now after written.front (take k waited) written.writes part.2,

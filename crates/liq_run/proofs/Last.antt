@@ -54,14 +54,14 @@ all_written start (DamagedInput number) fault requests before now after h adds =
     (lines start requests) (last (DamagedInput number)) before now after h adds
 
 module _ {D : Type 0} (at : D → DiskAt)
-    (old_left old_right : D) (start : State) (formed : IsWellFormed start) (bytes l r : List ℕ)
-    (unread : Option (List ℕ)) (fault : Type 0) (shown shown_now : Option (List Showing)) (left right : D) where
+    (old_left old_right : D) (start : State) (formed : IsWellFormed start) (l r : List ℕ)
+    (told unread : Option (List ℕ)) (fault : Type 0) (shown shown_now : Option (List Showing)) (left right : D) where
   abbrev Gives : Result (Unit {0}) Halt → Option (List ℕ) → Option (List ℕ) → Type 0
-  Gives end before now = GivesBack at old_left old_right start end bytes l r unread before now shown
+  Gives end before now = GivesBack at old_left old_right start end told l r unread before now shown
       shown_now left right
 
   abbrev EndsSo : Result (Unit {0}) Halt → Option (List ℕ) → Option (List ℕ) → Type 0
-  EndsSo end before now = EndsIn at old_left old_right start end bytes l r unread fault before now
+  EndsSo end before now = EndsIn at old_left old_right start end told l r unread fault before now
       shown shown_now left right
 
   ends_so : (end : Result (Unit {0}) Halt) (before now after : Option (List ℕ)) → (h : Gives end before now)
@@ -69,6 +69,7 @@ module _ {D : Type 0} (at : D → DiskAt)
   ends_so end before now after h written = record {
     requests = h.requests;
     few = h.few;
+    why = h.why;
     read = h.read;
     written = written;
     disks = h.disks;

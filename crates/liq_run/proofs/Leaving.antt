@@ -1,5 +1,5 @@
 -- The disks of a run, as it leaves them.
-use Rattle.std.proofs.Common.{◌≡◌, ℕ, List, [], ◌∷◌, Option, Some, Result, Ok, Err, refl, ap, sym, subst, ◌∙◌, append-nil, arith, inl, inr}
+use Rattle.std.proofs.Common.{◌≡◌, ℕ, List, [], ◌∷◌, Option, Some, None, Result, Ok, Err, refl, ap, sym, subst, ◌∙◌, append-nil, arith, inl, inr}
 use Rattle.std.specs.Prelude.{◌⊎◌}
 use Rattle.liq_outside.specs.At.{DiskAt}
 use Rattle.liq_outside.specs.declared.showing.Showing.{Showing}
@@ -38,7 +38,7 @@ use Rattle.liq_ends.specs.Unopened.{halt_of}
 use Rattle.liq_ends.proofs.Opened.{settled, standing_still, unopened}
 use Rattle.liq_run.specs.Calls.{GoOn, IsStopped, KeepsAround}
 use Rattle.liq_run.specs.Passing.{Begun, BeginsNone, BeginsRun, IsOver, IsPastOf, IsStoppedPastOf}
-use Rattle.liq_run.specs.Progress.{GivesBack, HaltsAt}
+use Rattle.liq_run.specs.Progress.{Begins, GivesBack, HaltsAt}
 use Rattle.liq_run.specs.Turns.{HasEnded, Reached}
 use Rattle.liq_run.proofs.Passing.{ended_past}
 use Rattle.liq_run.proofs.Shown.{opening_left}
@@ -46,8 +46,13 @@ use Rattle.liq_run.proofs.Shown.{opening_left}
 module _ {D : Type 0} (at : D → DiskAt) where
   -- ---- no store was opened
 
-  module _ (left right : D) (bytes l r : List ℕ) (unread before : Option (List ℕ))
+  module _ (left right : D) (l r : List ℕ) (told before : Option (List ℕ))
       (shown : Option (List Showing)) (start : State) where
+    -- no line was read
+    nothing_read : (o : Option (List ℕ)) → Begins o []
+    nothing_read None = tt
+    nothing_read (Some bytes) = (lines_in bytes, ([], tt, refl))
+
     -- nothing was shown, and nothing answered
     none_answered : (why_is : StoreWhy) (fault : Fault) (fl fr : D) (last : Option (List ℕ))
         → BeginsNone at left right l r start why_is fl fr
@@ -65,33 +70,35 @@ module _ {D : Type 0} (at : D → DiskAt) where
     }
 
     pub unopened_by : (why_is : StoreWhy) (fl fr : D)
-        → IsNotOpened at left right (record { left = fl; right = fr; why = why_is }) → unread ≡ Some bytes
+        → IsNotOpened at left right (record { left = fl; right = fr; why = why_is })
         → (at left).seen ≡ Some l → (at right).seen ≡ Some r → state_on l r ≡ Ok start
         → BeginsNone at left right l r start why_is fl fr
-        → GivesBack at left right start (Err (halt_of why_is)) bytes l r unread before before shown shown fl fr
-    unopened_by why.DiskFault fl fr h told told_l told_r is none =
+        → GivesBack at left right start (Err (halt_of why_is)) told l r told before before shown shown fl fr
+    unopened_by why.DiskFault fl fr h told_l told_r is none =
         record {
           requests = [];
           few = omega arith;
-          read = (lines_in bytes, ([], tt, refl));
+          why = tt;
+          read = nothing_read told;
           written = writes_nothing before;
           disks = λ a b told_a told_b. inl
-              ((refl, told), λ kept. h.reads l r a b start told_l told_r kept told_a told_b);
+              ((refl, refl), λ kept. h.reads l r a b start told_l told_r kept told_a told_b);
           fault = InOpening;
-          fault_is = inl (refl, (refl, told));
+          fault_is = inl (refl, (refl, refl));
           past = λ only_l only_r kept. let so = none.past only_l only_r kept in
               record { fault = so.fault; fault_is = so.fault_is; images = so.images; rests = so.rests };
           answered = λ last. none_answered why.DiskFault InOpening fl fr last none;
         }
-    unopened_by (why.Damaged side damage) fl fr h told told_l told_r is none = absurd
+    unopened_by (why.Damaged side damage) fl fr h told_l told_r is none = absurd
         (cc (h.is_why l r told_l told_r, is))
-    unopened_by why.NoMemory fl fr h told told_l told_r is none =
+    unopened_by why.NoMemory fl fr h told_l told_r is none =
         record {
           requests = [];
           few = omega arith;
-          read = ((lines_in bytes, ([], tt, refl)), inl (refl, told));
+          why = inl (refl, refl);
+          read = nothing_read told;
           written = writes_nothing before;
-          disks = standing_still at fl fr bytes l r unread start told is
+          disks = standing_still at fl fr l r told told start refl is
               (unopened at left right (record { left = fl; right = fr; why = why.NoMemory }) h (λ e. cc) l r
               start told_l told_r is);
           fault = NoFault;
@@ -104,43 +111,43 @@ module _ {D : Type 0} (at : D → DiskAt) where
   -- ---- a store was opened
 
   -- a command that is accepted makes its step
-  around : (s : State) (request : Request) (bytes : List ℕ) (requests : List Request) (a b : List ℕ)
-      → IsNext bytes requests request → IsAccepted s request → IsKeptAround s request a b
-      → IsKept a b s ⊎ ((c : Command) × IsNext bytes requests (Do c) × (ruling s c ≡ Allowed)
+  around : (s : State) (request : Request) (told : Option (List ℕ)) (requests : List Request) (a b : List ℕ)
+      → IsNext told requests request → IsAccepted s request → IsKeptAround s request a b
+      → IsKept a b s ⊎ ((c : Command) × IsNext told requests (Do c) × (ruling s c ≡ Allowed)
       × IsKept a b (after s c))
-  around s (Ask query) bytes requests a b next accepted kept = absurd accepted
-  around s (Do c) bytes requests a b next accepted (inl kept) = inl kept
-  around s (Do c) bytes requests a b next accepted (inr kept) =
+  around s (Ask query) told requests a b next accepted kept = absurd accepted
+  around s (Do c) told requests a b next accepted (inl kept) = inl kept
+  around s (Do c) told requests a b next accepted (inr kept) =
       inr (c, next, accepted, subst (λ (q : Ruling). IsKept a b (after_ruling s c q).0) accepted kept)
 
-  pub left_by : (store : Stored D) (end : Result (Unit {0}) Halt) (bytes : List ℕ) (unread : Option (List ℕ))
+  pub left_by : (store : Stored D) (end : Result (Unit {0}) Halt) (told unread : Option (List ℕ))
       (l r : List ℕ) (start : State) (requests : List Request) → IsStopped end store.stopped
       → IsInOrder at store
       → StandsFor store.core (run start requests).0
       → (past : List Request → Type 0) (stopped_past : List Request → Request → Type 0)
-      → HaltsAt end bytes requests [] start past (KeepsAround at store.left store.right) stopped_past
-      → DisksHold at end bytes unread l r start store.left store.right requests
-  left_by store (Err DiskFault) bytes unread l r start requests stopped order stands past stopped_past halted =
-      λ a b told_a told_b. inr (around (run start requests).0 halted.0 bytes requests a b halted.1 halted.2
+      → HaltsAt end told requests [] start past (KeepsAround at store.left store.right) stopped_past
+      → DisksHold at end told unread l r start store.left store.right requests
+  left_by store (Err DiskFault) told unread l r start requests stopped order stands past stopped_past halted =
+      λ a b told_a told_b. inr (around (run start requests).0 halted.0 told requests a b halted.1 halted.2
       (halted.4 a b told_a told_b))
-  left_by store (Ok done) bytes unread l r start requests stopped order stands past stopped_past halted =
+  left_by store (Ok done) told unread l r start requests stopped order stands past stopped_past halted =
       settled at store (run start requests).0 stopped order stands
-  left_by store (Err (BadLine n)) bytes unread l r start requests stopped order stands past stopped_past halted =
+  left_by store (Err (BadLine n)) told unread l r start requests stopped order stands past stopped_past halted =
       settled at store (run start requests).0 stopped order stands
-  left_by store (Err ReadFault) bytes unread l r start requests stopped order stands past stopped_past halted =
+  left_by store (Err ReadFault) told unread l r start requests stopped order stands past stopped_past halted =
       settled at store (run start requests).0 stopped order stands
-  left_by store (Err WriteFault) bytes unread l r start requests stopped order stands past stopped_past halted =
+  left_by store (Err WriteFault) told unread l r start requests stopped order stands past stopped_past halted =
       settled at store (run start requests).0 stopped order stands
-  left_by store (Err (halts.Damaged side number)) bytes unread l r start requests stopped order stands past
+  left_by store (Err (halts.Damaged side number)) told unread l r start requests stopped order stands past
       stopped_past halted = settled at store (run start requests).0 stopped order stands
-  left_by store (Err NoMemory) bytes unread l r start requests stopped order stands past stopped_past halted =
+  left_by store (Err NoMemory) told unread l r start requests stopped order stands past stopped_past halted =
       λ a b told_a told_b. let kept = settled at store (run start requests).0 stopped order stands
       a b told_a told_b in (kept.stands, λ were. kept)
-  left_by store (Err (Limit number)) bytes unread l r start requests stopped order stands past stopped_past
+  left_by store (Err (Limit number)) told unread l r start requests stopped order stands past stopped_past
       halted = settled at store (run start requests).0 stopped order stands
-  left_by store (Err (Rotated generation)) bytes unread l r start requests stopped order stands past stopped_past
+  left_by store (Err (Rotated generation)) told unread l r start requests stopped order stands past stopped_past
       halted = absurd stopped
-  left_by store (Err (DamagedInput number)) bytes unread l r start requests stopped order stands past stopped_past
+  left_by store (Err (DamagedInput number)) told unread l r start requests stopped order stands past stopped_past
       halted = settled at store (run start requests).0 stopped order stands
 
   module _ (stays : (disk : D) (held : List ℕ) → (at disk).seen ≡ Some held → LeftNow at disk held)
@@ -160,36 +167,36 @@ module _ {D : Type 0} (at : D → DiskAt) where
           (subst (λ (rs : List Request). PastOf rs store shown) (sym (append-nil requests)) past),
     )
 
-    over_by : (store : Stored D) (shown : Option (List Showing)) (end : Result (Unit {0}) Halt) (bytes : List ℕ)
-        (unread : Option (List ℕ)) (requests : List Request) (kept : State → Request → Type 0)
+    over_by : (store : Stored D) (shown : Option (List Showing)) (end : Result (Unit {0}) Halt)
+        (told unread : Option (List ℕ)) (requests : List Request) (kept : State → Request → Type 0)
         → IsStopped end store.stopped
-        → HaltsAt end bytes requests [] begun.start (λ rs. PastOf rs store shown) kept
+        → HaltsAt end told requests [] begun.start (λ rs. PastOf rs store shown) kept
         (λ rs q. IsStoppedPastOf at begun rs q store shown)
-        → (fault : Fault) × IsFaultOfRun begun.start end bytes unread requests fault
+        → (fault : Fault) × IsFaultOfRun begun.start end told unread requests fault
         × IsOver at begun requests fault store.left store.right shown
-    over_by store shown (Err DiskFault) bytes unread requests kept stopped halted =
+    over_by store shown (Err DiskFault) told unread requests kept stopped halted =
         let so = halted.5 in
         let s = (run begun.start requests).0 in (
           AtCommand so.0,
-          inr (so.0, refl, subst (IsNext bytes requests) so.1 halted.1, subst (IsAccepted s) so.1 halted.2),
+          inr (so.0, refl, subst (IsNext told requests) so.1 halted.1, subst (IsAccepted s) so.1 halted.2),
           so.2,
         )
-    over_by store shown (Ok done) bytes unread requests kept stopped halted = calm store shown requests _ refl
+    over_by store shown (Ok done) told unread requests kept stopped halted = calm store shown requests _ refl
         halted
-    over_by store shown (Err (BadLine n)) bytes unread requests kept stopped halted = calm store shown requests _
+    over_by store shown (Err (BadLine n)) told unread requests kept stopped halted = calm store shown requests _
         refl halted
-    over_by store shown (Err ReadFault) bytes unread requests kept stopped halted = calm store shown requests _
+    over_by store shown (Err ReadFault) told unread requests kept stopped halted = calm store shown requests _
         refl halted
-    over_by store shown (Err WriteFault) bytes unread requests kept stopped halted =
+    over_by store shown (Err WriteFault) told unread requests kept stopped halted =
         (NoFault, refl, ended_past at stays begun requests halted.0 store shown halted.1 halted.2)
-    over_by store shown (Err (halts.Damaged side number)) bytes unread requests kept stopped halted = calm store
+    over_by store shown (Err (halts.Damaged side number)) told unread requests kept stopped halted = calm store
         shown requests _ refl halted
-    over_by store shown (Err NoMemory) bytes unread requests kept stopped halted = calm store shown requests _ refl
+    over_by store shown (Err NoMemory) told unread requests kept stopped halted = calm store shown requests _ refl
         halted
-    over_by store shown (Err (Limit number)) bytes unread requests kept stopped halted = calm store shown requests
+    over_by store shown (Err (Limit number)) told unread requests kept stopped halted = calm store shown requests
         _ refl halted
-    over_by store shown (Err (Rotated generation)) bytes unread requests kept stopped halted = absurd stopped
-    over_by store shown (Err (DamagedInput number)) bytes unread requests kept stopped halted = calm store shown
+    over_by store shown (Err (Rotated generation)) told unread requests kept stopped halted = absurd stopped
+    over_by store shown (Err (DamagedInput number)) told unread requests kept stopped halted = calm store shown
         requests _ refl halted
 
   -- a run is at its end, and its store is closed
@@ -275,22 +282,23 @@ module _ {D : Type 0} (at : D → DiskAt) where
                 );
           }
 
-    pub gives_back : (store : Stored D) (end : Result (Unit {0}) Halt) (bytes : List ℕ) (place : Reached D)
+    pub gives_back : (store : Stored D) (end : Result (Unit {0}) Halt) (told : Option (List ℕ)) (place : Reached D)
         → place.store ≡ store → GoOn at opened store → IsStopped end store.stopped
         → IsInOrder at store
-        → HasEnded at here bytes place end
-        → GivesBack at old_left old_right start end bytes l r place.left before place.sink.held was
+        → HasEnded at here told place end
+        → GivesBack at old_left old_right start end told l r place.left before place.sink.held was
         place.sink.shown store.left store.right
-    gives_back store end bytes place same time stopped order ended =
-        let h = subst (λ (s : Stored D). HasEnded at here bytes (record place { store = s }) end)
+    gives_back store end told place same time stopped order ended =
+        let h = subst (λ (s : Stored D). HasEnded at here told (record place { store = s }) end)
         same ended in
-        let over = over_by stays here store place.sink.shown end bytes place.left h.requests _ stopped h.halted in
+        let over = over_by stays here store place.sink.shown end told place.left h.requests _ stopped h.halted in
         record {
           requests = h.requests;
           few = h.few;
+          why = h.why;
           read = h.read;
           written = h.written;
-          disks = left_by store end bytes place.left l r start h.requests stopped order h.stands _ _ h.halted;
+          disks = left_by store end told place.left l r start h.requests stopped order h.stands _ _ h.halted;
           fault = over.0;
           fault_is = over.1;
           past = past_over store h.requests over.0 place.sink.shown time over.2;

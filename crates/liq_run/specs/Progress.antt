@@ -1,6 +1,6 @@
 -- How far a run has come.
 use Rattle.std.specs.Prelude.{ℕ, ◌≡◌, ◌≢◌, ◌≤◌, ◌<◌, ◌+◌, [], ◌∷◌, ◌++◌}
-use Rattle.std.specs.Prelude.{List, length, Option, Some, Result, Ok, Err, Bool, true, false}
+use Rattle.std.specs.Prelude.{List, length, Option, IfSome, Result, Ok, Err, Bool, true, false}
 use Rattle.std.specs.List.{AllByRecursion, AllZip}
 use Rattle.liq_outside.specs.At.{DiskAt}
 use Rattle.liq_outside.specs.declared.showing.Showing.{Showing}
@@ -15,6 +15,7 @@ use Rattle.liq_ends.specs.declared.halts.Halt.TheVariants.{BadLine, ReadFault, W
 use Rattle.liq_ends.specs.Output.{lines}
 use Rattle.liq_ends.specs.Answered.{KeepsAnswered, Told}
 use Rattle.liq_ends.specs.Disks.{DisksHold, IsFaultOfRun, LeavesOfRun}
+use Rattle.liq_ends.specs.Reading.{ReadsTo}
 use Rattle.liq_ends.specs.Requests.{IsRequest, IsNext}
 use Rattle.liq_ends.specs.Stops.{EndsAfter}
 use Rattle.liq_run.specs.declared.run.Next.{Next}
@@ -83,19 +84,17 @@ pub record Written
       → ((run start (earlier ++ request ∷ [])).0 ≡ (run start requests).0)
       × (accepted start (earlier ++ request ∷ []) ≡ accepted start requests)
 
--- n lines were requests, and each is answered; this holds of them
+-- n lines were read that are requests, and each is answered; this holds of them
 pub record Answered
-    (start : State) (bytes : List ℕ) (n : ℕ) (core : Core) (unread : Option (List ℕ))
+    (start : State) (told : Option (List ℕ)) (n : ℕ) (core : Core) (unread : Option (List ℕ))
     (waiting : List ℕ) (before now : Option (List ℕ)) (past : List Request → Type 0)
     : Type 0 where
   pub requests : List Request
   pub front : List (List ℕ)
-  pub rest : List ℕ
   pub spelled : AllZip IsRequest front requests
   pub within : AllByRecursion IsWithinLine front
   pub count : length requests ≡ n
-  pub bytes_are : bytes ≡ ended front ++ rest
-  pub unread_is : unread ≡ Some rest
+  pub reads : Reads told (ended front) unread
   pub stands : StandsFor core (run start requests).0
   pub written : Written start requests waiting before now
   pub passed : past requests
@@ -131,31 +130,43 @@ WrittenAt start _ requests waiting before now = Written start requests waiting b
 -- of it. Where a reply was cut, this holds of these requests and later ones, of which none was
 -- accepted. Else it holds of the requests.
 abbrev pub HaltsAt :
-    Result (Unit {0}) Halt → List ℕ → List Request → List ℕ → State → (List Request → Type 0)
-    → (State → Request → Type 0) → (List Request → Request → Type 0) → Type 0
-HaltsAt (Err DiskFault) bytes requests waiting start past kept stopped =
+    Result (Unit {0}) Halt → Option (List ℕ) → List Request → List ℕ → State
+    → (List Request → Type 0) → (State → Request → Type 0) → (List Request → Request → Type 0)
+    → Type 0
+HaltsAt (Err DiskFault) told requests waiting start past kept stopped =
     let s = (run start requests).0 in
-    (request : Request) × IsNext bytes requests request × IsAccepted s request × (waiting ≡ [])
+    (request : Request) × IsNext told requests request × IsAccepted s request × (waiting ≡ [])
     × kept s request × stopped requests request
-HaltsAt (Err WriteFault) bytes requests waiting start past kept stopped =
+HaltsAt (Err WriteFault) told requests waiting start past kept stopped =
     (later : List Request) × (accepted start (requests ++ later) ≡ accepted start requests)
     × past (requests ++ later)
-HaltsAt _ bytes requests waiting start past kept stopped = past requests
+HaltsAt _ told requests waiting start past kept stopped = past requests
+
+-- what a source told begins with lines of these requests
+abbrev pub Begins : Option (List ℕ) → List Request → Type 0
+Begins told requests =
+    IfSome told (λ bytes. (more : List (List ℕ)) × BeginsWith IsRequest bytes requests more)
+
+-- and is read so, where a run comes to this end
+abbrev pub IsRead :
+    Result (Unit {0}) Halt → Option (List ℕ) → Option (List ℕ) → List Request → Type 0
+IsRead end told left requests =
+    IfSome told (λ bytes. ReadsTo IsRequest bytes left requests end)
 
 -- a run came to its end, some replies wait, and the protocol stands for the state after the
 -- requests
 pub record Comes
     (start : State) (end : Result (Unit {0}) Halt) (core : Core) (past : List Request → Type 0)
-    (kept : State → Request → Type 0) (stopped : List Request → Request → Type 0) (bytes : List ℕ)
-    (left : Option (List ℕ)) (waiting : List ℕ) (before now : Option (List ℕ)) : Type 0 where
+    (kept : State → Request → Type 0) (stopped : List Request → Request → Type 0)
+    (told left : Option (List ℕ)) (waiting : List ℕ) (before now : Option (List ℕ)) : Type 0 where
   pub requests : List Request
   pub few : length requests ≤ LINES_MOST
-  pub read : EndsAfter start end bytes left requests
-  pub more : List (List ℕ)
-  pub begins : BeginsWith IsRequest bytes requests more
+  pub why : EndsAfter start end told left requests
+  pub read : IsRead end told left requests
+  pub begins : Begins told requests
   pub written : WrittenAt start end requests waiting before now
   pub stands : StandsFor core (run start requests).0
-  pub halted : HaltsAt end bytes requests waiting start past kept stopped
+  pub halted : HaltsAt end told requests waiting start past kept stopped
 
 -- What is written at a run's end, but for the last line of one that stops: all replies, or up to a
 -- cut.
@@ -169,29 +180,32 @@ WritesReplies start _ requests before now = Writes before (lines start requests)
 -- after the requests
 pub record Ends
     (start : State) (end : Result (Unit {0}) Halt) (core : Core) (past : List Request → Type 0)
-    (kept : State → Request → Type 0) (stopped : List Request → Request → Type 0) (bytes : List ℕ)
-    (left : Option (List ℕ)) (before now : Option (List ℕ)) : Type 0 where
+    (kept : State → Request → Type 0) (stopped : List Request → Request → Type 0)
+    (told left : Option (List ℕ)) (before now : Option (List ℕ)) : Type 0 where
   pub requests : List Request
   pub few : length requests ≤ LINES_MOST
-  pub read : EndsAfter start end bytes left requests
+  pub why : EndsAfter start end told left requests
+  pub read : IsRead end told left requests
   pub written : WritesReplies start end requests before now
   pub stands : StandsFor core (run start requests).0
-  pub halted : HaltsAt end bytes requests [] start past kept stopped
+  pub halted : HaltsAt end told requests [] start past kept stopped
 
 -- The same of a run that has given back its disks. Its sink was shown `shown` before it and
 -- `shown_now` by then, and may hold whatever comes behind the replies: the disks have what was
 -- answered.
 pub record GivesBack
     {D : Type 0} (at : D → DiskAt) (old_left old_right : D) (start : State)
-    (end : Result (Unit {0}) Halt) (bytes l r : List ℕ) (unread before now : Option (List ℕ))
+    (end : Result (Unit {0}) Halt) (told : Option (List ℕ)) (l r : List ℕ)
+    (unread before now : Option (List ℕ))
     (shown shown_now : Option (List Showing)) (left right : D) : Type 0 where
   pub requests : List Request
   pub few : length requests ≤ LINES_MOST
-  pub read : EndsAfter start end bytes unread requests
+  pub why : EndsAfter start end told unread requests
+  pub read : IsRead end told unread requests
   pub written : WritesReplies start end requests before now
-  pub disks : DisksHold at end bytes unread l r start left right requests
+  pub disks : DisksHold at end told unread l r start left right requests
   pub fault : Fault
-  pub fault_is : IsFaultOfRun start end bytes unread requests fault
+  pub fault_is : IsFaultOfRun start end told unread requests fault
   pub past : LeavesOfRun at old_left old_right (λ met. met ≡ fault) l r start requests left right
   pub answered : (last : Option (List ℕ)) → Told before shown last shown_now (λ was earlier is all.
       KeepsAnswered at l r start requests fault old_left old_right was earlier left right is all)
@@ -199,11 +213,11 @@ pub record GivesBack
 -- One more line was answered, or the run comes to its end.
 abbrev pub Turns :
     State → (List Request → Type 0) → (State → Request → Type 0) → (List Request → Request → Type 0)
-    → List ℕ → ℕ → Core → Option (List ℕ) → Option (List ℕ)
+    → Option (List ℕ) → ℕ → Core → Option (List ℕ) → Option (List ℕ)
     → List ℕ → Option (List ℕ) → Option (List ℕ) → Result Bool Halt → Type 0
-Turns start past kept stopped bytes n core unread left waiting before now (Ok true) =
-    Answered start bytes (n + 1) core unread waiting before now past
-Turns start past kept stopped bytes n core unread left waiting before now (Ok false) =
-    Comes start (Ok tt) core past kept stopped bytes left waiting before now
-Turns start past kept stopped bytes n core unread left waiting before now (Err halt) =
-    Comes start (Err halt) core past kept stopped bytes left waiting before now
+Turns start past kept stopped told n core unread left waiting before now (Ok true) =
+    Answered start told (n + 1) core unread waiting before now past
+Turns start past kept stopped told n core unread left waiting before now (Ok false) =
+    Comes start (Ok tt) core past kept stopped told left waiting before now
+Turns start past kept stopped told n core unread left waiting before now (Err halt) =
+    Comes start (Err halt) core past kept stopped told left waiting before now

@@ -24,11 +24,11 @@ abbrev pub run_at : {D : Type 0} → Stored D → List ℕ → List ℕ → Opti
 run_at store taken waiting left sink =
     record { store = store; taken = taken; left = left; waiting = waiting; sink = sink }
 
-module _ {D : Type 0} (at : D → DiskAt) (begun : Begun D) (bytes : List ℕ) where
-  -- A run that began so, with these bytes in its source, answered n lines.
+module _ {D : Type 0} (at : D → DiskAt) (begun : Begun D) (told : Option (List ℕ)) where
+  -- A run that began so, and whose source told this, answered n lines.
   abbrev pub HasAnswered : ℕ → Reached D → Type 0
   HasAnswered n place =
-      Answered begun.start bytes n place.store.core (unread place.taken place.left) place.waiting
+      Answered begun.start told n place.store.core (unread place.taken place.left) place.waiting
       begun.held place.sink.held
       (λ requests. IsPastOf at begun requests place.store place.sink.shown)
 
@@ -38,7 +38,7 @@ module _ {D : Type 0} (at : D → DiskAt) (begun : Begun D) (bytes : List ℕ) w
       Turns begun.start (λ requests. IsPastOf at begun requests place.store place.sink.shown)
       (KeepsAround at place.store.left place.store.right)
       (λ requests request. IsStoppedPastOf at begun requests request place.store place.sink.shown)
-      bytes n place.store.core (unread place.taken place.left) place.left place.waiting
+      told n place.store.core (unread place.taken place.left) place.left place.waiting
       begun.held place.sink.held result
 
   -- it came to this end, at which some replies may wait
@@ -48,7 +48,7 @@ module _ {D : Type 0} (at : D → DiskAt) (begun : Begun D) (bytes : List ℕ) w
       (λ requests. IsPastOf at begun requests place.store place.sink.shown)
       (KeepsAround at place.store.left place.store.right)
       (λ requests request. IsStoppedPastOf at begun requests request place.store place.sink.shown)
-      bytes place.left place.waiting begun.held place.sink.held
+      told place.left place.waiting begun.held place.sink.held
 
   -- none waits any more
   abbrev pub HasEnded : Reached D → Result (Unit {0}) Halt → Type 0
@@ -57,7 +57,7 @@ module _ {D : Type 0} (at : D → DiskAt) (begun : Begun D) (bytes : List ℕ) w
       (λ requests. IsPastOf at begun requests place.store place.sink.shown)
       (KeepsAround at place.store.left place.store.right)
       (λ requests request. IsStoppedPastOf at begun requests request place.store place.sink.shown)
-      bytes place.left begun.held place.sink.held
+      told place.left begun.held place.sink.held
 
 -- The next line was taken, of which there were n before it. Where these are answered, in whatever
 -- way the run began, so is one more, or the run comes to its end; and no more bytes were taken than
@@ -66,8 +66,8 @@ pub record TakesTurn
     {D : Type 0} (at : D → DiskAt) (n : ℕ) (old new : Reached D) (result : Result Bool Halt)
     : Type 0 where
   pub turn :
-      (begun : Begun D) (bytes : List ℕ) → HasAnswered at begun bytes n old
-      → HasTurned at begun bytes n new result
+      (begun : Begun D) (told : Option (List ℕ)) → HasAnswered at begun told n old
+      → HasTurned at begun told n new result
   pub few :
       (before : Option (List ℕ))
       → ReadsFew before n old.taken old.left → ReadsFew before (n + 1) new.taken new.left

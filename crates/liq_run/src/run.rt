@@ -157,9 +157,8 @@ pub fn answer_input<S: Source, K: Sink, D: Disk>(
     left: D,
     right: D,
 ) -> Ending<D>
-    ensures run { OfState D.at left right (λ l r start. (bytes : List ℕ)
-        → (S.at input.old).left ≡ Some bytes
-        → GivesBack D.at left right start result.end bytes l r (S.at input.new).left
+    ensures run { OfState D.at left right (λ l r start.
+        GivesBack D.at left right start result.end (S.at input.old).left l r (S.at input.new).left
         (K.at out.old).held (K.at out.new).held (K.at out.old).shown (K.at out.new).shown
         result.left result.right) }
     // Over damaged disks nothing is read or written.
@@ -293,10 +292,9 @@ impl<D: Disk> Run<D> {
         requires unread { self.old.reader ≡ [] }
         requires waiting { self.old.waiting.items ≡ [] }
         requires going { self.old.store.stopped ≡ None }
-        ensures run { (begun : Begun D) (bytes : List ℕ)
-            → (S.at input.old).left ≡ Some bytes → begun.held ≡ (K.at out.old).held
+        ensures run { (begun : Begun D) → begun.held ≡ (K.at out.old).held
             → IsPastOf D.at begun [] self.old.store (K.at out.old).shown
-            → HasEnded D.at begun bytes
+            → HasEnded D.at begun (S.at input.old).left
             (run_at self.new.store self.new.reader self.new.waiting.items
             (S.at input.new).left (K.at out.new)) result }
         ensures few { ReadsAtMost (taken_most LINES_MOST)
@@ -318,10 +316,9 @@ impl<D: Disk> Run<D> {
         requires unread { self.old.reader ≡ [] }
         requires waiting { self.old.waiting.items ≡ [] }
         requires going { self.old.store.stopped ≡ None }
-        ensures run { (begun : Begun D) (bytes : List ℕ)
-            → (S.at input.old).left ≡ Some bytes → begun.held ≡ (K.at out.old).held
+        ensures run { (begun : Begun D) → begun.held ≡ (K.at out.old).held
             → IsPastOf D.at begun [] self.old.store (K.at out.old).shown
-            → HasCome D.at begun bytes
+            → HasCome D.at begun (S.at input.old).left
             (run_at self.new.store self.new.reader self.new.waiting.items
             (S.at input.new).left (K.at out.new)) result }
         ensures few { ReadsAtMost (taken_most LINES_MOST)
@@ -345,10 +342,10 @@ impl<D: Disk> Run<D> {
 
     /// Writes what waits at the run's end. Where the sink meets a fault at it, that is the end.
     fn catch_up_at<K: Sink>(&self, end: Result<(), Halt>, out: &mut K) -> Result<(), Halt>
-        ensures run { (begun : Begun D) (bytes : List ℕ) (left : Option (List ℕ))
-            → HasCome D.at begun bytes
+        ensures run { (begun : Begun D) (told left : Option (List ℕ))
+            → HasCome D.at begun told
             (run_at self.now.store self.now.reader self.now.waiting.items left (K.at out.old)) end
-            → HasEnded D.at begun bytes
+            → HasEnded D.at begun told
             (run_at self.now.store self.now.reader [] left (K.at out.new)) result }
         ensures source { (old new : ℕ)
             → (end ≡ Err Halt.ReadFault → self.now.waiting.items ≡ [])

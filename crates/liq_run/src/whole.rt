@@ -20,9 +20,8 @@ where
     S: Source,
     K: Sink,
     D: Disk,
-    ensures run { OfState D.at left right (λ l r start. (bytes : List ℕ)
-        → (S.at input.old).left ≡ Some bytes
-        → EndsIn D.at left right start result.end bytes l r (S.at input.new).left
+    ensures run { OfState D.at left right (λ l r start.
+        EndsIn D.at left right start result.end (S.at input.old).left l r (S.at input.new).left
         (Rose (K.at out.old).faults (K.at out.new).faults) (K.at out.old).held (K.at out.new).held
         (K.at out.old).shown (K.at out.new).shown result.left result.right) }
     // Over damaged disks nothing is read.

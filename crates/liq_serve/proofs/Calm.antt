@@ -1,6 +1,6 @@
 -- What follows from the top call's clause where nothing is wrong.
 use Rattle.std.proofs.Common.{◌≡◌, ◌≢◌, ◌≤◌, ℕ, zero, suc, List, [], ◌∷◌, ◌++◌, length, Option, Some, Ok, Err, Result, refl, sym, ap, subst, ◌∙◌, arith, inl, inr}
-use Rattle.std.specs.Prelude.{◌⊎◌, ◌<◌, Contains}
+use Rattle.std.specs.Prelude.{◌⊎◌, ◌<◌, Contains, IfSome}
 use Rattle.std.specs.List.{AllZip}
 use Rattle.std.proofs.lemmas.Result.{MatchResult-at_ok}
 use Rattle.liq_outside.specs.At.{DiskAt, SinkAt, SourceAt}
@@ -28,6 +28,8 @@ use Rattle.liq_ends.specs.declared.halts.Halt.{Halt}
 use Rattle.liq_ends.specs.declared.halts.Halt.TheVariants.{BadLine, ReadFault, WriteFault, DiskFault, Damaged, DamagedInput, NoMemory, Limit, Rotated}
 use Rattle.liq_ends.specs.Reading.{ReadsTo}
 use Rattle.liq_ends.specs.Statuses.{IsDone, status_of}
+use Rattle.liq_ends.specs.Stops.{EndsAfter}
+use Rattle.liq_text.specs.Spelling.{Spells}
 use Rattle.liq_store.specs.Causes.{OneRose, counts_of}
 use Rattle.liq_tell.specs.Answers.{IsAnswerOf}
 use Rattle.liq_tell.proofs.Audited.{no_limit}
@@ -39,6 +41,7 @@ use Rattle.liq_serve.specs.Calm.{AnswersFirst, IsComplete, RefusesLater}
 use Rattle.liq_ends.specs.Outside.{Outside}
 use Rattle.liq_serve.specs.Answered.{AnswersBeside, AnswersLines, IsOfNoInput, StopsUnopened}
 use Rattle.liq_serve.specs.Top.{Answers, Ends, OpensNone, ServesTo, Tells}
+use Rattle.liq_serve.proofs.ByStatus.{by_status}
 use Rattle.liq_serve.proofs.Served.{IsStopping}
 use Rattle.liq_serve.proofs.StatusLaws.{neither, run_done}
 use Rattle.liq_serve.proofs.Telling.{audit_done, load_done, rotated_done, state_done}
@@ -230,11 +233,11 @@ module _
   module _ (status : ℕ) (words : List (List ℕ)) (ends : Ends source_at sink_at disk_at before after status words)
       (asked : Ask words word.Follow) (bytes : List ℕ) (is : (source_at before.source).left ≡ Some bytes) where
     abbrev followed : Result (Unit {0}) Halt
-    followed = (ends.ends word.Follow asked).0
+    followed = (ends.ends word.Follow asked).end
 
     follows : Follows bytes followed
     follows =
-        let f = (ends.ends word.Follow asked).2.1 in
+        let f = (ends.ends word.Follow asked).leaves.1 in
         record {
           read = f.0;
           reads = subst (λ (o : Option (List ℕ)). Reads o f.0 (source_at after.source).left) is f.1;
@@ -245,14 +248,16 @@ module _
 
     -- no fault of the source stopped it
     well_read : (Rose (source_at before.source).faults (source_at after.source).faults → ⊥) → status_of followed ≢ 3
-    well_read well three = well (ends.source_fault ((ends.ends word.Follow asked).1 ∙ three))
+    well_read well three = well
+        ((by_status source_at sink_at disk_at before after status words ends).source_fault
+        ((ends.ends word.Follow asked).status_is ∙ three))
 
     -- it stopped so and told it, unless there was no memory
     follow_halts : (halt : Halt) → (followed ≡ Err halt) ⊎ (followed ≡ Err NoMemory)
         → ((status ≡ status_of (Err halt)) × Told follows.text (Err halt)) ⊎ (status ≡ 7)
     follow_halts halt so =
         subst (λ (n : ℕ). ((n ≡ status_of (Err halt)) × Told follows.text (Err halt)) ⊎ (n ≡ 7))
-        (sym (ends.ends word.Follow asked).1)
+        (sym (ends.ends word.Follow asked).status_is)
         (stopped_by (Told follows.text) followed (Err halt) follows.told so)
 
   pub complete :
@@ -262,69 +267,74 @@ module _
       → (status : ℕ) (words : List (List ℕ)) → Ends source_at sink_at disk_at before after status words
       → IsComplete source_at sink_at disk_at before after status words
   complete leads stays status words ends =
+      let each = by_status source_at sink_at disk_at before after status words ends in
       let rises : Rises status = record {
-        source = ends.source_fault;
-        sink = ends.sink_fault;
-        disk = ends.disk_fault;
+        source = each.source_fault;
+        sink = each.sink_fault;
+        disk = each.disk_fault;
       } in
       record {
         run = λ asked bytes l r start requests told stood all few well calm.
             let e = ends.ends word.Run asked in
-            let ran = MatchResult-at_ok _ _ start stood.is (e.2 l r stood.left stood.right) bytes told in
-            subst IsDone (sym e.1)
-            (run_done bytes (source_at after.source).left requests all few e.0
-            (λ is. well (ends.source_fault (e.1 ∙ is))) (λ is. calm.sink (ends.sink_fault (e.1 ∙ is)))
-            (λ is. calm.disk (ends.disk_fault (e.1 ∙ is))) ran.statuses ran.requests ran.read);
+            let ran = MatchResult-at_ok _ _ start stood.is (e.leaves l r stood.left stood.right) in
+            let left = (source_at after.source).left in
+            subst IsDone (sym e.status_is)
+            (run_done start bytes left requests all few e.end
+            (λ is. well (each.source_fault (e.status_is ∙ is))) (λ is. calm.sink (each.sink_fault (e.status_is ∙ is)))
+            (λ is. calm.disk (each.disk_fault (e.status_is ∙ is))) ran.requests
+            (subst (λ (o : Option (List ℕ)). EndsAfter start e.end o left ran.requests) told ran.why)
+            (subst (λ (o : Option (List ℕ)). IfSome o (λ bytes. ReadsTo Spells bytes left ran.requests e.end)) told
+            ran.read));
         serve = λ asks bytes l r start asked told stood all few well calm.
             let e = ends.ends word.Serve asks in
-            subst IsDone (sym e.1)
-            (serve_done source_at sink_at disk_at before after e.0 e.2 bytes l r start asked told stood.left stood.right
-            stood.is all few (λ is. well (ends.source_fault (e.1 ∙ is))) (λ is. calm.sink (ends.sink_fault (e.1 ∙ is)))
-            (λ is. calm.disk (ends.disk_fault (e.1 ∙ is))));
+            subst IsDone (sym e.status_is)
+            (serve_done source_at sink_at disk_at before after e.end e.leaves bytes l r start asked told stood.left stood.right
+            stood.is all few (λ is. well (each.source_fault (e.status_is ∙ is))) (λ is. calm.sink (each.sink_fault (e.status_is ∙ is)))
+            (λ is. calm.disk (each.disk_fault (e.status_is ∙ is))));
         staking = λ asks.
             let e = ends.ends word.Staking asks in
-            subst (First stakes.Spells) (sym e.1)
-            (lines_first stakes.Spells staked_text e.0 e.2 (subst Rises e.1 rises));
+            subst (First stakes.Spells) (sym e.status_is)
+            (lines_first stakes.Spells staked_text e.end e.leaves (subst Rises e.status_is rises));
         rewards = λ asks.
             let e = ends.ends word.Rewards asks in
-            subst (First tags.Spells) (sym e.1) (lines_first tags.Spells rewarded_text e.0 e.2 (subst Rises e.1 rises));
+            subst (First tags.Spells) (sym e.status_is) (lines_first tags.Spells rewarded_text e.end e.leaves (subst Rises e.status_is rises));
         staking_rotated = λ asks.
             let e = ends.ends word.Staking asks in
-            subst (Later stakes.Spells) (sym e.1)
-            (lines_later stakes.Spells staked_text e.0 e.2 (subst Rises e.1 rises));
+            subst (Later stakes.Spells) (sym e.status_is)
+            (lines_later stakes.Spells staked_text e.end e.leaves (subst Rises e.status_is rises));
         rewards_rotated = λ asks.
             let e = ends.ends word.Rewards asks in
-            subst (Later tags.Spells) (sym e.1) (lines_later tags.Spells rewarded_text e.0 e.2 (subst Rises e.1 rises));
+            subst (Later tags.Spells) (sym e.status_is) (lines_later tags.Spells rewarded_text e.end e.leaves (subst Rises e.status_is rises));
         state = λ asked l r start stood calm.
             let e = ends.ends word.State asked in
-            let told = MatchResult-at_ok _ _ start stood.is (e.2.1 l r stood.left stood.right) in
-            subst IsDone (sym e.1) (state_done (status_of e.0) told.0 (λ is. calm.sink (ends.sink_fault (e.1 ∙ is)))
-            (λ is. calm.disk (ends.disk_fault (e.1 ∙ is))));
+            let told = MatchResult-at_ok _ _ start stood.is (e.leaves.1 l r stood.left stood.right) in
+            subst IsDone (sym e.status_is) (state_done (status_of e.end) told.0 (λ is. calm.sink (each.sink_fault (e.status_is ∙ is)))
+            (λ is. calm.disk (each.disk_fault (e.status_is ∙ is))));
         report = λ asked l r start stood calm.
             let e = ends.ends word.Report asked in
-            let told = MatchResult-at_ok _ _ start stood.is (e.2.1 l r stood.left stood.right) in
-            subst IsDone (sym e.1) (state_done (status_of e.0) told.0 (λ is. calm.sink (ends.sink_fault (e.1 ∙ is)))
-            (λ is. calm.disk (ends.disk_fault (e.1 ∙ is))));
+            let told = MatchResult-at_ok _ _ start stood.is (e.leaves.1 l r stood.left stood.right) in
+            subst IsDone (sym e.status_is) (state_done (status_of e.end) told.0 (λ is. calm.sink (each.sink_fault (e.status_is ∙ is)))
+            (λ is. calm.disk (each.disk_fault (e.status_is ∙ is))));
         audit = λ asked l r start stood first within calm.
             let e = ends.ends word.Audit asked in
-            let told = MatchResult-at_ok _ _ start stood.is (e.2.1 l r stood.left stood.right) in
-            subst IsDone (sym e.1)
-            (audit_done start (commands_on l r) e.0 told.0.0 first told.0.1
+            let told = MatchResult-at_ok _ _ start stood.is (e.leaves.1 l r stood.left stood.right) in
+            subst IsDone (sym e.status_is)
+            (audit_done start (commands_on l r) e.end told.0.0 first told.0.1
             (λ number limit. no_limit start.limit (commands_on l r) start number (leads l r start stood.is first) within
             limit)
-            (λ is. calm.sink (ends.sink_fault (e.1 ∙ is))) (λ is. calm.disk (ends.disk_fault (e.1 ∙ is))));
+            (λ is. calm.sink (each.sink_fault (e.status_is ∙ is))) (λ is. calm.disk (each.disk_fault (e.status_is ∙ is))));
         rotated = λ asked l r start stood later well.
             let e = ends.ends word.Audit asked in
-            let told = MatchResult-at_ok _ _ start stood.is (e.2.1 l r stood.left stood.right) in
-            subst (λ (n : ℕ). (n ≡ 9) ⊎ (n ≡ 7)) (sym e.1)
-            (rotated_done start (commands_on l r) e.0 told.0.0 later told.0.1
-            (λ is. well (ends.disk_fault (e.1 ∙ is))));
+            let told = MatchResult-at_ok _ _ start stood.is (e.leaves.1 l r stood.left stood.right) in
+            subst (λ (n : ℕ). (n ≡ 9) ⊎ (n ≡ 7)) (sym e.status_is)
+            (rotated_done start (commands_on l r) e.end told.0.0 later told.0.1
+            (λ is. well (each.disk_fault (e.status_is ∙ is))));
         follow = λ asked bytes told few goes well none.
             let e = ends.ends word.Follow asked in
             let f = follows status words ends asked bytes told in
-            subst IsDone (sym e.1)
-            (done_by e.0 (whole_so bytes f.read (source_at after.source).left f.reads stays e.0 f.text f.so
-            (well_read status words ends asked bytes told well) few goes (λ is. none (ends.sink_fault (e.1 ∙ is)))));
+            subst IsDone (sym e.status_is)
+            (done_by e.end (whole_so bytes f.read (source_at after.source).left f.reads stays e.end f.text f.so
+            (well_read status words ends asked bytes told well) few goes (λ is. none (each.sink_fault (e.status_is ∙ is)))));
         damaged_input = λ asked bytes told index fault well.
             let f = follows status words ends asked bytes told in
             follow_halts status words ends asked bytes told (DamagedInput index)
@@ -342,5 +352,5 @@ module _
             (well_read status words ends asked bytes told well) long goes);
         gen = λ seed count asked none.
             let e = ends.ends (word.Gen seed count) asked in
-            subst IsDone (sym e.1) (load_done (status_of e.0) e.2.1 (λ is. none (ends.sink_fault (e.1 ∙ is))));
+            subst IsDone (sym e.status_is) (load_done (status_of e.end) e.leaves.1 (λ is. none (each.sink_fault (e.status_is ∙ is))));
       }

@@ -12,7 +12,7 @@ use Rattle.liq_ends.specs.declared.halts.Halt.{Halt}
 use Rattle.liq_ends.specs.declared.halts.Halt.TheVariants.{BadLine, ReadFault, WriteFault, DiskFault, Damaged, DamagedInput, NoMemory, Limit, Rotated}
 use Rattle.liq_ends.specs.Causes.{DiskCause, DisksGoOn, ReadCause}
 use Rattle.liq_ends.specs.Statuses.{status_of}
-use Rattle.liq_ends.proofs.Causes.{six, unread_causes}
+use Rattle.liq_ends.proofs.Causes.{unread_causes}
 use Rattle.liq_tell.specs.Audit.{IsAuditOf}
 use Rattle.liq_follow.specs.declared.feeding.TheConstants.{FED_MOST}
 use Rattle.liq_follow.specs.Followed.{FollowsTo}
@@ -106,55 +106,32 @@ state_done n (suc (suc (suc (suc k))), within, is) sink disk = absurd (omega (ar
 
 -- ---- of an audit
 
--- it met a disk's fault, or no memory
-fault_or_none : (n : ℕ) → Contains (5 ∷ 7 ∷ []) n → (n ≡ 5) ⊎ (n ≡ 7)
-fault_or_none n (zero, within, is) = inl (sym is)
-fault_or_none n (suc zero, within, is) = inr (sym is)
-fault_or_none n (suc (suc k), within, is) = absurd (omega (arith, within))
-
--- so it has no other status
-neither_of : (n m : ℕ) → Contains (5 ∷ 7 ∷ []) n → n ≡ m → m ≢ 5 → m ≢ 7 → ⊥
-neither_of n m ends same five seven = by (fault_or_none n ends) where
-  by : (n ≡ 5) ⊎ (n ≡ 7) → ⊥
-  by (inl is) = five (sym same ∙ is)
-  by (inr is) = seven (sym same ∙ is)
-
-no_bad_line : (m : ℕ) → Contains (5 ∷ 7 ∷ []) m → m ≡ 2 → ⊥
-no_bad_line m ends is = neither_of m 2 ends is (λ e. omega (arith, e)) (λ e. omega (arith, e))
-
-no_read_fault : (m : ℕ) → Contains (5 ∷ 7 ∷ []) m → m ≡ 3 → ⊥
-no_read_fault m ends is = neither_of m 3 ends is (λ e. omega (arith, e)) (λ e. omega (arith, e))
-
-no_damage : (m : ℕ) → Contains (5 ∷ 7 ∷ []) m → m ≡ 6 → ⊥
-no_damage m ends is = neither_of m 6 ends is (λ e. omega (arith, e)) (λ e. omega (arith, e))
-
 -- of the first generation
 pub audit_done : (s : State) (commands : List Command) (end : Result (Unit {0}) Halt) (text : List ℕ) → s.generation ≡ 1
     → IsAuditOf s commands end text → ((number : ℕ) → reviewed s.limit commands ≡ Err (review.Limit number) → ⊥)
     → status_of end ≢ 4 → status_of end ≢ 5 → (status_of end ≡ 0) ⊎ (status_of end ≡ 7)
 audit_done s commands (Ok done) text first h within_limits sink disk = inl refl
-audit_done s commands (Err (BadLine n)) text first h within_limits sink disk = absurd (no_bad_line _ h refl)
-audit_done s commands (Err ReadFault) text first h within_limits sink disk = absurd (no_read_fault _ h refl)
+audit_done s commands (Err (BadLine n)) text first h within_limits sink disk = absurd h
+audit_done s commands (Err ReadFault) text first h within_limits sink disk = absurd h
 audit_done s commands (Err WriteFault) text first h within_limits sink disk = absurd (sink refl)
 audit_done s commands (Err DiskFault) text first h within_limits sink disk = absurd (disk refl)
-audit_done s commands (Err (Damaged side number)) text first h within_limits sink disk =
-    absurd (no_damage _ h (sym (six side number)))
+audit_done s commands (Err (Damaged side number)) text first h within_limits sink disk = absurd h
 audit_done s commands (Err NoMemory) text first h within_limits sink disk = inr refl
 audit_done s commands (Err (Limit number)) text first h within_limits sink disk = absurd (within_limits number h.1)
 audit_done s commands (Err (Rotated generation)) text first h within_limits sink disk =
     absurd (omega (arith, first, h.0))
-audit_done s commands (Err (DamagedInput number)) text first h within_limits sink disk = absurd (no_damage _ h refl)
+audit_done s commands (Err (DamagedInput number)) text first h within_limits sink disk = absurd h
 
 -- of a later one
 pub rotated_done : (s : State) (commands : List Command) (end : Result (Unit {0}) Halt) (text : List ℕ)
     → 1 < s.generation → IsAuditOf s commands end text → status_of end ≢ 5 → (status_of end ≡ 9) ⊎ (status_of end ≡ 7)
 rotated_done s commands (Ok done) text later h disk = absurd (omega (arith, later, h.0))
-rotated_done s commands (Err (BadLine n)) text later h disk = absurd (no_bad_line _ h refl)
-rotated_done s commands (Err ReadFault) text later h disk = absurd (no_read_fault _ h refl)
+rotated_done s commands (Err (BadLine n)) text later h disk = absurd h
+rotated_done s commands (Err ReadFault) text later h disk = absurd h
 rotated_done s commands (Err WriteFault) text later h disk = absurd (omega (arith, later, h.0))
 rotated_done s commands (Err DiskFault) text later h disk = absurd (disk refl)
-rotated_done s commands (Err (Damaged side number)) text later h disk = absurd (no_damage _ h (sym (six side number)))
+rotated_done s commands (Err (Damaged side number)) text later h disk = absurd h
 rotated_done s commands (Err NoMemory) text later h disk = inr refl
 rotated_done s commands (Err (Limit number)) text later h disk = absurd (omega (arith, later, h.0))
 rotated_done s commands (Err (Rotated generation)) text later h disk = inl refl
-rotated_done s commands (Err (DamagedInput number)) text later h disk = absurd (no_damage _ h refl)
+rotated_done s commands (Err (DamagedInput number)) text later h disk = absurd h

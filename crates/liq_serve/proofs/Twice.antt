@@ -38,7 +38,7 @@ module _ (bytes l r : List ℕ) (start : State) (requests : List Request) where
   kept_here end a b kept = ([], tt, kept)
 
   -- or for it after one command more
-  kept_behind : (a b : List ℕ) (c : Command) → (IsNext bytes requests (Do c) × (ruling here c ≡ Allowed))
+  kept_behind : (a b : List ℕ) (c : Command) → (IsNext (Some bytes) requests (Do c) × (ruling here c ≡ Allowed))
       ⊎ ((requests ≡ []) × HoldsUnfinished l r start c) → IsKept a b (after here c)
       → BeginsBehind bytes l r start requests (Err DiskFault) a b
   kept_behind a b c why kept = (c ∷ [], (refl, why), kept)
@@ -54,12 +54,12 @@ module _ (bytes l r : List ℕ) (start : State) (requests : List Request) where
   module _ {D : Type 0} (disk_at : D → DiskAt) (unread : Option (List ℕ)) (left right : D) where
     -- as they are read at the end
     pub read_behind : (end : Result (Unit {0}) Halt) → IsKept l r start
-        → DisksHold disk_at end bytes unread l r start left right requests → (a b : List ℕ)
+        → DisksHold disk_at end (Some bytes) unread l r start left right requests → (a b : List ℕ)
         → (disk_at left).seen ≡ Some a → (disk_at right).seen ≡ Some b
         → BeginsBehind bytes l r start requests end a b
     read_behind (Err DiskFault) were holds a b told_a told_b = by (holds a b told_a told_b) where
-      by : (IsUnread bytes unread requests × (IsKept l r start → IsRecovered l r start a b))
-          ⊎ (IsKept a b here ⊎ ((c : Command) × IsNext bytes requests (Do c) × (ruling here c ≡ Allowed)
+      by : (IsUnread (Some bytes) unread requests × (IsKept l r start → IsRecovered l r start a b))
+          ⊎ (IsKept a b here ⊎ ((c : Command) × IsNext (Some bytes) requests (Do c) × (ruling here c ≡ Allowed)
           × IsKept a b (after here c))) → BeginsBehind bytes l r start requests (Err DiskFault) a b
       by (inl (none, gives)) = recovered a b none.0 (gives were)
       by (inr (inl kept)) = kept_here (Err DiskFault) a b kept
@@ -87,7 +87,7 @@ module _ (bytes l r : List ℕ) (start : State) (requests : List Request) where
           subst (λ (o : Option (List ℕ)). IfSome o (λ bytes. Only bytes (LeftNow disk_at disk))) told rests image left
 
       -- a fault is that of a disk
-      faulted : (end : Result (Unit {0}) Halt) (fault : Fault) → IsFaultOfRun start end bytes unread requests fault
+      faulted : (end : Result (Unit {0}) Halt) (fault : Fault) → IsFaultOfRun start end (Some bytes) unread requests fault
           → fault ≢ NoFault → end ≡ Err DiskFault
       faulted (Err DiskFault) fault is some = refl
       faulted (Ok done) fault is some = absurd (some is)
@@ -100,17 +100,17 @@ module _ (bytes l r : List ℕ) (start : State) (requests : List Request) where
       faulted (Err (Rotated generation)) fault is some = absurd (some is)
       faulted (Err (DamagedInput number)) fault is some = absurd (some is)
 
-      next_at : (c : Command) → ((AtCommand c ≡ InOpening) × IsUnread bytes unread requests)
-          ⊎ ((d : Command) × (AtCommand c ≡ AtCommand d) × IsNext bytes requests (Do d) × (ruling here d ≡ Allowed))
-          → IsNext bytes requests (Do c)
+      next_at : (c : Command) → ((AtCommand c ≡ InOpening) × IsUnread (Some bytes) unread requests)
+          ⊎ ((d : Command) × (AtCommand c ≡ AtCommand d) × IsNext (Some bytes) requests (Do d) × (ruling here d ≡ Allowed))
+          → IsNext (Some bytes) requests (Do c)
       next_at c (inl (is, none)) = absurd cc
       next_at c (inr (d, is, next, allowed)) =
           let same : d ≡ c = cc in
-          subst (λ (e : Command). IsNext bytes requests (Do e)) same next
+          subst (λ (e : Command). IsNext (Some bytes) requests (Do e)) same next
 
       -- it is met at the next line's command
       next_of : (end : Result (Unit {0}) Halt) (c : Command)
-          → IsFaultOfRun start end bytes unread requests (AtCommand c) → IsNext bytes requests (Do c)
+          → IsFaultOfRun start end (Some bytes) unread requests (AtCommand c) → IsNext (Some bytes) requests (Do c)
       next_of (Err DiskFault) c is = next_at c is
       next_of (Ok done) c is = absurd cc
       next_of (Err (BadLine n)) c is = absurd cc
@@ -125,8 +125,8 @@ module _ (bytes l r : List ℕ) (start : State) (requests : List Request) where
       -- or as a crash at the end leaves them
       pub left_behind : (end : Result (Unit {0}) Halt) (x y a b : List ℕ) → (disk_at left).seen ≡ Some x
           → (disk_at right).seen ≡ Some y → IsKept l r start
-          → DisksHold disk_at end bytes unread l r start left right requests
-          → (fault : Fault) → IsFaultOfRun start end bytes unread requests fault
+          → DisksHold disk_at end (Some bytes) unread l r start left right requests
+          → (fault : Fault) → IsFaultOfRun start end (Some bytes) unread requests fault
           → RestAtEnd disk_at l r start requests fault left right → LeftNow disk_at left a → LeftNow disk_at right b
           → BeginsBehind bytes l r start requests end a b
       left_behind end x y a b told_x told_y were holds NoFault is rests at_a at_b =
@@ -149,25 +149,31 @@ module _ (bytes l r : List ℕ) (start : State) (requests : List Request) where
 module _
     {S K D : Type 0} (source_at : S → SourceAt) (sink_at : K → SinkAt) (disk_at : D → DiskAt)
     (before middle again later : Outside S K D) where
-  abbrev RunsFirst : Result (Unit {0}) Halt → List ℕ → List ℕ → State → List ℕ → Type 0
-  RunsFirst end l r start bytes = RunsTo source_at sink_at disk_at before middle end l r start bytes
+  abbrev RunsFirst : Result (Unit {0}) Halt → List ℕ → List ℕ → State → Type 0
+  RunsFirst end l r start = RunsTo source_at sink_at disk_at before middle end l r start
 
   -- what a run left begins the next one
   pub runs_behind : (end : Result (Unit {0}) Halt) (bytes l r a b : List ℕ) (start : State)
-      → (ran : RunsFirst end l r start bytes) → IsSome (disk_at middle.left).seen → IsSome (disk_at middle.right).seen
+      → (source_at before.source).left ≡ Some bytes → (ran : RunsFirst end l r start) → IsSome (disk_at middle.left).seen → IsSome (disk_at middle.right).seen
       → IsKept l r start
       → AreBehind source_at sink_at disk_at before middle l r a b → BeginsBehind bytes l r start ran.requests end a b
-  runs_behind end bytes l r a b start ran left_tells right_tells were (inl (told_a, told_b)) = read_behind bytes l r
-      start ran.requests disk_at (source_at middle.source).left middle.left middle.right end were ran.disks a b told_a
-      told_b
-  runs_behind end bytes l r a b start ran left_tells right_tells were (inr (only_l, only_r, at_a, at_b)) =
+  runs_behind end bytes l r a b start told ran left_tells right_tells were (inl (told_a, told_b)) =
+      let unread = (source_at middle.source).left in
+      let disks = subst (λ (o : Option (List ℕ)). DisksHold disk_at end o unread l r start middle.left middle.right
+      ran.requests) told ran.disks in
+      read_behind bytes l r start ran.requests disk_at unread middle.left middle.right end were disks a b told_a told_b
+  runs_behind end bytes l r a b start told ran left_tells right_tells were (inr (only_l, only_r, at_a, at_b)) =
+      let unread = (source_at middle.source).left in
+      let disks = subst (λ (o : Option (List ℕ)). DisksHold disk_at end o unread l r start middle.left middle.right
+      ran.requests) told ran.disks in
       let past = ran.past only_l only_r were in
       let x = some_of (disk_at middle.left).seen left_tells in
       let y = some_of (disk_at middle.right).seen right_tells in
-      let at = subst (λ (met : Fault). IsFaultOfRun start end bytes (source_at middle.source).left ran.requests met)
-      (sym past.fault_is) ran.fault_is in
-      left_behind bytes l r start ran.requests disk_at (source_at middle.source).left middle.left middle.right
-      before.left before.right end x.0 y.0 a b x.1 y.1 were ran.disks past.fault at past.rests at_a at_b
+      let at = subst (λ (met : Fault). IsFaultOfRun start end (Some bytes) unread ran.requests met)
+      (sym past.fault_is)
+      (subst (λ (o : Option (List ℕ)). IsFaultOfRun start end o unread ran.requests ran.fault) told ran.fault_is) in
+      left_behind bytes l r start ran.requests disk_at unread middle.left middle.right
+      before.left before.right end x.0 y.0 a b x.1 y.1 were disks past.fault at past.rests at_a at_b
 
   pub follow_on :
       (status second_status : ℕ) (words others : List (List ℕ))
@@ -183,15 +189,15 @@ module _
   follow_on status second_status words others one two asked asked_too bytes lines l r a b start told told_too told_l
       told_r is were told_a told_b behind =
       let e = one.ends word.Run asked in
-      let ran = MatchResult-at_ok _ _ start is (e.2 l r told_l told_r) bytes told in
-      let begins = runs_behind e.0 bytes l r a b start ran (one.left_telling.1 (ap is_some told_l))
-      (one.right_telling.1 (ap is_some told_r)) were behind in
+      let ran = MatchResult-at_ok _ _ start is (e.leaves l r told_l told_r) in
+      let begins = runs_behind e.end bytes l r a b start told ran (e.causes.disks.left_telling.1 (ap is_some told_l))
+      (e.causes.disks.right_telling.1 (ap is_some told_r)) were behind in
       let between = fold after (run start ran.requests).0 begins.0 in
       let t = begins.2.stands.state in
       let stands = begins.2.stands.is in
       let same = kept_again a b between t begins.2 stands in
       let f = two.ends word.Run asked_too in
-      let second = MatchResult-at_ok _ _ t stands (f.2 a b told_a told_b) lines told_too in
+      let second = MatchResult-at_ok _ _ t stands (f.leaves a b told_a told_b) in
       let reached : Alike between t =
       record {
         image = same.0.image;
@@ -202,8 +208,8 @@ module _
       } in
       let then = run_alike second.requests reached in
       record {
-        end = e.0;
-        status_is = e.1;
+        end = e.end;
+        status_is = e.status_is;
         first = ran;
         more = begins.0;
         are = begins.1;
@@ -211,8 +217,8 @@ module _
         is = stands;
         kept = same.1;
         begins = same.0;
-        ending = f.0;
-        later_is = f.1;
+        ending = f.end;
+        later_is = f.status_is;
         second = second;
         ends = record { image = then.image; records = then.records };
       }

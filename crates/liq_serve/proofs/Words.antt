@@ -1,14 +1,14 @@
 -- How each word ends, put together to the clause of the top call.
-use Rattle.std.proofs.Common.{◌≡◌, ◌≢◌, ℕ, List, [], ◌∷◌, append-nil, Option, Some, Ok, Err, Result, refl, sym, subst, ◌∙◌, arith, lit<, inl, inr}
-use Rattle.std.specs.Prelude.{◌⊎◌, ◌↔◌, Contains, IfOk}
+use Rattle.std.proofs.Common.{◌≡◌, ◌≢◌, ℕ, List, [], append-nil, Option, Some, None, Ok, Err, Result, refl, sym, subst, ◌∙◌, arith, lit<, inl, inr}
+use Rattle.std.specs.Prelude.{◌⊎◌, ◌↔◌, Contains, IfOk, IfSome}
 use Rattle.std.proofs.lemmas.List.Elements.{All-nil}
 use Rattle.liq_outside.specs.At.{DiskAt, SinkAt, SourceAt}
 use Rattle.liq_outside.specs.declared.showing.Showing.{Showing}
 use Rattle.liq_outside.specs.Disk.{LeftBetween, LeftNow, Only}
 use Rattle.liq_outside.specs.Faults.{Rose}
-use Rattle.liq_outside.proofs.Moments.{unmoved}
 use Rattle.liq_types.specs.State.{State}
 use Rattle.liq_lines.specs.Lines.{lines_in}
+use Rattle.liq_text.specs.Spelling.{Spells}
 use Rattle.liq_lines.specs.Reading.{ReadsAtMost}
 use Rattle.liq_lines.proofs.Bytes.{reads_nothing}
 use Rattle.liq_journal.specs.declared.damage.Damage.{Damage}
@@ -26,14 +26,14 @@ use Rattle.liq_ends.specs.declared.halts.Halt.TheVariants.{BadLine, ReadFault, W
 use Rattle.liq_ends.specs.Causes.{DisksGoOn, HasCauses, LastCause, ReadCause}
 use Rattle.liq_ends.specs.Disks.{DisksStay, EndsDamaged, IsFaultOfTelling, LeavesDamaged, LeavesOfRun, OfDamage, OfState}
 use Rattle.liq_ends.specs.Output.{last, usage}
+use Rattle.liq_ends.specs.Reading.{ReadsTo}
 use Rattle.liq_ends.specs.Statuses.{status_of}
 use Rattle.liq_ends.specs.Stops.{Adds, StopsDamaged}
-use Rattle.liq_ends.proofs.Causes.{disk_causes, sink_causes, six, source_causes, unread_causes}
+use Rattle.liq_ends.proofs.Causes.{six, unread_causes}
 use Rattle.liq_ends.proofs.Damaged.{untouched_damaged}
 use Rattle.liq_ends.proofs.Opened.{standing_still, state_formed, untouched}
 use Rattle.liq_ends.proofs.Passing.{untouched_past}
 use Rattle.liq_ends.proofs.Shares.{all_shares}
-use Rattle.liq_store.specs.Causes.{counts_of}
 use Rattle.liq_types.specs.declared.requests.Command.{Command}
 use Rattle.liq_fees.specs.Lines as stakes
 use Rattle.liq_staking.specs.Staked.{staked_text}
@@ -45,7 +45,8 @@ use Rattle.liq_ends.specs.Outside.{Outside}
 use Rattle.liq_follow.proofs.Beginning.{none_goes_on}
 use Rattle.liq_serve.specs.Top.{Ends, Leaves, OpensFirst, ServesTo, Tells, most_taken, statuses_of}
 use Rattle.liq_serve.proofs.Served.{by_found, if_found, neither}
-use Rattle.liq_serve.proofs.StatusLaws.{no_memory_known, status_known}
+use Rattle.liq_serve.proofs.StatusLaws.{no_memory_known}
+use Rattle.liq_serve.proofs.Telling.{same_go_on}
 
 -- ---- the words ask for one thing
 
@@ -96,33 +97,20 @@ module _
       → ReadsAtMost (most_taken read) (source_at before.source).left (source_at after.source).left
       → Ends source_at sink_at disk_at before after (status_of end) words
   word_ends words read end is leaves status causes few =
-      let source = source_causes end (source_at before.source).faults (source_at after.source).faults causes.source in
-      let sink = sink_causes end (sink_at before.sink).faults (sink_at after.sink).faults causes.sink in
-      let disks = disk_causes end (counts_of disk_at before.left before.right)
-      (counts_of disk_at after.left after.right) causes.disks.count in
       record {
         understood = (λ e. absurd (not_usage end e), λ none. absurd (none read is.asks));
         usage = λ e. absurd (not_usage end e);
-        ends = λ other asked. (
-          end,
-          refl,
-          subst (λ (w : Word). Leaves source_at sink_at disk_at before after w end) (is.only other asked) leaves,
-        );
+        ends = λ other asked. record {
+          end = end;
+          status_is = refl;
+          causes = causes;
+          leaves =
+              subst (λ (w : Word). Leaves source_at sink_at disk_at before after w end) (is.only other asked) leaves;
+        };
         takes = λ other asked. subst (λ (w : Word). ReadsAtMost (most_taken w) (source_at before.source).left
             (source_at after.source).left) (is.only other asked) few;
-        known = status_known end;
         status_is = λ other asked. subst (λ (w : Word). Contains (statuses_of w) (status_of end)) (is.only other asked)
             status;
-        source_fault = source.0;
-        source_same = source.1;
-        sink_fault = sink.0;
-        sink_same = sink.1;
-        disk_fault = disks.0;
-        disk_same = disks.1;
-        left_telling = causes.disks.left_telling;
-        right_telling = causes.disks.right_telling;
-        left_time = causes.disks.left_time;
-        right_time = causes.disks.right_time;
       }
 
   -- the last line of a word over damaged disks
@@ -222,6 +210,11 @@ module _ {D : Type 0} (disk_at : D → DiskAt) (left right : D) (l r : List ℕ)
     rested = λ first later is. absurd cc;
   }
 
+-- no line was read
+no_line : (told : Option (List ℕ)) → IfSome told (λ bytes. ReadsTo Spells bytes told [] (Err NoMemory))
+no_line None = tt
+no_line (Some bytes) = (lines_in bytes, ([], tt, refl))
+
 module _
     {S K D : Type 0} (source_at : S → SourceAt) (sink_at : K → SinkAt) (disk_at : D → DiskAt)
     (stays : (disk : D) (bytes : List ℕ) → (disk_at disk).seen ≡ Some bytes → LeftNow disk_at disk bytes)
@@ -304,16 +297,15 @@ module _
       → Leaves source_at sink_at disk_at before after read (Err NoMemory)
   nothing_done written unshown word.Run =
       (opens_nothing _ written
-      (λ l r start is stay bytes told. record {
+      (λ l r start is stay. record {
         requests = [];
         few = omega arith;
-        statuses = (5, lit< tt, refl);
-        read = (lines_in bytes, ([], tt, refl));
-        memory = λ is. inl (refl, told);
+        why = inl (refl, refl);
+        read = no_line (source_at before.source).left;
         written = written;
         cut = λ is. absurd cc;
-        disks = standing_still disk_at before.left before.right bytes l r (source_at before.source).left start told is
-            stay.0;
+        disks = standing_still disk_at before.left before.right l r (source_at before.source).left
+            (source_at before.source).left start refl is stay.0;
         fault = NoFault;
         fault_is = refl;
         past = stay.1;
@@ -330,37 +322,40 @@ module _
   nothing_done written unshown word.Report = opens_nothing _ written
       (λ l r start is stay. ((3, lit< tt, refl), written, stay.0, stay.1))
   nothing_done written unshown word.Audit = opens_nothing _ written
-      (λ l r start is stay. (([], (1, lit< tt, refl), written), stay.0, stay.1))
+      (λ l r start is stay. (([], tt, written), stay.0, stay.1))
   nothing_done written unshown word.Follow =
       (refl, ([], reads_nothing (source_at before.source).left, ([], (omega arith, inl none_goes_on), written)))
   nothing_done written unshown (word.Gen seed count) = (refl, (2, lit< tt, refl), written)
 
-  -- the status is that of neither a fault nor an end
+  -- nobody but the sink met a fault
+  no_causes : HasCauses source_at sink_at disk_at before after (Err NoMemory)
+  no_causes = record {
+    source = refl;
+    sink = tt;
+    disks = same_go_on disk_at before.left before.right (Err NoMemory) refl;
+  }
+
+  -- words that ask for nothing, or that there was no memory to read
   writes_alone :
-      (status : ℕ) (words : List (List ℕ)) → Contains (0 ∷ 1 ∷ 2 ∷ 3 ∷ 4 ∷ 5 ∷ 6 ∷ 7 ∷ 8 ∷ 9 ∷ []) status → status ≢ 0
-      → status ≢ 3 → status ≢ 4 → status ≢ 5
+      (status : ℕ) (words : List (List ℕ))
       → ((status ≡ 1) ↔ ((word : Word) → Ask words word → ⊥)) → (status ≡ 1 → Writes usage)
       → ((word : Word) → Ask words word
       → (status ≡ 7) × Writes (last NoMemory) × ((sink_at now).shown ≡ (sink_at before.sink).shown))
       → EndsWriting status words
-  writes_alone status words known no_end no_source no_sink no_disk understood misused wordless =
+  writes_alone status words understood misused wordless =
       record {
         understood = understood;
         usage = λ one. (refl, misused one);
-        ends = λ word asked. let none = wordless word asked in (Err NoMemory, none.0, nothing_done none.1 none.2 word);
+        ends = λ word asked.
+            let none = wordless word asked in
+            record {
+              end = Err NoMemory;
+              status_is = none.0;
+              causes = no_causes;
+              leaves = nothing_done none.1 none.2 word;
+            };
         takes = λ one asked. none_taken (most_taken one) (source_at before.source).left;
-        known = known;
         status_is = λ one asked. subst (Contains (statuses_of one)) (sym (wordless one asked).0) (no_memory_known one);
-        source_fault = λ is. absurd (no_source is);
-        source_same = λ other. refl;
-        sink_fault = λ is. absurd (no_sink is);
-        sink_same = λ is. absurd (no_end is);
-        disk_fault = λ is. absurd (no_disk is);
-        disk_same = λ other. refl;
-        left_telling = (λ told. told, λ told. told);
-        right_telling = (λ told. told, λ told. told);
-        left_time = unmoved disk_at before.left;
-        right_time = unmoved disk_at before.right;
       }
 
   pub unread_ends :
@@ -373,13 +368,11 @@ module _
   unread_ends words fault.Usage status memory unshown usage only =
       let ended = usage refl in
       subst (λ (n : ℕ). EndsWriting n words) (sym ended.0)
-      (writes_alone 1 words (1, lit< tt, refl) (λ is. omega (arith, is)) (λ is. omega (arith, is))
-      (λ is. omega (arith, is)) (λ is. omega (arith, is))
-      ((λ is. only.0 refl), (λ none. refl)) (λ is. ended.1) (λ word asked. absurd (only.0 refl word asked)))
+      (writes_alone 1 words ((λ is. only.0 refl), (λ none. refl)) (λ is. ended.1)
+      (λ word asked. absurd (only.0 refl word asked)))
   unread_ends words fault.NoMemory status memory unshown usage only =
       let ended = memory refl in
       subst (λ (n : ℕ). EndsWriting n words) (sym ended.0)
-      (writes_alone 7 words (7, lit< tt, refl) (λ is. omega (arith, is)) (λ is. omega (arith, is))
-      (λ is. omega (arith, is)) (λ is. omega (arith, is))
+      (writes_alone 7 words
       ((λ is. absurd (omega (arith, is))), (λ none. absurd (cc (only.1 none)))) (λ is. absurd (omega (arith, is)))
       (λ word asked. (refl, ended.1, unshown refl)))

@@ -1,5 +1,5 @@
 -- Where nothing is wrong with lines, streams and disks a word is done, unless there was no memory.
-use Rattle.std.specs.Prelude.{ℕ, ◌≡◌, ◌≤◌, ◌<◌, ◌⊎◌, List, [], length, take, Option, Some, None, Ok}
+use Rattle.std.specs.Prelude.{ℕ, ◌≡◌, ◌≤◌, ◌<◌, ◌⊎◌, List, [], length, take, Some, None, Ok}
 use Rattle.std.specs.List.{AllZip}
 use Rattle.liq_outside.specs.At.{DiskAt, SinkAt, SourceAt}
 use Rattle.liq_outside.specs.Faults.{Rose}

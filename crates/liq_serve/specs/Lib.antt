@@ -1,6 +1,7 @@
--- A reader of the top call's clause needs Answered and Top. Calm and Twice are what follows from
--- that clause (`laws`). Finishing is for the contracts below it.
+-- A reader of the top call's clause needs Answered and Top. ByStatus, Calm and Twice are what
+-- follows from that clause (`laws`). Finishing is for the contracts below it.
 pub mod Answered
+pub mod ByStatus
 pub mod Calm
 pub mod Finishing
 pub mod Top

@@ -1,8 +1,7 @@
 -- What the top call leaves, word by word, and which counts rise.
 use Rattle.std.specs.Prelude.{ℕ, ◌≡◌, ◌≢◌, ◌+◌, ◌≤◌, ◌<◌, ◌==◌, ◌⊎◌, ◌↔◌, List, [], ◌∷◌, ◌++◌, length, map, filter}
-use Rattle.std.specs.Prelude.{All, Contains, Option, Some, IsSome, Result, Ok, Err, IfOk, IsOkAnd, MatchResult}
+use Rattle.std.specs.Prelude.{All, Contains, Option, Some, IfSome, Result, Ok, Err, IfOk, IsOkAnd, MatchResult}
 use Rattle.liq_outside.specs.At.{DiskAt, SinkAt, SourceAt}
-use Rattle.liq_outside.specs.Disk.{GoesOn}
 use Rattle.liq_outside.specs.Faults.{Rose}
 use Rattle.liq_outside.specs.Showings.{Notes}
 use Rattle.liq_types.specs.declared.amounts.TheConstants.{LINES_MOST}
@@ -11,7 +10,7 @@ use Rattle.liq_types.specs.declared.requests.Request.{Request}
 use Rattle.liq_types.specs.declared.requests.Request.TheVariants.{Do}
 use Rattle.liq_types.specs.State.{State, opening}
 use Rattle.liq_rules.specs.History.{Entry, IsLegal, own_entries, requests_of, state_after}
-use Rattle.liq_rules.specs.Step.{Allowed, ruling, run}
+use Rattle.liq_rules.specs.Step.{Allowed, ruling}
 use Rattle.liq_lines.specs.Reading.{Reads, ReadsAtMost, taken_most}
 use Rattle.liq_lines.specs.Writing.{Writes}
 use Rattle.liq_journal.specs.declared.damage.Damage.{Damage}
@@ -24,9 +23,7 @@ use Rattle.liq_scripts.specs.Asked.{Asks}
 use Rattle.liq_scripts.specs.Output.{served}
 use Rattle.liq_scripts.specs.Sessions.{sessions}
 use Rattle.liq_sessions.specs.Generated.{generated}
-use Rattle.liq_store.specs.Causes.{Faults, OneRose, counts_of}
 use Rattle.liq_store.specs.Keeping.{IsAtRest, IsKeptAround}
-use Rattle.liq_rules.specs.Memory.{TakesMemory}
 use Rattle.liq_text.specs.Spelling.{Spells}
 use Rattle.liq_words.specs.declared.words.Word.{Word}
 use Rattle.liq_words.specs.declared.words.Word.TheVariants as word
@@ -35,13 +32,13 @@ use Rattle.liq_ends.specs.declared.halts.Halt.{Halt}
 use Rattle.liq_ends.specs.declared.halts.Halt.TheVariants.{BadLine, ReadFault, WriteFault, DiskFault, NoMemory, Limit}
 use Rattle.liq_ends.specs.declared.halts.Halt.TheVariants.{DamagedInput}
 use Rattle.liq_ends.specs.Answered.{KeepsAnswered, Told}
-use Rattle.liq_ends.specs.Disks.{DisksHold, DisksStay, IsFaultOfRun, IsFaultOfTelling, IsUnread}
+use Rattle.liq_ends.specs.Causes.{HasCauses}
+use Rattle.liq_ends.specs.Disks.{DisksHold, DisksStay, IsFaultOfRun, IsFaultOfTelling}
 use Rattle.liq_ends.specs.Disks.{LeavesDamaged, LeavesOfRun, OfBoth}
 use Rattle.liq_ends.specs.Output.{lines, usage}
 use Rattle.liq_ends.specs.Reading.{ReadsTo}
-use Rattle.liq_ends.specs.Requests.{IsNext}
 use Rattle.liq_ends.specs.Statuses.{status_of}
-use Rattle.liq_ends.specs.Stops.{Adds, HaveTheirShares, TellsBehind}
+use Rattle.liq_ends.specs.Stops.{Adds, EndsAfter, HaveTheirShares, TellsBehind}
 use Rattle.liq_tell.specs.Audit.{IsAuditOf}
 use Rattle.liq_fees.specs.Lines as stakes
 use Rattle.liq_staking.specs.Staked.{staked_text}
@@ -85,9 +82,6 @@ module _ {S K D : Type 0} (source_at : S → SourceAt) (sink_at : K → SinkAt) 
   abbrev pub SinkFails : Type 0
   SinkFails = Rose (sink_at before.sink).faults (sink_at after.sink).faults
 
-  abbrev pub disk_counts : Outside S K D → Faults
-  disk_counts outside = counts_of disk_at outside.left outside.right
-
   -- The text was written, as far as the end says. Where the word stopped, this was said of it, and
   -- then the last line.
   abbrev pub Tells : List ℕ → List ℕ → Result (Unit {0}) Halt → Type 0
@@ -111,28 +105,31 @@ module _ {S K D : Type 0} (source_at : S → SourceAt) (sink_at : K → SinkAt) 
 
   -- ---- `run`
 
-  -- The lines of these bytes were answered from this state on, with l and r on the disks, as far as
-  -- the end says.
-  pub record RunsTo (end : Result (Unit {0}) Halt) (l r : List ℕ) (start : State) (bytes : List ℕ) : Type 0 where
+  -- what the source told, and what it still tells
+  abbrev pub told : Option (List ℕ)
+  told = (source_at before.source).left
+
+  abbrev pub unread : Option (List ℕ)
+  unread = (source_at after.source).left
+
+  -- Lines of the source were answered from this state on, with l and r on the disks, as far as the
+  -- end says: whatever the source tells.
+  pub record RunsTo (end : Result (Unit {0}) Halt) (l r : List ℕ) (start : State) : Type 0 where
     pub requests : List Request
     -- they are no more than one run answers
     pub few : length requests ≤ LINES_MOST
-    -- it goes on in whatever generation
-    pub statuses : Contains (0 ∷ 2 ∷ 3 ∷ 4 ∷ 5 ∷ 7 ∷ 8 ∷ []) (status_of end)
-    pub read : ReadsTo Spells bytes (source_at after.source).left requests end
-    -- memory is asked for before a line is read, and then only for a command that is allowed or
-    -- plans a list
-    pub memory : end ≡ Err NoMemory → IsUnread bytes (source_at after.source).left requests
-        ⊎ ((request : Request) × IsNext bytes requests request × TakesMemory (run start requests).0 request)
+    pub why : EndsAfter start end told unread requests
+    -- where the source told its bytes
+    pub read : IfSome told (λ bytes. ReadsTo Spells bytes unread requests end)
     -- all replies, and the last line where it stopped
     pub written : Tells (lines start requests) (lines start requests) end
     -- where the sink met a fault at a reply, that is the last one
     pub cut : end ≡ Err WriteFault → (earlier : List Request) × (final : Request) × (requests ≡ earlier ++ final ∷ [])
         × ((part : List ℕ) × Writes (sink_at before.sink).held (lines start earlier ++ part) (sink_at after.sink).held)
-    pub disks : DisksHold disk_at end bytes (source_at after.source).left l r start after.left after.right requests
+    pub disks : DisksHold disk_at end told unread l r start after.left after.right requests
     -- where a disk met a fault
     pub fault : Fault
-    pub fault_is : IsFaultOfRun start end bytes (source_at after.source).left requests fault
+    pub fault_is : IsFaultOfRun start end told unread requests fault
     -- all that a crash at some moment may have left of the disks
     pub past : Leave (λ met. met ≡ fault) l r start requests
     -- and at every moment they have all that was answered by then
@@ -215,10 +212,8 @@ module _ {S K D : Type 0} (source_at : S → SourceAt) (sink_at : K → SinkAt) 
 
   -- what a word leaves that came to this end
   abbrev pub Leaves : Word → Result (Unit {0}) Halt → Type 0
-  -- where the source tells its bytes, what the end says of what came in, what went out, and what
-  -- the disks hold
-  Leaves word.Run end = OpensFirst end (λ l r start.
-      (bytes : List ℕ) → (source_at before.source).left ≡ Some bytes → RunsTo end l r start bytes)
+  -- what the end says of what came in, what went out, and what the disks hold
+  Leaves word.Run end = OpensFirst end (RunsTo end)
   -- each session's lines are answered in order, all sessions' at once, along one history
   Leaves word.Serve end = ServesTo end
   -- stakers are answered beside the commands that lead to the state, and the disks stay so
@@ -253,27 +248,20 @@ module _ {S K D : Type 0} (source_at : S → SourceAt) (sink_at : K → SinkAt) 
       (after ≡ record before { sink = after.sink }) × Contains (0 ∷ 4 ∷ 7 ∷ []) (status_of end)
       × Tells [] (summary (load opening (generated seed count))) end
 
+  -- How this word ended: at this status, for its cause and for none that is not told, and leaving
+  -- this.
+  pub record EndsAs (one : Word) (status : ℕ) : Type 0 where
+    pub end : Result (Unit {0}) Halt
+    pub status_is : status ≡ status_of end
+    pub causes : HasCauses source_at sink_at disk_at before after end
+    pub leaves : Leaves one end
+
   -- the clause of the top call, for each list of words
   pub record Ends (status : ℕ) (words : List (List ℕ)) : Type 0 where
     pub understood : (status ≡ 1) ↔ ((word : Word) → Ask words word → ⊥)
     pub usage : status ≡ 1 → (after ≡ record before { sink = after.sink })
         × Adds [] usage SinkFails (sink_at before.sink).held (sink_at after.sink).held
-    pub ends : (one : Word) → Ask words one → (end : Result (Unit {0}) Halt) × (status ≡ status_of end) × Leaves one end
+    pub ends : (one : Word) → Ask words one → EndsAs one status
     pub takes : (one : Word) → Ask words one
         → ReadsAtMost (most_taken one) (source_at before.source).left (source_at after.source).left
-    pub known : Contains (0 ∷ 1 ∷ 2 ∷ 3 ∷ 4 ∷ 5 ∷ 6 ∷ 7 ∷ 8 ∷ 9 ∷ []) status
     pub status_is : (one : Word) → Ask words one → Contains (statuses_of one) status
-    -- a fault has its cause, and none is passed over
-    pub source_fault : status ≡ 3 → Rose (source_at before.source).faults (source_at after.source).faults
-    pub source_same : status ≢ 3 → (source_at after.source).faults ≡ (source_at before.source).faults
-    pub sink_fault : status ≡ 4 → SinkFails
-    pub sink_same : status ≡ 0 → (sink_at after.sink).faults ≡ (sink_at before.sink).faults
-    pub disk_fault : status ≡ 5 → OneRose (disk_counts before) (disk_counts after)
-    pub disk_same : status ≢ 5 → disk_counts after ≡ disk_counts before
-    -- a disk that told its bytes tells them afterwards, and one that told none tells none
-    pub left_telling : IsSome (disk_at after.left).seen ↔ IsSome (disk_at before.left).seen
-    pub right_telling : IsSome (disk_at after.right).seen ↔ IsSome (disk_at before.right).seen
-    -- Whatever a disk holds, time goes on for it, and what a crash may have left at a past moment
-    -- stays what it was.
-    pub left_time : GoesOn disk_at before.left after.left
-    pub right_time : GoesOn disk_at before.right after.right

@@ -1,5 +1,5 @@
 -- Two runs, one after the other. What is said here follows from the top call's clause (`laws`).
-use Rattle.std.specs.Prelude.{ℕ, ◌≡◌, ◌⊎◌, List, [], ◌∷◌, Option, Some, Result, Ok, Err, fold}
+use Rattle.std.specs.Prelude.{ℕ, ◌≡◌, ◌⊎◌, List, [], ◌∷◌, Some, Result, Ok, Err, fold}
 use Rattle.liq_outside.specs.At.{DiskAt, SinkAt, SourceAt}
 use Rattle.liq_outside.specs.Disk.{LeftNow, Only}
 use Rattle.liq_types.specs.declared.requests.Command.{Command}
@@ -27,7 +27,7 @@ abbrev pub AreMore :
     → Type 0
 AreMore bytes l r start requests end [] = Unit {0}
 AreMore bytes l r start requests end (c ∷ []) = (end ≡ Err DiskFault)
-    × ((IsNext bytes requests (Do c) × (ruling (run start requests).0 c ≡ Allowed))
+    × ((IsNext (Some bytes) requests (Do c) × (ruling (run start requests).0 c ≡ Allowed))
     ⊎ ((requests ≡ []) × HoldsUnfinished l r start c))
 AreMore bytes l r start requests end (c ∷ more) = ⊥
 
@@ -58,7 +58,7 @@ module _
       (start : State) : Type 0 where
     pub end : Result (Unit {0}) Halt
     pub status_is : status ≡ status_of end
-    pub first : RunsTo source_at sink_at disk_at before middle end l r start bytes
+    pub first : RunsTo source_at sink_at disk_at before middle end l r start
     pub more : List Command
     pub are : AreMore bytes l r start first.requests end more
     pub state : State
@@ -67,7 +67,7 @@ module _
     pub begins : IsSameState (fold rule.after (run start first.requests).0 more) state
     pub ending : Result (Unit {0}) Halt
     pub later_is : later ≡ status_of ending
-    pub second : RunsTo source_at sink_at disk_at again after ending a b state lines
+    pub second : RunsTo source_at sink_at disk_at again after ending a b state
     pub ends :
         IsSameState (run (fold rule.after (run start first.requests).0 more) second.requests).0
         (run state second.requests).0

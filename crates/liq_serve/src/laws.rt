@@ -7,6 +7,7 @@ ghost use Rattle.liq_pairs.specs.Kept.{IsKept};
 ghost use Rattle.liq_pairs.specs.Pair.{state_on};
 ghost use Rattle.liq_words.specs.declared.words.Word.{Word};
 ghost use Rattle.liq_words.specs.Words.{Ask};
+ghost use Rattle.liq_serve.specs.ByStatus.{ByStatus};
 ghost use Rattle.liq_serve.specs.Calm.{IsComplete};
 ghost use Rattle.liq_ends.specs.Outside.{Outside};
 ghost use Rattle.liq_serve.specs.Top.{Ends};
@@ -15,6 +16,14 @@ ghost use Rattle.liq_serve.specs.Twice.{AreBehind, FollowOn};
 use liq_follower::laws::faults_stay;
 use liq_outside::{Disk, Sink, Source};
 use liq_pairs::laws::{commands_lead_to_the_state, journals_keep_their_limit};
+
+/// Whatever the words are, the exit status by itself says whose count of faults rose, and whose did
+/// not; and for both disks time went on. It follows from the clause of the top call.
+pub fn statuses_have_causes<S: Source, K: Sink, D: Disk>()
+    ensures { (before after : Outside S K D) (status : ℕ) (words : List (List ℕ))
+        → Ends S.at K.at D.at before after status words
+        → ByStatus S.at K.at D.at before after status }
+{}
 
 /// Where nothing is wrong with lines, streams and disks a word is done, unless there was no memory;
 /// and what is wrong with a journal that is followed is told. It follows from the clause of the top

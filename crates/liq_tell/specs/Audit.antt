@@ -1,5 +1,5 @@
 -- What the word `audit` tells.
-use Rattle.std.specs.Prelude.{ℕ, ◌≡◌, ◌<◌, List, [], ◌∷◌, Result, Ok, Err, All, Contains, count_by, length}
+use Rattle.std.specs.Prelude.{ℕ, ◌≡◌, ◌<◌, List, Result, Ok, Err, All, count_by, length}
 use Rattle.liq_types.specs.declared.requests.Command.{Command}
 use Rattle.liq_types.specs.State.{State, opening_with}
 use Rattle.liq_audit.specs.Auditable.{EnclosesShare}
@@ -9,8 +9,7 @@ use Rattle.liq_review.specs.Reviewed.{reviewed}
 use Rattle.liq_review.specs.Shown.{is_within}
 use Rattle.liq_review.specs.declared.fault.ReviewFault.TheVariants as review
 use Rattle.liq_ends.specs.declared.halts.Halt.{Halt}
-use Rattle.liq_ends.specs.declared.halts.Halt.TheVariants.{Limit, Rotated, WriteFault}
-use Rattle.liq_ends.specs.Statuses.{status_of}
+use Rattle.liq_ends.specs.declared.halts.Halt.TheVariants.{DiskFault, Limit, NoMemory, Rotated, WriteFault}
 
 -- An audit of the commands that lead to this state of the first generation, from the opening under its limit, ends so,
 -- and its text is that of the review. At its end each row encloses the exact share of its account, and what the
@@ -24,4 +23,7 @@ IsAuditOf s commands (Err WriteFault) text = (s.generation ≡ 1) × (reviewed s
 IsAuditOf s commands (Err (Limit n)) text = (s.generation ≡ 1) × (reviewed s.limit commands ≡ Err (review.Limit n))
 IsAuditOf s commands (Err (Rotated generation)) text = (1 < s.generation) × (generation ≡ s.generation)
 -- a disk met a fault, or there was no memory
-IsAuditOf s commands end text = Contains (5 ∷ 7 ∷ []) (status_of end)
+IsAuditOf s commands (Err DiskFault) text = Unit {0}
+IsAuditOf s commands (Err NoMemory) text = Unit {0}
+-- it reads no lines, and the disks are not damaged
+IsAuditOf s commands (Err _) text = ⊥

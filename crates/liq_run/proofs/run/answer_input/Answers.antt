@@ -16,24 +16,24 @@ use Rattle.liq_run.proofs.run.answer_input.Goals as goal
 use Rattle.liq_lines.proofs.Readings.{takes_none}
 
 pub returns-in-Err-clause-run : goal.returns-in-Err-clause-run
-returns-in-Err-clause-run g c l r told_l told_r start is bytes told =
+returns-in-Err-clause-run g c l r told_l told_r start is =
     let disk_at = g.D.Disk.at in
     let sink_at = g.K.Sink.at in
     let out = c.args.out.now in
-    let unread = (g.S.Source.at c.args.input.now).left in
+    let told = (g.S.Source.at c.args.input.now).left in
     let fault = c.in-Err.fault in
-    subst (λ (e : Ending g.row.D.Denot). GivesBack disk_at c.args.left c.args.right start e.end bytes l r unread
+    subst (λ (e : Ending g.row.D.Denot). GivesBack disk_at c.args.left c.args.right start e.end told l r told
     (sink_at out).held (sink_at c.open.new.out).held (sink_at out).shown (sink_at c.open.new.out).shown e.left e.right)
     (sym c.unopened.ensures)
-    (subst (λ o. GivesBack disk_at c.args.left c.args.right start (Err (halt_of fault.why)) bytes l r unread
+    (subst (λ o. GivesBack disk_at c.args.left c.args.right start (Err (halt_of fault.why)) told l r told
     (sink_at out).held (sink_at o).held (sink_at out).shown (sink_at o).shown fault.left fault.right)
     (sym c.in-Err.ensures.untouched)
-    (unopened_by disk_at c.args.left c.args.right bytes l r unread (sink_at out).held (sink_at out).shown start
-    fault.why fault.left fault.right c.in-Err.ensures.not_opened told told_l told_r is
+    (unopened_by disk_at c.args.left c.args.right l r told (sink_at out).held (sink_at out).shown start
+    fault.why fault.left fault.right c.in-Err.ensures.not_opened told_l told_r is
     (c.in-Err.ensures.begins_none l r start told_l told_r is)))
 
 pub returns-clause-run : goal.returns-clause-run
-returns-clause-run g c l r told_l told_r start is bytes told =
+returns-clause-run g c l r told_l told_r start is =
     let disk_at = g.D.Disk.at in
     let sink_at = g.K.Sink.at in
     let opened = c.in-Ok.run'.store in
@@ -42,6 +42,7 @@ returns-clause-run g c l r told_l told_r start is bytes told =
     let store = ran.new.self.store in
     let was = sink_at c.args.out.now in
     let now = sink_at ran.new.out in
+    let told = (g.S.Source.at c.args.input.now).left in
     let unread = (g.S.Source.at ran.new.input).left in
     let begins = c.in-Ok.ensures.begins l r start told_l told_r is in
     let begun : Begun g.row.D.Denot = record {
@@ -58,13 +59,13 @@ returns-clause-run g c l r told_l told_r start is bytes told =
     let place : Reached g.row.D.Denot =
     run_at store ran.new.self.reader ran.new.self.waiting.items unread now in
     let ends = gives_back disk_at g.met.D.Disk.seen_may_stay c.args.left c.args.right l r start opened was.held
-    was.shown (sink_at c.open.new.out).shown begins store end bytes place refl ran.ensures.time ran.ensures.stopped
-    order (ran.ensures.run begun bytes told (sym c.open.ensures.held) begins.begun) in
-    let given : (s : Stored g.row.D.Denot) → s ≡ store → GivesBack disk_at c.args.left c.args.right start end bytes
+    was.shown (sink_at c.open.new.out).shown begins store end told place refl ran.ensures.time ran.ensures.stopped
+    order (ran.ensures.run begun (sym c.open.ensures.held) begins.begun) in
+    let given : (s : Stored g.row.D.Denot) → s ≡ store → GivesBack disk_at c.args.left c.args.right start end told
     l r unread was.held now.held was.shown now.shown s.left s.right =
-    λ s same. subst (λ (s : Stored g.row.D.Denot). GivesBack disk_at c.args.left c.args.right start end bytes
+    λ s same. subst (λ (s : Stored g.row.D.Denot). GivesBack disk_at c.args.left c.args.right start end told
     l r unread was.held now.held was.shown now.shown s.left s.right) (sym same) ends in
-    subst (λ (e : Ending g.row.D.Denot). GivesBack disk_at c.args.left c.args.right start e.end bytes
+    subst (λ (e : Ending g.row.D.Denot). GivesBack disk_at c.args.left c.args.right start e.end told
     l r unread was.held now.held was.shown now.shown e.left e.right) (sym c.closed.ensures.is)
     (given c.into_store.result c.into_store.ensures)
 

@@ -20,8 +20,8 @@ returns-in-Run g c words asks only =
     let read = subst (λ (w : Word). IsRead words w) c.in-Run.is (record { asks = asks; only = only }) in
     word_ends g.S.Source.at g.K.Sink.at g.D.Disk.at before after words word.Run ran.result.end read
     (opens_first g.S.Source.at g.K.Sink.at g.D.Disk.at before after ran.result.end _
-    (λ l r told_l told_r start is bytes told. runs_to g.S.Source.at g.K.Sink.at g.D.Disk.at before after start
-    ran.result.end bytes l r (ran.ensures.run l r told_l told_r start is bytes told))
+    (λ l r told_l told_r start is. runs_to g.S.Source.at g.K.Sink.at g.D.Disk.at before after start
+    ran.result.end l r (ran.ensures.run l r told_l told_r start is))
     ran.ensures.damaged)
     (goes_on_known ran.result.end ran.ensures.goes_on) ran.ensures.causes ran.ensures.few
 

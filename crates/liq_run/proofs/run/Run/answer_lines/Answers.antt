@@ -16,14 +16,13 @@ use Rattle.liq_lines.proofs.Readings.{few_begins, few_behind, few_in_all}
 
 pub loop-answered-init : goal.loop-answered-init
 loop-answered-init g c = record {
-  answered = λ begun bytes told held past.
-      subst (λ (before : Option (List ℕ)). Answered begun.start bytes 0 c.args.self.now.store.core
+  answered = λ begun held past.
+      subst (λ (before : Option (List ℕ)). Answered begun.start (g.S.Source.at c.args.input.now).left 0 c.args.self.now.store.core
       (unread c.args.self.now.reader (g.S.Source.at c.args.input.now).left) c.args.self.now.waiting.items begun.held
       before
       (λ requests. IsPastOf g.D.Disk.at begun requests c.args.self.now.store (g.K.Sink.at c.args.out.now).shown)) held
-      (opened begun.start bytes c.args.self.now.reader c.args.self.now.waiting.items c.args.self.now.store.core
-      (g.S.Source.at c.args.input.now).left begun.held _ past.past.stands c.requires.unread c.requires.waiting told
-      past);
+      (opened begun.start c.args.self.now.reader c.args.self.now.waiting.items c.args.self.now.store.core
+      (g.S.Source.at c.args.input.now).left begun.held _ past.past.stands c.requires.unread c.requires.waiting past);
   time = still g.D.Disk.at c.args.self.now.store;
   few = few_begins (g.S.Source.at c.args.input.now).left c.args.self.now.reader c.requires.unread;
   going = c.requires.going;
@@ -33,14 +32,14 @@ loop-answered-init g c = record {
 }
 
 pub returns-then-not-branch-clause-run : goal.returns-then-not-branch-clause-run
-returns-then-not-branch-clause-run g c begun bytes told held past =
-    (rw c.if-not-branch.true at c.in_ok-turn.ensures.turn).turn begun bytes
-    (c.loop-answered.invariant.answered begun bytes told held past)
+returns-then-not-branch-clause-run g c begun held past =
+    (rw c.if-not-branch.true at c.in_ok-turn.ensures.turn).turn begun _
+    (c.loop-answered.invariant.answered begun held past)
 
 pub loop-answered-preserved : goal.loop-answered-preserved
 loop-answered-preserved g c = record {
-  answered = λ begun bytes told held past. (rw c.if-not-branch.false at c.in_ok-turn.ensures.turn).turn begun bytes
-      (c.loop-answered.invariant.answered begun bytes told held past);
+  answered = λ begun held past. (rw c.if-not-branch.false at c.in_ok-turn.ensures.turn).turn begun _
+      (c.loop-answered.invariant.answered begun held past);
   time = behind g.D.Disk.at _ _ _ c.loop-answered.invariant.time c.turn.ensures.shows.time;
   few = c.turn.ensures.turn.few (g.S.Source.at c.args.input.now).left c.loop-answered.invariant.few;
   going = c.in_ok-turn.ensures.shows.stopped;
@@ -50,51 +49,51 @@ loop-answered-preserved g c = record {
 }
 
 pub returns-in_err-flush-clause-run : goal.returns-in_err-flush-clause-run
-returns-in_err-flush-clause-run g c begun bytes told held past =
+returns-in_err-flush-clause-run g c begun held past =
     let halt = c.in_err-flush.field-0.0 in
-    subst (λ (end : Result (Unit {0}) Halt). HasCome g.D.Disk.at begun bytes
+    subst (λ (end : Result (Unit {0}) Halt). HasCome g.D.Disk.at begun (g.S.Source.at c.args.input.now).left
     (run_at c.loop-answered.self.store c.loop-answered.self.reader c.flush.new.waiting.items
     (g.S.Source.at c.loop-answered.input).left (g.K.Sink.at c.flush.new.out)) end)
     (sym (handed_on c.from_residual-in_err-flush.result halt c.from_residual-in_err-flush.ensures.1))
     (answered_cut begun.start _ _ (λ rs. unshown_past g.D.Disk.at g.met.D.Disk.seen_may_stay begun rs
-    c.loop-answered.self.store _ _ c.flush.ensures.unshown) _ _ halt bytes c.loop-answered.answered _ _
+    c.loop-answered.self.store _ _ c.flush.ensures.unshown) _ _ halt _ c.loop-answered.answered _ _
     (g.S.Source.at c.loop-answered.input).left _ c.flush.new.waiting.items begun.held _ _
-    (omega (arith, c.loop-answered.auto.answered-end)) (c.loop-answered.invariant.answered begun bytes told held past)
+    (omega (arith, c.loop-answered.auto.answered-end)) (c.loop-answered.invariant.answered begun held past)
     c.in_err-flush.ensures.written)
 
 pub returns-in-Ok-None-clause-run : goal.returns-in-Ok-None-clause-run
-returns-in-Ok-None-clause-run g c begun bytes told held past =
-    let a = answered_on begun.start bytes c.loop-answered.answered _ _ _ c.flush.new.waiting.items begun.held _
+returns-in-Ok-None-clause-run g c begun held past =
+    let a = answered_on begun.start _ c.loop-answered.answered _ _ _ c.flush.new.waiting.items begun.held _
     (g.K.Sink.at c.flush.new.out).held _ _
     (λ rs. unshown_past g.D.Disk.at g.met.D.Disk.seen_may_stay begun rs c.loop-answered.self.store _ _
-    c.flush.ensures.unshown) (c.loop-answered.invariant.answered begun bytes told held past)
+    c.flush.ensures.unshown) (c.loop-answered.invariant.answered begun held past)
     c.in_ok-flush.ensures.written in
     let over = rw c.in-Ok-None.field-0-is at c.in-Ok-None.ensures.byte in
-    reading_ends begun.start _ _ _ bytes c.next_byte.new.self c.loop-answered.answered _ _
+    reading_ends begun.start _ _ _ _ c.next_byte.new.self c.loop-answered.answered _ _
     (g.S.Source.at c.next_byte.new.input).left _ _ _ (omega (arith, c.loop-answered.auto.answered-end)) over.0 over.1 a
 
 pub returns-in-Ok-Some-clause-run : goal.returns-in-Ok-Some-clause-run
-returns-in-Ok-Some-clause-run g c begun bytes told held past =
-    let a = answered_on begun.start bytes c.loop-answered.answered _ _ _ c.flush.new.waiting.items begun.held _
+returns-in-Ok-Some-clause-run g c begun held past =
+    let a = answered_on begun.start _ c.loop-answered.answered _ _ _ c.flush.new.waiting.items begun.held _
     (g.K.Sink.at c.flush.new.out).held _ _
     (λ rs. unshown_past g.D.Disk.at g.met.D.Disk.seen_may_stay begun rs c.loop-answered.self.store _ _
-    c.flush.ensures.unshown) (c.loop-answered.invariant.answered begun bytes told held past)
+    c.flush.ensures.unshown) (c.loop-answered.invariant.answered begun held past)
     c.in_ok-flush.ensures.written in
     let read = rw c.in-Ok-Some.field-0-is at c.in-Ok-Some.ensures.byte in
     let full : c.loop-answered.answered ≡ LINES_MOST = omega
     (arith, c.loop-answered-test.false, c.loop-answered.auto.answered-end) in
-    limit_halts begun.start _ _ _ bytes c.loop-answered.answered _ _ _ _ (g.S.Source.at c.next_byte.new.input).left _ _
+    limit_halts begun.start _ _ _ _ c.loop-answered.answered _ _ _ _ (g.S.Source.at c.next_byte.new.input).left _ _
     _ c.from.result c.from.ensures full read a
 
 pub returns-in-Err-clause-run : goal.returns-in-Err-clause-run
-returns-in-Err-clause-run g c begun bytes told held past =
-    let a = answered_on begun.start bytes c.loop-answered.answered _ _ _ c.flush.new.waiting.items begun.held _
+returns-in-Err-clause-run g c begun held past =
+    let a = answered_on begun.start _ c.loop-answered.answered _ _ _ c.flush.new.waiting.items begun.held _
     (g.K.Sink.at c.flush.new.out).held _ _
     (λ rs. unshown_past g.D.Disk.at g.met.D.Disk.seen_may_stay begun rs c.loop-answered.self.store _ _
-    c.flush.ensures.unshown) (c.loop-answered.invariant.answered begun bytes told held past)
+    c.flush.ensures.unshown) (c.loop-answered.invariant.answered begun held past)
     c.in_ok-flush.ensures.written in
     let failed = c.in-Err.ensures.failed in
-    reading_fails begun.start _ _ _ bytes c.next_byte.new.self c.loop-answered.answered _ _
+    reading_fails begun.start _ _ _ _ c.next_byte.new.self c.loop-answered.answered _ _
     (g.S.Source.at c.next_byte.new.input).left _ _ _ (omega (arith, c.loop-answered.auto.answered-end))
     ([], tt, failed.0, failed.1, omega arith) (λ e. refl) a
 
@@ -136,13 +135,13 @@ returns-in-Err-clause-few g c =
     (omega (arith, c.loop-answered.auto.answered-end)) [] _ _ failed.0 (omega (arith, c.next_byte.ensures.held))
 
 pub returns-in_err-turn-clause-run : goal.returns-in_err-turn-clause-run
-returns-in_err-turn-clause-run g c begun bytes told held past =
+returns-in_err-turn-clause-run g c begun held past =
     let halt = c.in_err-turn.field-0.0 in
-    subst (λ (end : Result (Unit {0}) Halt). HasCome g.D.Disk.at begun bytes
+    subst (λ (end : Result (Unit {0}) Halt). HasCome g.D.Disk.at begun (g.S.Source.at c.args.input.now).left
     (run_at c.turn.new.self.store c.turn.new.self.reader c.turn.new.self.waiting.items
     (g.S.Source.at c.turn.new.input).left (g.K.Sink.at c.turn.new.out)) end)
     (sym (handed_on c.from_residual.result halt c.from_residual.ensures.1))
-    (c.in_err-turn.ensures.turn.turn begun bytes (c.loop-answered.invariant.answered begun bytes told held past))
+    (c.in_err-turn.ensures.turn.turn begun _ (c.loop-answered.invariant.answered begun held past))
 
 -- ---- what it shows
 

@@ -1,4 +1,4 @@
-use Rattle.std.proofs.Common.{◌≡◌, ℕ, List, [], Some, None}
+use Rattle.std.proofs.Common.{◌≡◌, [], None}
 use Rattle.liq_store.specs.Causes.{counts_of}
 use Rattle.liq_run.specs.Calls.{GoOn}
 use Rattle.liq_run.specs.Passing.{Begun, IsPastOf}
@@ -15,10 +15,9 @@ invariant-loop-answered g l =
     let started = l.fn.self.store in
     let store = l.self.store in
     record {
-      answered : (begun : Begun g.row.D.Denot) (bytes : List ℕ)
-          → (source_at l.fn.input).left ≡ Some bytes → begun.held ≡ (sink_at l.fn.out).held
+      answered : (begun : Begun g.row.D.Denot) → begun.held ≡ (sink_at l.fn.out).held
           → IsPastOf disk_at begun [] started (sink_at l.fn.out).shown
-          → HasAnswered disk_at begun bytes l.answered
+          → HasAnswered disk_at begun (source_at l.fn.input).left l.answered
           (run_at store l.self.reader l.self.waiting.items (source_at l.input).left (sink_at l.out));
       few : ReadsFew (source_at l.fn.input).left l.answered l.self.reader (source_at l.input).left;
       time : GoOn disk_at started store;

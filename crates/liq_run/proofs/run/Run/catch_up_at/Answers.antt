@@ -5,16 +5,16 @@ use Rattle.liq_run.proofs.Closing.{rest_disks, rest_run, rest_source, rest_stopp
 use Rattle.liq_run.proofs.run.Run.catch_up_at.Goals as goal
 
 pub returns-clause-run : goal.returns-clause-run
-returns-clause-run g c begun bytes left h =
+returns-clause-run g c begun told left h =
     let shut = c.write_rest.ensures.shut in
     let at = g.K.Sink.at in
     let run = c.args.self.now in
-    subst (λ (shown : Option (List Showing)). HasEnded g.D.Disk.at begun bytes
+    subst (λ (shown : Option (List Showing)). HasEnded g.D.Disk.at begun told
     (run_at run.store run.reader [] left (record (at c.write_rest.new.out) { shown = shown })) c.write_rest.result)
     (sym c.write_rest.ensures.unshown)
     (rest_run _ _ _ c.args.end c.write_rest.result (λ is. (shut is).0) c.write_rest.ensures.written begun.start
-    run.store.core _ _ _ bytes left begun.held (λ is. ap (λ (k : g.row.K.Denot). (at k).held) (shut is).1)
-    (subst (λ (w : List ℕ). HasCome g.D.Disk.at begun bytes
+    run.store.core _ _ _ told left begun.held (λ is. ap (λ (k : g.row.K.Denot). (at k).held) (shut is).1)
+    (subst (λ (w : List ℕ). HasCome g.D.Disk.at begun told
     (run_at run.store run.reader w left (at c.args.out.now)) c.args.end) (sym c.deref.ensures.value) h))
 
 pub returns-clause-source : goal.returns-clause-source

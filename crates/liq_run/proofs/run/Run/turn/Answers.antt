@@ -1,22 +1,22 @@
-use Rattle.std.proofs.Common.{refl, ℕ, ◌+◌, ◌++◌, ◌∷◌, [], List, Option, Err, ap, subst, sym}
+use Rattle.std.proofs.Common.{refl, ℕ, ◌+◌, List, Err, ap, subst, sym}
 use Rattle.liq_rules.specs.Step.{run}
 use Rattle.liq_types.specs.declared.requests.Request.TheVariants.{Ask}
 use Rattle.liq_run.specs.Turns.{HasAnswered, run_at}
 use Rattle.liq_run.proofs.Residual.{handed_on}
 use Rattle.liq_run.proofs.Turning.{turn_halts, line_answered, answering_halts, first_line}
-use Rattle.liq_lines.specs.Reading.{unread, Reads, ReadsFew}
+use Rattle.liq_lines.specs.Reading.{ReadsFew}
 use Rattle.liq_lines.proofs.Readings.{few_line}
 use Rattle.liq_run.proofs.run.Run.turn.Goals as goal
 
 pub returns-in-Some-clause-turn : goal.returns-in-Some-clause-turn
 returns-in-Some-clause-turn g c = record {
-  turn = λ begun bytes a. let left = (g.S.Source.at c.args.input.now).left in
+  turn = λ begun told a. let left = (g.S.Source.at c.args.input.now).left in
       let read = c.in-Some.ensures.query (c.args.answered + 1) left in
       let said = c.in_ok-answer_query.ensures.answer (run begun.start a.requests).0 a.stands in
-      subst (λ (taken : List ℕ). HasAnswered g.D.Disk.at begun bytes (c.args.answered + 1)
+      subst (λ (taken : List ℕ). HasAnswered g.D.Disk.at begun told (c.args.answered + 1)
       (run_at c.answer_query.new.self.store taken c.answer_query.new.self.waiting.items left
       (g.K.Sink.at c.answer_query.new.out))) (sym c.answer_query.ensures.reader)
-      (line_answered begun.start bytes read.0 (Ask c.in-Some.query) c.args.answered c.args.self.now.store.core
+      (line_answered begun.start told read.0 (Ask c.in-Some.query) c.args.answered c.args.self.now.store.core
       c.answer_query.new.self.store.core _ _ _ _ begun.held _ _ _ _ read.1 read.2 read.3 a said
       (c.in_ok-answer_query.ensures.past begun a.requests a.passed));
   few = λ before h. let left = (g.S.Source.at c.args.input.now).left in
@@ -26,19 +26,17 @@ returns-in-Some-clause-turn g c = record {
 
 pub returns-in_err-answer_query-clause-turn : goal.returns-in_err-answer_query-clause-turn
 returns-in_err-answer_query-clause-turn g c = record {
-  turn = λ begun bytes a. let left = (g.S.Source.at c.args.input.now).left in
+  turn = λ begun told a. let left = (g.S.Source.at c.args.input.now).left in
       let read = c.in-Some.ensures.query (c.args.answered + 1) left in
       let said = c.in_err-answer_query.ensures.answer (run begun.start a.requests).0 a.stands in
-      let first = first_line a.rest read.0 _ read.2
-      (subst (λ (u : Option (List ℕ)). Reads u (read.0 ++ 10 ∷ []) (unread c.next_query.new.reader left)) a.unread_is
-      read.3) in
+      let first = first_line read.0 _ _ read.2 read.3 in
       let halt = c.in_err-answer_query.field-0.0 in
-      turn_halts begun.start _ _ _ bytes c.args.answered _ _ left c.answer_query.new.self.waiting.items begun.held
+      turn_halts begun.start _ _ _ told c.args.answered _ _ left c.answer_query.new.self.waiting.items begun.held
       (g.K.Sink.at c.answer_query.new.out).held c.from_residual.result halt
       (handed_on c.from_residual.result halt c.from_residual.ensures.1)
       (answering_halts begun.start _ _ _ _
-      halt bytes read.0 first.0 (Ask c.in-Some.query) c.args.answered c.args.self.now.store.core
-      c.answer_query.new.self.store.core _ left _ _ begun.held _ _ c.requires.few read.1 a first.1 said
+      halt told read.0 (Ask c.in-Some.query) c.args.answered c.args.self.now.store.core
+      c.answer_query.new.self.store.core _ left _ _ begun.held _ _ c.requires.few read.1 a first said
       (λ is. c.in_err-answer_query.ensures.kept (ap Err is) (run begun.start a.requests).0 a.stands)
       (c.in_err-answer_query.ensures.past begun a.requests a.passed));
   few = λ before h. let left = (g.S.Source.at c.args.input.now).left in
@@ -48,9 +46,9 @@ returns-in_err-answer_query-clause-turn g c = record {
 
 pub returns-clause-turn : goal.returns-clause-turn
 returns-clause-turn g c = record {
-  turn = λ begun bytes a. let left = (g.S.Source.at c.args.input.now).left in
-      c.turn_at.ensures.turn.turn begun bytes
-      (subst (λ (taken : List ℕ). HasAnswered g.D.Disk.at begun bytes c.args.answered
+  turn = λ begun told a. let left = (g.S.Source.at c.args.input.now).left in
+      c.turn_at.ensures.turn.turn begun told
+      (subst (λ (taken : List ℕ). HasAnswered g.D.Disk.at begun told c.args.answered
       (run_at c.args.self.now.store taken c.args.self.now.waiting.items left (g.K.Sink.at c.args.out.now)))
       (sym (c.in_default.ensures.stays refl)) a);
   few = λ before h. let left = (g.S.Source.at c.args.input.now).left in

@@ -1,0 +1,32 @@
+-- What an exit status says by itself, whatever the words ask for. It follows from the top call's
+-- clause (`laws`).
+use Rattle.std.specs.Prelude.{ℕ, ◌≡◌, ◌≢◌, ◌≤◌, ◌↔◌, IsSome}
+use Rattle.liq_outside.specs.At.{DiskAt, SinkAt, SourceAt}
+use Rattle.liq_outside.specs.Disk.{GoesOn}
+use Rattle.liq_outside.specs.Faults.{Rose}
+use Rattle.liq_store.specs.Causes.{Faults, OneRose, counts_of}
+use Rattle.liq_ends.specs.Outside.{Outside}
+
+-- The arguments are those of `Ends`.
+module _
+    {S K D : Type 0} (source_at : S → SourceAt) (sink_at : K → SinkAt) (disk_at : D → DiskAt)
+    (before after : Outside S K D) where
+  abbrev pub disk_counts : Outside S K D → Faults
+  disk_counts outside = counts_of disk_at outside.left outside.right
+
+  pub record ByStatus (status : ℕ) : Type 0 where
+    pub known : status ≤ 9
+    -- a fault has its cause, and none is passed over
+    pub source_fault : status ≡ 3 → Rose (source_at before.source).faults (source_at after.source).faults
+    pub source_same : status ≢ 3 → (source_at after.source).faults ≡ (source_at before.source).faults
+    pub sink_fault : status ≡ 4 → Rose (sink_at before.sink).faults (sink_at after.sink).faults
+    pub sink_same : status ≡ 0 → (sink_at after.sink).faults ≡ (sink_at before.sink).faults
+    pub disk_fault : status ≡ 5 → OneRose (disk_counts before) (disk_counts after)
+    pub disk_same : status ≢ 5 → disk_counts after ≡ disk_counts before
+    -- a disk that told its bytes tells them afterwards, and one that told none tells none
+    pub left_telling : IsSome (disk_at after.left).seen ↔ IsSome (disk_at before.left).seen
+    pub right_telling : IsSome (disk_at after.right).seen ↔ IsSome (disk_at before.right).seen
+    -- Whatever a disk holds, time goes on for it, and what a crash may have left at a past moment
+    -- stays what it was.
+    pub left_time : GoesOn disk_at before.left after.left
+    pub right_time : GoesOn disk_at before.right after.right
