@@ -29,7 +29,8 @@ fn feed(follower: &mut Follower, read: &[u8], size: usize) {
     }
 }
 
-/// How many records a follower has that is fed the file in pieces of this size, `READ` bytes or a piece being read at once.
+/// How many records a follower has that is fed the file in pieces of this size, `READ` bytes or a
+/// piece being read at once.
 fn followed(alloc: Global, file: &File, size: usize) -> io::Result<u64> {
     let mut follower = Follower::new(alloc);
     let mut buffer = vec![in alloc; 0; size.clamp(READ, MOST)]?;

@@ -27,8 +27,8 @@ pub fn a_few<R: Print + Clock>(rt: &R, alloc: Global) -> io::Result<()> {
     println!(rt; "image: {FEW_ACCOUNTS} accounts: {length} bytes, the same again")
 }
 
-/// Microseconds for each number of accounts, the best of so many rounds, and the time of beginning with many over that with
-/// fewer.
+/// Microseconds for each number of accounts, the best of so many rounds, and the time of beginning
+/// with many over that with fewer.
 pub fn measure<R: Print + Clock>(rt: &R, alloc: Global, rounds: u64) -> io::Result<()> {
     let [fewer, many] = ACCOUNTS;
     let least = best_with(rt, alloc, fewer, rounds)?;
@@ -37,7 +37,8 @@ pub fn measure<R: Print + Clock>(rt: &R, alloc: Global, rounds: u64) -> io::Resu
     println!(rt; "many over fewer: {percent} percent to begin with")
 }
 
-/// The least microseconds that it took to begin with the image of so many accounts. Tells those of each part.
+/// The least microseconds that it took to begin with the image of so many accounts. Tells those of
+/// each part.
 fn best_with<R>(rt: &R, alloc: Global, accounts: u32, rounds: u64) -> io::Result<u128>
 where
     R: Print + Clock,
@@ -68,7 +69,8 @@ fn least_of(first: [u128; 4], second: [u128; 4]) -> [u128; 4] {
     ]
 }
 
-/// Microseconds to read a checkpoint, to begin a protocol with its image, to tell the protocol's image, and to write it.
+/// Microseconds to read a checkpoint, to begin a protocol with its image, to tell the protocol's
+/// image, and to write it.
 fn times<R: Clock>(rt: &R, alloc: Global, bytes: &[u8]) -> io::Result<[u128; 4]> {
     let start = Instant::now(rt)?;
     match decode(alloc, bytes) {

@@ -1,8 +1,10 @@
-//! Measures what a word names, so many times as the count behind it says, on this machine: `num CALLS` the numbers' costly
-//! functions, `follow SIZE` a follower that is fed the left file of the current folder in pieces of this size, `pool OFFSETS` an offset
-//! of the Stability Pool with few and with many deposits, `image ROUNDS` a checkpoint of many accounts and the protocol that begins
-//! with it, `lock TURNS` the lock beside a plain mutex. With no word it does a little of each and prints what comes of it, which is
-//! the same each time. What the built program shows too is measured by the scripts in bench/.
+//! Measures what a word names, so many times as the count behind it says, on this machine:
+//! `num CALLS` the numbers' costly functions, `follow SIZE` a follower that is fed the left file of
+//! the current folder in pieces of this size, `pool OFFSETS` an offset of the Stability Pool with
+//! few and with many deposits, `image ROUNDS` a checkpoint of many accounts and the protocol that
+//! begins with it, `lock TURNS` the lock beside a plain mutex. With no word it does a little of
+//! each and prints what comes of it, which is the same each time. What the built program shows too
+//! is measured by the scripts in bench/.
 #![tactic(auto)]
 
 mod follow;

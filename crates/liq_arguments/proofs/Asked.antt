@@ -97,8 +97,11 @@ AreRead seed count =
 are_read : (seed count : Text) → Begins seed → Begins count → AreRead seed count
 are_read seed count s c =
     subst (λ (t : Text). AreRead t count) (sym s.text_is)
-    (subst (λ (t : Text). AreRead (s.first ∷ s.rest) t) (sym c.text_is)
-    (gen_is_read s.first c.first s.rest c.rest s.no_hyphen c.no_hyphen, seed_is_read s.first c.first s.rest c.rest s.no_hyphen c.no_hyphen, count_is_read s.first c.first s.rest c.rest s.no_hyphen c.no_hyphen))
+    (subst (λ (t : Text). AreRead (s.first ∷ s.rest) t) (sym c.text_is) (
+      gen_is_read s.first c.first s.rest c.rest s.no_hyphen c.no_hyphen,
+      seed_is_read s.first c.first s.rest c.rest s.no_hyphen c.no_hyphen,
+      count_is_read s.first c.first s.rest c.rest s.no_hyphen c.no_hyphen,
+    ))
 
 word_read : (word : Word) → IsInRange word → HasRead (subcommand_of line (words_of word)) word
 word_read Run h = run_is_read
@@ -109,7 +112,8 @@ word_read State h = state_is_read
 word_read Audit h = audit_is_read
 word_read Report h = report_is_read
 word_read Follow h = follow_is_read
-word_read (Gen seed count) h = are_read (decimal seed) (decimal count) (number_begins seed h.0) (number_begins count (omega (arith, h.2)))
+word_read (Gen seed count) h = are_read (decimal seed) (decimal count) (number_begins seed h.0)
+    (number_begins count (omega (arith, h.2)))
 
 -- clap reads the word
 pub is_read : (words : List Text) (word : Word) → Ask words word → HasRead (subcommand_of line words) word
@@ -119,17 +123,20 @@ is_read words word h =
 
 -- ---- what is answered then
 
-pub no_memory : (K : Type 0) (r : Result Word WordsFault) → IsErrAnd r (λ fault. K → fault ≡ NoMemory) → K → r ≡ Err NoMemory
+pub no_memory : (K : Type 0) (r : Result Word WordsFault) → IsErrAnd r (λ fault. K → fault ≡ NoMemory) → K
+    → r ≡ Err NoMemory
 no_memory K (Ok word) h k = absurd h
 no_memory K (Err fault) h k = ap Err (h k)
 
-pub is_word : (read : Option Word) (word : Word) (r : Result Word WordsFault) → read ≡ Some word → r ≡ ok_or read Usage → r ≡ Ok word
+pub is_word : (read : Option Word) (word : Word) (r : Result Word WordsFault) → read ≡ Some word → r ≡ ok_or read Usage
+    → r ≡ Ok word
 is_word read word r found is = is ∙ ap (λ o. ok_or o Usage) found
 
 -- ---- words ask for one thing
 
 same_number : (m n : ℕ) → m < 2 ^ 64 → n < 2 ^ 64 → decimal m ≡ decimal n → m ≡ n
-same_number m n small_m small_n same = sym (decimal_is_IsNumeral m small_m).1 ∙ ap (digits_value 10) same ∙ (decimal_is_IsNumeral n small_n).1
+same_number m n small_m small_n same = sym (decimal_is_IsNumeral m small_m).1 ∙ ap (digits_value 10) same
+    ∙ (decimal_is_IsNumeral n small_n).1
 
 -- the word that stands alone under this name
 abbrev alone_of : Text → Word

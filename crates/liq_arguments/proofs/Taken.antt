@@ -71,18 +71,24 @@ pub follow_is_read : option_map (λ p. p.0) (subcommand_of line (codes "follow" 
 unfolding clap_on_literals
 follow_is_read = refl
 
-pub gen_is_taken : (a b : ℕ) (seed count : Text) → (a == 45) ≡ false → (b == 45) ≡ false → takes line (codes "gen" ∷ (a ∷ seed) ∷ (b ∷ count) ∷ []) ≡ true
+pub gen_is_taken : (a b : ℕ) (seed count : Text) → (a == 45) ≡ false → (b == 45) ≡ false
+    → takes line (codes "gen" ∷ (a ∷ seed) ∷ (b ∷ count) ∷ []) ≡ true
 unfolding clap_on_literals
 gen_is_taken a b seed count not_a not_b = simp (not_a, not_b)
 
-pub gen_is_read : (a b : ℕ) (seed count : Text) → (a == 45) ≡ false → (b == 45) ≡ false → option_map (λ p. p.0) (subcommand_of line (codes "gen" ∷ (a ∷ seed) ∷ (b ∷ count) ∷ [])) ≡ Some (codes "gen")
+pub gen_is_read : (a b : ℕ) (seed count : Text) → (a == 45) ≡ false → (b == 45) ≡ false
+    → option_map (λ p. p.0) (subcommand_of line (codes "gen" ∷ (a ∷ seed) ∷ (b ∷ count) ∷ [])) ≡ Some (codes "gen")
 unfolding clap_on_literals
 gen_is_read a b seed count not_a not_b = refl
 
-pub seed_is_read : (a b : ℕ) (seed count : Text) → (a == 45) ≡ false → (b == 45) ≡ false → option_map (λ p. first_of (codes "seed") p.1) (subcommand_of line (codes "gen" ∷ (a ∷ seed) ∷ (b ∷ count) ∷ [])) ≡ Some (Some (a ∷ seed))
+pub seed_is_read : (a b : ℕ) (seed count : Text) → (a == 45) ≡ false → (b == 45) ≡ false
+    → option_map (λ p. first_of (codes "seed") p.1) (subcommand_of line (codes "gen" ∷ (a ∷ seed) ∷ (b ∷ count) ∷ []))
+    ≡ Some (Some (a ∷ seed))
 unfolding clap_on_literals
 seed_is_read a b seed count not_a not_b = simp (not_a, not_b)
 
-pub count_is_read : (a b : ℕ) (seed count : Text) → (a == 45) ≡ false → (b == 45) ≡ false → option_map (λ p. first_of (codes "count") p.1) (subcommand_of line (codes "gen" ∷ (a ∷ seed) ∷ (b ∷ count) ∷ [])) ≡ Some (Some (b ∷ count))
+pub count_is_read : (a b : ℕ) (seed count : Text) → (a == 45) ≡ false → (b == 45) ≡ false
+    → option_map (λ p. first_of (codes "count") p.1) (subcommand_of line (codes "gen" ∷ (a ∷ seed) ∷ (b ∷ count) ∷ []))
+    ≡ Some (Some (b ∷ count))
 unfolding clap_on_literals
 count_is_read a b seed count not_a not_b = simp (not_a, not_b)

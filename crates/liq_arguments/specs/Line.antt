@@ -7,7 +7,8 @@ abbrev pub needed : Text → Rule
 needed id = record (new_rule id) { required = true }
 
 abbrev pub load : App
-load = with_rule (with_rule (new_app (codes "gen")) (needed (codes "seed"))) (needed (codes "count"))
+load = with_rule (with_rule (new_app (codes "gen")) (needed (codes "seed")))
+    (needed (codes "count"))
 
 -- without help, and without the program's name in front of the words
 abbrev pub base : App

@@ -8,8 +8,8 @@ ghost use Rattle.liq_arguments.specs.Line.{base, line, load};
 use clap::{Arg, Command};
 use std::alloc::{AllocError, Global};
 
-/// One command with a subcommand for each word. The words of the command line stand behind the program's name, and nothing is
-/// added to what they may be.
+/// One command with a subcommand for each word. The words of the command line stand behind the
+/// program's name, and nothing is added to what they may be.
 pub fn line<'a>(alloc: Global) -> Result<Command<'a>, AllocError>
     ensures { IfOk result (λ command. app_of command ≡ line) }
 {
@@ -41,7 +41,8 @@ fn with_alone<'a>(
     line: Command<'a>,
     name: &'a str,
 ) -> Result<Command<'a>, AllocError>
-    ensures { IfOk result (λ command. app_of command ≡ with_subcommand (app_of line.entry) (new_app name.entry.now).top) }
+    ensures { IfOk result (λ command. app_of command ≡ with_subcommand (app_of line.entry)
+        (new_app name.entry.now).top) }
 {
     line.subcommand(Command::new(alloc, name))
 }

@@ -22,12 +22,15 @@ pub enum WordsFault {
     NoMemory,
 }
 
-/// What the words ask for: of a number no sign and no leading zero is understood, and a count is from 1 to 1,000,000.
+/// What the words ask for: of a number no sign and no leading zero is understood, and a count is
+/// from 1 to 1,000,000.
 pub fn read_words(alloc: Global, words: &[String]) -> Result<Word, WordsFault>
     ensures word { IfOk result (Ask (map string_bytes words.now)) }
-    ensures only { (word : Word) → Ask (map string_bytes words.now) word → (result ≡ Ok word) ⊎ (result ≡ Err WordsFault.NoMemory) }
+    ensures only { (word : Word) → Ask (map string_bytes words.now) word → (result ≡ Ok word)
+        ⊎ (result ≡ Err WordsFault.NoMemory) }
     // So memory is asked for only where the words are understood.
-    ensures usage { (result ≡ Err WordsFault.Usage) ↔ ((word : Word) → Ask (map string_bytes words.now) word → ⊥) }
+    ensures usage { (result ≡ Err WordsFault.Usage) ↔ ((word : Word)
+        → Ask (map string_bytes words.now) word → ⊥) }
 {
     // clap would take more: calls for help, `--`, and other spellings of numbers.
     if !are_understood(words) {
@@ -39,7 +42,8 @@ pub fn read_words(alloc: Global, words: &[String]) -> Result<Word, WordsFault>
 
 /// What clap has read.
 fn word_of(matches: &ArgMatches) -> Option<Word>
-    ensures { (word : Word) → IsInRange word → HasRead (subcommand_rows_of matches.now) word → result ≡ Some word }
+    ensures { (word : Word) → IsInRange word → HasRead (subcommand_rows_of matches.now) word
+        → result ≡ Some word }
 {
     match matches.subcommand()? {
         ("gen", values) => gen_of(values.get_str("seed")?, values.get_str("count")?),
@@ -63,7 +67,8 @@ impl From<Error> for WordsFault {
     ghost use Rattle.clap.specs.declared.error.kind.ErrorKind.{ErrorKind};
     ghost use Rattle.liq_arguments.specs.declared.reading.WordsFault.{WordsFault};
 
-    ghost from_gives = { λ error fault. kind_of error ≡ ErrorKind.OutOfMemory → fault ≡ WordsFault.NoMemory };
+    ghost from_gives = { λ error fault. kind_of error ≡ ErrorKind.OutOfMemory
+        → fault ≡ WordsFault.NoMemory };
 
     fn from(error: Error) -> WordsFault {
         match error.kind() {

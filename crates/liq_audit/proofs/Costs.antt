@@ -19,8 +19,11 @@ ceiling_one a c some low = by (ceiling_of a 1 c) (div_ceil_times (a * 1) c (omeg
   ]
 
 -- far above the own operation it is one
-pub cost_one : (amount epoch own_epoch rise : ℕ) → 1 ≤ amount → amount < 2 ^ 64 → epoch ≡ own_epoch → 3 ≤ rise → 1 ≡ cond (not (amount == 0) && epoch == own_epoch) (ceiling_of amount 1 (10 ^ (9 * rise))) 0
+pub cost_one : (amount epoch own_epoch rise : ℕ) → 1 ≤ amount → amount < 2 ^ 64 → epoch ≡ own_epoch → 3 ≤ rise
+    → 1 ≡ cond (not (amount == 0) && epoch == own_epoch) (ceiling_of amount 1 (10 ^ (9 * rise))) 0
 cost_one amount epoch own_epoch rise some low same far =
     let test : (not (amount == 0) && epoch == own_epoch) ≡ true = grind (arith, nat_tests, some, same) in
-    let high : 10 ^ 27 ≤ 10 ^ (9 * rise) = pow-le-pow_right {n = 10} (omega arith) {i = 27} {j = 9 * rise} (omega arith) in
-    sym (ap (λ b. cond b (ceiling_of amount 1 (10 ^ (9 * rise))) 0) test ∙ ceiling_one amount (10 ^ (9 * rise)) some (omega arith))
+    let high : 10 ^ 27 ≤ 10 ^ (9 * rise) = pow-le-pow_right {n = 10} (omega arith) {i = 27} {j = 9 * rise}
+    (omega arith) in
+    sym (ap (λ b. cond b (ceiling_of amount 1 (10 ^ (9 * rise))) 0) test
+    ∙ ceiling_one amount (10 ^ (9 * rise)) some (omega arith))

@@ -1,5 +1,5 @@
 pub mod Auditing
 pub mod Costs
-pub mod Enclosing
+mod Enclosing
 pub mod Fitting
-pub mod Watchers
+mod Watchers

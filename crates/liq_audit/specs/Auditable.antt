@@ -18,18 +18,21 @@ use Rattle.liq_audit.specs.Enclosure.{enclosed}
 -- the words that the offsets of events leave
 abbrev pub word_after : ScaledProduct → PoolEvent → ScaledProduct
 word_after w (event.Own owner put paid gain amount) = w
-word_after w (event.Offset debt coll total rise) = after_offset w (record { debt = debt; coll = coll; total = total })
+word_after w (event.Offset debt coll total rise) =
+    after_offset w (record { debt = debt; coll = coll; total = total })
 
 abbrev pub words_along : List PoolEvent → ScaledProduct
 words_along events = fold word_after opening_words events
 
 -- after these events the plain balances of all accounts add up to so much
 abbrev pub AddUpTo : List PoolEvent → ℕ → Type 0
-AddUpTo events total = (n : ℕ) → AreOwnedBelow n events → over_accounts n (λ account. (exact_share account events).bal) ≡ total * den_of events
+AddUpTo events total = (n : ℕ) → AreOwnedBelow n events
+    → over_accounts n (λ account. (exact_share account events).bal) ≡ total * den_of events
 
 -- or at most to so much
 abbrev pub AddUpWithin : List PoolEvent → ℕ → Type 0
-AddUpWithin events most = (n : ℕ) → AreOwnedBelow n events → over_accounts n (λ account. (exact_share account events).bal) ≤ most * den_of events
+AddUpWithin events most = (n : ℕ) → AreOwnedBelow n events
+    → over_accounts n (λ account. (exact_share account events).bal) ≤ most * den_of events
 
 -- an offset, after the events before it
 pub record IsAuditableOffset (before : List PoolEvent) (debt coll total rise : ℕ) : Type 0 where
@@ -37,16 +40,22 @@ pub record IsAuditableOffset (before : List PoolEvent) (debt coll total rise : �
   pub within : debt ≤ total
   pub limit : total ≤ LIM
   pub total_is : AddUpTo before total
-  pub rise_is : rise ≡ rise_of (words_along before).p (record { debt = debt; coll = coll; total = total })
+  pub rise_is : rise ≡ rise_of (words_along before).p (record {
+    debt = debt;
+    coll = coll;
+    total = total;
+  })
 
 abbrev pub IsAuditableEvent : List PoolEvent → PoolEvent → Type 0
 IsAuditableEvent before (event.Own owner put paid gain amount) = Unit {0}
-IsAuditableEvent before (event.Offset debt coll total rise) = IsAuditableOffset before debt coll total rise
+IsAuditableEvent before (event.Offset debt coll total rise) =
+    IsAuditableOffset before debt coll total rise
 
 -- each event, after those before it
 abbrev pub AreAuditable : List PoolEvent → List PoolEvent → Type 0
 AreAuditable before [] = Unit {0}
-AreAuditable before (e ∷ es) = IsAuditableEvent before e × AddUpWithin (before ++ e ∷ []) LIM × AreAuditable (before ++ e ∷ []) es
+AreAuditable before (e ∷ es) = IsAuditableEvent before e × AddUpWithin (before ++ e ∷ []) LIM
+    × AreAuditable (before ++ e ∷ []) es
 
 pub record IsAuditable (events : List PoolEvent) : Type 0 where
   pub each : AreAuditable [] events
@@ -80,7 +89,10 @@ offsets_in events = count_by is_offset events
 abbrev pub limit_passed : List PoolEvent → Option (ℕ × ℕ)
 limit_passed events =
     if nat_lt OFFSETS_MOST (offsets_in events) then Some (offsets_in events, OFFSETS_MOST)
-    else if nat_lt ACCOUNTS_MOST (length (owners_of events)) then Some (length (owners_of events), ACCOUNTS_MOST)
+    else if nat_lt ACCOUNTS_MOST (length (owners_of events)) then Some (
+      length (owners_of events),
+      ACCOUNTS_MOST,
+    )
     else None
 
 -- ---- its rows
@@ -103,14 +115,19 @@ row_of events engine =
 
 -- a row encloses the exact share, and carries the allowances
 pub record EnclosesShare (events : List PoolEvent) (row : Row) : Type 0 where
-  pub balance_lo : row.balance_lo * (exact_share row.account events).den ≤ (exact_share row.account events).bal
-  pub balance_hi : (exact_share row.account events).bal ≤ row.balance_hi * (exact_share row.account events).den
-  pub gain_lo : row.gain_lo * (exact_share row.account events).den ≤ (exact_share row.account events).gain
-  pub gain_hi : (exact_share row.account events).gain ≤ row.gain_hi * (exact_share row.account events).den
+  pub balance_lo : row.balance_lo * (exact_share row.account events).den
+      ≤ (exact_share row.account events).bal
+  pub balance_hi : (exact_share row.account events).bal
+      ≤ row.balance_hi * (exact_share row.account events).den
+  pub gain_lo : row.gain_lo * (exact_share row.account events).den
+      ≤ (exact_share row.account events).gain
+  pub gain_hi : (exact_share row.account events).gain
+      ≤ row.gain_hi * (exact_share row.account events).den
   pub balance_allow : row.balance_allow ≡ balance_allowance row.account events
   pub gain_allow : row.gain_allow ≡ gain_allowance row.account events
 
--- what the protocol gives an account is not above the enclosure, and below it by no more than the allowance
+-- what the protocol gives an account is not above the enclosure, and below it by no more than the
+-- allowance
 pub record IsWithinRow (row : Row) : Type 0 where
   pub balance_hi : row.balance ≤ row.balance_hi
   pub balance_lo : row.balance_lo ≤ row.balance + row.balance_allow

@@ -1,4 +1,5 @@
--- Whole numbers between which an account's exact share lies: one side rounds every quotient down, the other up.
+-- Whole numbers between which an account's exact share lies: one side rounds every quotient down,
+-- the other up.
 use Rattle.std.specs.Prelude.{ℕ, ◌+◌, ◌-◌, ◌*◌, ◌^◌, ◌==◌, ◌<◌, ◌≤◌, List, fold, if◌then◌else◌}
 use Rattle.std.specs.List.{AllByRecursion}
 use Rattle.liq_num.specs.Quotient.{floor_of, ceiling_of}
@@ -44,7 +45,8 @@ abbrev pub HasParts : PoolEvent → Type 0
 HasParts (Own owner put paid gain amount) = Unit {0}
 HasParts (Offset debt coll total rise) = (0 < total) × (debt ≤ total)
 
--- no balance is above all that there may be by more than one for each of 2^40 events, and no gain above that for each gwei
+-- no balance is above all that there may be by more than one for each of 2^40 events, and no gain
+-- above that for each gwei
 pub record IsSmall (e : Enclosure) : Type 0 where
   pub balance_lo : e.balance_lo < 11 * 10 ^ 18
   pub balance_hi : e.balance_hi < 11 * 10 ^ 18

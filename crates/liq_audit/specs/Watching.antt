@@ -6,17 +6,31 @@ use Rattle.liq_types.specs.Allowance.{cost_of}
 use Rattle.liq_audit.specs.declared.watcher.Watcher.{Watcher}
 
 abbrev pub nothing_watched : Watcher
-nothing_watched = record { scale = 0; epoch = 0; amount = 0; own_scale = 0; own_epoch = 0; weight = 0; own_events = 0 }
+nothing_watched = record {
+  scale = 0;
+  epoch = 0;
+  amount = 0;
+  own_scale = 0;
+  own_epoch = 0;
+  weight = 0;
+  own_events = 0;
+}
 
 -- what an offset may cost the account now
 abbrev pub cost_now : Watcher → ℕ
 cost_now v = cost_of v.amount (v.own_epoch, v.own_scale) (v.epoch, v.scale)
 
--- An own operation of the account counts from the place of now on. An offset costs, and moves the place as it says.
+-- An own operation of the account counts from the place of now on. An offset costs, and moves the
+-- place as it says.
 abbrev pub watcher_after : ℕ → Watcher → PoolEvent → Watcher
 watcher_after account v (event.Own owner put paid gain left) =
     if owner == account
-    then record v { amount = left; own_scale = v.scale; own_epoch = v.epoch; own_events = v.own_events + 1 }
+    then record v {
+      amount = left;
+      own_scale = v.scale;
+      own_epoch = v.epoch;
+      own_events = v.own_events + 1;
+    }
     else v
 watcher_after account v (event.Offset debt coll total rise) =
     record v {

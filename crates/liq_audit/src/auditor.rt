@@ -7,11 +7,12 @@ use crate::watcher::Watcher;
 use liq_types::PoolEvent;
 use std::alloc::Global;
 
-/// One row for each account with an own operation, ascending: its exact share between whole numbers, what the protocol gives
-/// it, and by how much that may fall short. `engine` has these accounts, each once and ascending.
+/// One row for each account with an own operation, ascending: its exact share between whole
+/// numbers, what the protocol gives it, and by how much that may fall short. `engine` has these
+/// accounts, each once and ascending.
 ///
-/// `AuditLimit` comes exactly where there are more than [`OFFSETS_MOST`] offsets or, tested second, more than
-/// [`ACCOUNTS_MOST`] accounts.
+/// `AuditLimit` comes exactly where there are more than [`OFFSETS_MOST`] offsets or, tested second,
+/// more than [`ACCOUNTS_MOST`] accounts.
 pub fn audit(
     alloc: Global,
     events: &[PoolEvent],
@@ -21,8 +22,10 @@ pub fn audit(
     requires accounts { accounts_of engine.now ≡ owners_of events.now }
     ensures rows { IfOk result (λ rows. rows.items ≡ map (row_of events.now) engine.now) }
     ensures shares { IfOk result (λ rows. All (EnclosesShare events.now) rows.items) }
-    ensures limit { (passed : ℕ × ℕ) → limit_passed events.now ≡ Some passed → result ≡ Err (AuditFault.AuditLimit passed.0 passed.1) }
-    ensures no_limit { limit_passed events.now ≡ None → IfErr result (λ fault. fault ≡ AuditFault.NoMemory) }
+    ensures limit { (passed : ℕ × ℕ) → limit_passed events.now ≡ Some passed
+        → result ≡ Err (AuditFault.AuditLimit passed.0 passed.1) }
+    ensures no_limit { limit_passed events.now ≡ None
+        → IfErr result (λ fault. fault ≡ AuditFault.NoMemory) }
 {
     within_limits(events, engine)?;
     let Ok(mut rows) = Vec::with_capacity(alloc, engine.len()) else {
@@ -39,7 +42,8 @@ pub fn audit(
 fn within_limits(events: &[PoolEvent], engine: &[EngineRow]) -> Result<(), AuditFault>
     requires few { length events.now < 2 ^ 40 }
     requires accounts { accounts_of engine.now ≡ owners_of events.now }
-    ensures limit { (passed : ℕ × ℕ) → limit_passed events.now ≡ Some passed → result ≡ Err (AuditFault.AuditLimit passed.0 passed.1) }
+    ensures limit { (passed : ℕ × ℕ) → limit_passed events.now ≡ Some passed
+        → result ≡ Err (AuditFault.AuditLimit passed.0 passed.1) }
     ensures no_limit { limit_passed events.now ≡ None → IsOk result }
     ensures offsets { OnOk result (offsets_in events.now ≤ OFFSETS_MOST) }
 {

@@ -4,7 +4,8 @@ ghost use Rattle.liq_audit.specs.Enclosure.{enclosure_after, enclosure_shared, n
 use liq_num::{mul_div, mul_div_up};
 use liq_types::PoolEvent;
 
-/// Whole numbers between which an account's exact share lies: the balance in micro-LUSD, the gain in gwei.
+/// Whole numbers between which an account's exact share lies: the balance in micro-LUSD, the gain
+/// in gwei.
 #[derive(Clone, Copy)]
 pub struct Enclosure {
     pub balance_lo: u128,
@@ -57,7 +58,10 @@ impl Enclosure {
     /// After LUSD was put in and paid out; not below 0.
     fn moved(self, put: u64, paid: u64) -> Enclosure
         requires { IsSmall self }
-        ensures { result ≡ record self { balance_lo = self.balance_lo + put - paid; balance_hi = self.balance_hi + put - paid } }
+        ensures { result ≡ record self {
+          balance_lo = self.balance_lo + put - paid;
+          balance_hi = self.balance_hi + put - paid;
+        } }
     {
         Enclosure {
             balance_lo: (self.balance_lo + u128::from(put)).saturating_sub(u128::from(paid)),

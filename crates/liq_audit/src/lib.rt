@@ -1,5 +1,5 @@
-//! The audit: whole numbers that enclose each account's exact share of the Stability Pool, and by how much the pool's own
-//! balances and gains may fall short of it.
+//! The audit: whole numbers that enclose each account's exact share of the Stability Pool, and by
+//! how much the pool's own balances and gains may fall short of it.
 #![tactic(auto)]
 
 mod auditor;

@@ -7,7 +7,8 @@ pub const OFFSETS_MOST: u64 = 10_000;
 /// The most accounts that an audit takes.
 pub const ACCOUNTS_MOST: u64 = 1_000;
 
-/// What the protocol gives an account: its balance in micro-LUSD, and in gwei what it gained, paid out or not.
+/// What the protocol gives an account: its balance in micro-LUSD, and in gwei what it gained, paid
+/// out or not.
 #[derive(Clone, Copy)]
 pub struct EngineRow {
     pub account: u32,
@@ -15,7 +16,8 @@ pub struct EngineRow {
     pub gain: u64,
 }
 
-/// An account's exact share between whole numbers, and what the protocol gives it. Balances are in micro-LUSD, gains in gwei.
+/// An account's exact share between whole numbers, and what the protocol gives it. Balances are in
+/// micro-LUSD, gains in gwei.
 #[derive(Clone, Copy)]
 pub struct Row {
     pub account: u32,

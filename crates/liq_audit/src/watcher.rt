@@ -15,7 +15,8 @@ pub struct Watcher {
     /// The scale and the epoch of now.
     pub scale: u64,
     pub epoch: u64,
-    /// The amount recorded by the account's last own operation, in micro-LUSD, and the scale and the epoch of then.
+    /// The amount recorded by the account's last own operation, in micro-LUSD, and the scale and
+    /// the epoch of then.
     pub amount: u64,
     pub own_scale: u64,
     pub own_epoch: u64,
@@ -70,7 +71,12 @@ impl Watcher {
     /// After an own operation of the account, which leaves this amount.
     fn owned(self, amount: u64) -> Watcher
         requires { self.own_events < 2 ^ 41 }
-        ensures { result ≡ record self { amount = amount; own_scale = self.scale; own_epoch = self.epoch; own_events = self.own_events + 1 } }
+        ensures { result ≡ record self {
+          amount = amount;
+          own_scale = self.scale;
+          own_epoch = self.epoch;
+          own_events = self.own_events + 1;
+        } }
     {
         Watcher {
             amount,

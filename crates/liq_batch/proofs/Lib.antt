@@ -1,4 +1,4 @@
-pub mod Batching
-pub mod Lining
-pub mod Numbered
-pub mod Ways
+mod Batching
+mod Lining
+mod Numbered
+mod Ways

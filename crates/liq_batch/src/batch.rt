@@ -20,7 +20,8 @@ pub struct Command96 {
 #[repr(C)]
 #[derive(Clone, Copy)]
 pub struct Query64 {
-    /// What is asked: 1 a wallet, 2 a trove, 3 a deposit, 4 the pools, 5 the system, 6 a client's next number.
+    /// What is asked: 1 a wallet, 2 a trove, 3 a deposit, 4 the pools, 5 the system, 6 a client's
+    /// next number.
     pub topic: u32,
     /// Of which account or client; 0 where none is asked about.
     pub account: u32,

@@ -9,8 +9,9 @@ use liq_market::Market;
 use liq_replies96::{Reply96, encode};
 use liq_types::{Reply, Request};
 
-/// Answers commands in order, as long as there are places for replies. It stops at the first that is none, or for which
-/// there is no memory: that one changes nothing, and the reply in its place says why. Behind it no place is written.
+/// Answers commands in order, as long as there are places for replies. It stops at the first that
+/// is none, or for which there is no memory: that one changes nothing, and the reply in its place
+/// says why. Behind it no place is written.
 pub fn do_all(market: &mut Market, commands: &[Command96], replies: &mut [Reply96]) -> Batch
     ensures { (s : State) → StandsFor market.old.core s → Answered doing
         s commands.now result market.old market.new replies.old replies.new }

@@ -38,8 +38,9 @@ pub struct Lines {
     pub fault: Option<LineFault>,
 }
 
-/// Answers the lines of a text, each by a line, as long as [`LINE_MOST`] bytes are left in `out`. It stops at the first
-/// line that spells no request or for which there is no memory. What stands behind the last line end is left.
+/// Answers the lines of a text, each by a line, as long as [`LINE_MOST`] bytes are left in `out`.
+/// It stops at the first line that spells no request or for which there is no memory. What stands
+/// behind the last line end is left.
 pub fn answer_lines(alloc: Global, market: &mut Market, text: &[u8], out: &mut [u8]) -> Lines
     ensures { (s : State) → StandsFor market.old.core s
         → AnsweredText s text.now result market.old market.new out.old out.new }

@@ -9,9 +9,9 @@ use liq_market::Market;
 use liq_replies96::{Reply96, encode};
 use liq_types::Reply;
 
-/// Gives the reply that each command would have if it came alone, as long as there are places for replies. Nothing
-/// changes. It stops where [`do_all`](crate::do_all) would: but memory is wanted only for a command for which a list of
-/// troves is planned.
+/// Gives the reply that each command would have if it came alone, as long as there are places for
+/// replies. Nothing changes. It stops where [`do_all`](crate::do_all) would: but memory is wanted
+/// only for a command for which a list of troves is planned.
 pub fn preview_all(market: &Market, commands: &[Command96], replies: &mut [Reply96]) -> Batch
     ensures { (s : State) → StandsFor market.now.core s → Answered previewing
         s commands.now result market.now market.now replies.old replies.new }

@@ -11,8 +11,8 @@ use liq_market::Market;
 use liq_replies96::{Reply96, encode};
 use liq_types::{Query, Reply};
 
-/// Answers queries in order, as long as there are places for replies. Nothing changes. It stops at the first that is
-/// none: the reply in its place says why, and behind it no place is written.
+/// Answers queries in order, as long as there are places for replies. Nothing changes. It stops at
+/// the first that is none: the reply in its place says why, and behind it no place is written.
 pub fn ask_all(market: &Market, queries: &[Query64], replies: &mut [Reply96]) -> Batch
     ensures { (s : State) → StandsFor market.now.core s → Answered asking
         s queries.now result market.now market.now replies.old replies.new }

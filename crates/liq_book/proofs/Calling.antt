@@ -38,10 +38,16 @@ use Rattle.liq_book.proofs.Pasts.{begins_past, forgets_past, requests_more}
 use Rattle.liq_types.proofs.Tests.{value_of}
 
 -- a session has no more entries than there are
-pub own_few : (session : ℕ) (entries : List Entry) → length (own_entries session (map recorded entries)) ≤ length entries
+pub own_few : (session : ℕ) (entries : List Entry) → length (own_entries session (map recorded entries))
+    ≤ length entries
 own_few session entries =
     let p : history.Entry → Bool = λ (e : history.Entry). e.session == session in
-    omega (arith, length-filter p (map recorded entries), count_by-le-length p (map recorded entries), length-map entries recorded)
+    omega (
+      arith,
+      length-filter p (map recorded entries),
+      count_by-le-length p (map recorded entries),
+      length-map entries recorded,
+    )
 
 -- a store that answers otherwise was not stopped
 pub goes : (stopped : Option ℕ) → ((sum : ℕ) → stopped ≡ Some sum → ⊥) → stopped ≡ None
@@ -54,12 +60,14 @@ a_command s (Do c) is = (c, refl)
 a_command s (Ask query) is = absurd is
 
 -- a book whose store goes on has no halt
-pub no_halt : (halt : Option Halt) (stopped : Option ℕ) → stopped ≡ option_map (λ h. h.faults) halt → stopped ≡ None → halt ≡ None
+pub no_halt : (halt : Option Halt) (stopped : Option ℕ) → stopped ≡ option_map (λ h. h.faults) halt → stopped ≡ None
+    → halt ≡ None
 no_halt None stopped is none = refl
 no_halt (Some halt) stopped is none = absurd (let e : Some halt.faults ≡ None = sym is ∙ none in cc)
 
 -- one whose store is stopped has a halt, with the faults that are told
-a_halt : (halt : Option Halt) (stopped : Option ℕ) (sum : ℕ) → stopped ≡ option_map (λ h. h.faults) halt → stopped ≡ Some sum → IsSomeAnd halt (λ h. h.faults ≡ sum)
+a_halt : (halt : Option Halt) (stopped : Option ℕ) (sum : ℕ) → stopped ≡ option_map (λ h. h.faults) halt
+    → stopped ≡ Some sum → IsSomeAnd halt (λ h. h.faults ≡ sum)
 a_halt None stopped sum is some = absurd (let e : Some sum ≡ None = sym some ∙ is in cc)
 a_halt (Some halt) stopped sum is some = let e : Some halt.faults ≡ Some sum = sym is ∙ some in cc
 
@@ -154,18 +162,24 @@ module _ {D : Type 0} (at : D → DiskAt) where
         → Booking old entries halt → length entries < ENTRIES_MOST
         → length (own_entries session (map recorded entries)) ≡ calls
         → old.stopped ≡ None → IsInOrder at old → Called old request (answer.Reply reply) new
-        → Booking new (entries ++ record { session = session; index = calls + 1; request = request; reply = reply } ∷ []) halt
+        → Booking new (entries ++ record { session = session; index = calls + 1; request = request; reply = reply }
+        ∷ []) halt
     enters old new entries halt request reply session calls b few counted going ordered c =
         let e : Entry = record { session = session; index = calls + 1; request = request; reply = reply } in
         let s : State = state_after base (map recorded entries) in
         let none : halt ≡ None = no_halt halt old.stopped b.halt going in
         let step = c.step_is going s b.state in
-        let all : map recorded (entries ++ e ∷ []) ≡ map recorded entries ++ recorded e ∷ [] = map-append recorded entries (e ∷ []) in
-        let stands : StandsFor new.core (state_after base (map recorded (entries ++ e ∷ []))) = rw (all, state-snoc base (map recorded entries) (recorded e)) step.0 in
+        let all : map recorded (entries ++ e ∷ []) ≡ map recorded entries ++ recorded e ∷ [] =
+        map-append recorded entries (e ∷ []) in
+        let stands : StandsFor new.core (state_after base (map recorded (entries ++ e ∷ []))) =
+        rw (all, state-snoc base (map recorded entries) (recorded e)) step.0 in
         let still : new.stopped ≡ None = c.stops ∙ going in
         subst (λ (h : Option Halt). Booking new (entries ++ e ∷ []) h) (sym none) (record {
           few = omega (arith, length-append entries (e ∷ []), few);
-          legal = rw all (legal-snoc base (map recorded entries) (recorded e) b.legal (record { reply_is = sym step.1; index_is = ap (λ n. n + 1) (sym counted) }));
+          legal = rw all (legal-snoc base (map recorded entries) (recorded e) b.legal (record {
+            reply_is = sym step.1;
+            index_is = ap (λ n. n + 1) (sym counted);
+          }));
           state = stands;
           halt = still;
           keeps = going_keeps new (state_after base (map recorded (entries ++ e ∷ []))) c.order still stands;
@@ -178,7 +192,8 @@ module _ {D : Type 0} (at : D → DiskAt) where
               (λ l r told_left told_right.
               goes_on at may_stay (since_origin left_origin right_origin) l r base
               (requests_of (map recorded entries)) old new
-              (past_of old entries halt none b l r told_left told_right) ordered request reply still (c.step_is going) c.disks);
+              (past_of old entries halt none b l r told_left told_right) ordered request reply still (c.step_is going)
+              c.disks);
         })
 
     -- without memory nothing happened
@@ -202,7 +217,8 @@ module _ {D : Type 0} (at : D → DiskAt) where
           past = λ l r told_left told_right.
               waits at may_stay (since_origin left_origin right_origin) l r base
               (requests_of (map recorded entries)) old new
-              (past_of old entries halt none b l r told_left told_right) ordered request still (c.step_is going) c.disks;
+              (past_of old entries halt none b l r told_left told_right) ordered request still (c.step_is going)
+              c.disks;
         })
 
     -- a fault of a disk is the halt
@@ -257,28 +273,37 @@ module _ {D : Type 0} (at : D → DiskAt) where
       going_on (answer.Reply reply) is going = absurd (no_reply reply is)
       going_on answer.NoMemory is going = stays old new entries halt request b going ordered (rw is at c)
       going_on answer.DiskFault is going = absurd (no_fault is)
-      going_on (answer.Stopped faults) is going = absurd (rw is at (c.step_is going (state_after base (map recorded entries)) b.state))
-      going_on (answer.HistoryFull most) is going = absurd (rw is at (c.step_is going (state_after base (map recorded entries)) b.state))
+      going_on (answer.Stopped faults) is going =
+          absurd (rw is at (c.step_is going (state_after base (map recorded entries)) b.state))
+      going_on (answer.HistoryFull most) is going =
+          absurd (rw is at (c.step_is going (state_after base (map recorded entries)) b.state))
 
       by_stop : (o : Option ℕ) → old.stopped ≡ o → Booking new entries halt
       by_stop None is = going_on a refl is
       by_stop (Some sum) is = rw ((c.stopped sum is).1) b
 
     -- what any other answer says of the book
-    pub others_answer : (first old new : Stored D) (entries : List Entry) (halt : Option Halt) (request : Request) (a : Answer) (session calls : ℕ)
+    pub others_answer : (first old new : Stored D) (entries : List Entry) (halt : Option Halt) (request : Request)
+        (a : Answer) (session calls : ℕ)
         → Booking old entries halt → Called old request a new → length entries < ENTRIES_MOST
         → ((reply : Reply) → a ≡ answer.Reply reply → ⊥) → (a ≡ answer.DiskFault → ⊥)
-        → Enters base session calls request a (record { store = first; entries = entries; halt = halt }) (record { store = new; entries = entries; halt = halt }) × IsTestedFirst entries a
-    others_answer first old new entries halt request a session calls b c few no_reply no_fault = by_stop old.stopped refl where
-      going_on : (a' : Answer) → a ≡ a' → old.stopped ≡ None
-          → Enters base session calls request a' (record { store = first; entries = entries; halt = halt }) (record { store = new; entries = entries; halt = halt }) × IsTestedFirst entries a'
-      going_on (answer.Reply reply) is going = absurd (no_reply reply is)
-      going_on answer.NoMemory is going = ((refl, refl), few)
-      going_on answer.DiskFault is going = absurd (no_fault is)
-      going_on (answer.Stopped faults) is going = absurd (rw is at (c.step_is going (state_after base (map recorded entries)) b.state))
-      going_on (answer.HistoryFull most) is going = absurd (rw is at (c.step_is going (state_after base (map recorded entries)) b.state))
+        → Enters base session calls request a (record { store = first; entries = entries; halt = halt })
+        (record { store = new; entries = entries; halt = halt }) × IsTestedFirst entries a
+    others_answer first old new entries halt request a session calls b c few no_reply no_fault =
+        by_stop old.stopped refl where
+          going_on : (a' : Answer) → a ≡ a' → old.stopped ≡ None
+              → Enters base session calls request a' (record { store = first; entries = entries; halt = halt })
+              (record { store = new; entries = entries; halt = halt }) × IsTestedFirst entries a'
+          going_on (answer.Reply reply) is going = absurd (no_reply reply is)
+          going_on answer.NoMemory is going = ((refl, refl), few)
+          going_on answer.DiskFault is going = absurd (no_fault is)
+          going_on (answer.Stopped faults) is going =
+              absurd (rw is at (c.step_is going (state_after base (map recorded entries)) b.state))
+          going_on (answer.HistoryFull most) is going =
+              absurd (rw is at (c.step_is going (state_after base (map recorded entries)) b.state))
 
-      by_stop : (o : Option ℕ) → old.stopped ≡ o
-          → Enters base session calls request a (record { store = first; entries = entries; halt = halt }) (record { store = new; entries = entries; halt = halt }) × IsTestedFirst entries a
-      by_stop None is = going_on a refl is
-      by_stop (Some sum) is = rw ((c.stopped sum is).0) (((refl, refl), a_halt halt old.stopped sum b.halt is), few)
+          by_stop : (o : Option ℕ) → old.stopped ≡ o
+              → Enters base session calls request a (record { store = first; entries = entries; halt = halt })
+              (record { store = new; entries = entries; halt = halt }) × IsTestedFirst entries a
+          by_stop None is = going_on a refl is
+          by_stop (Some sum) is = rw ((c.stopped sum is).0) (((refl, refl), a_halt halt old.stopped sum b.halt is), few)

@@ -1,9 +1,9 @@
-pub mod Batches
-pub mod Calling
+mod Batches
+mod Calling
 pub mod Chronicles
 pub mod Gathering
-pub mod Learning
+mod Learning
 pub mod Pasts
 mod Seating
-pub mod Telling
-pub mod Unentered
+mod Telling
+mod Unentered

@@ -66,16 +66,17 @@ module _ {D : Type 0} (at : D → DiskAt) (left_origin right_origin : DiskAt) wh
   pub forgets_past :
       (base : State) (requests : List Request) (halt : Option Halt) (store : Stored D) (changes : List ListChange)
       → Keeps base requests halt store → Keeps base requests halt (record store { changes = changes })
-  forgets_past base requests None store changes past = λ l r told_left told_right. let earlier = past l r told_left told_right in record {
-    kept = earlier.kept;
-    going = earlier.going;
-    stands = earlier.stands;
-    left_tells = earlier.left_tells;
-    right_tells = earlier.right_tells;
-    later = earlier.later;
-    leaves = earlier.leaves;
-    aside = earlier.aside;
-  }
+  forgets_past base requests None store changes past = λ l r told_left told_right. let earlier =
+      past l r told_left told_right in record {
+        kept = earlier.kept;
+        going = earlier.going;
+        stands = earlier.stands;
+        left_tells = earlier.left_tells;
+        right_tells = earlier.right_tells;
+        later = earlier.later;
+        leaves = earlier.leaves;
+        aside = earlier.aside;
+      }
   forgets_past base requests (Some halt) store changes past = past
 
   module _ (may_stay : (disk : D) (held : List ℕ) → (at disk).seen ≡ Some held → LeftNow at disk held) where

@@ -9,8 +9,14 @@ use Rattle.liq_book.specs.declared.seat.BookSeat.{BookSeat}
 use Rattle.liq_book.specs.Seats.{AreSeated, IsNewSeat}
 
 -- one more seat behind those that are seated
-pub seated_more : {T O : Type 0} {o : Ghosts O} (lock : Lock T Item) (front all : List (BookSeat O o)) (seat : BookSeat O o) → all ≡ front ++ seat ∷ [] → AreSeated lock front → IsNewSeat lock (length front + 1) seat → AreSeated lock all
+pub seated_more : {T O : Type 0} {o : Ghosts O} (lock : Lock T Item) (front all : List (BookSeat O o))
+    (seat : BookSeat O o) → all ≡ front ++ seat ∷ [] → AreSeated lock front → IsNewSeat lock (length front + 1) seat
+    → AreSeated lock all
 seated_more lock front all seat are before here k d within =
     below_more (λ j. IsNewSeat lock (j + 1) (get_or all j d)) (length front)
     (λ j less. rw (are, get_or_append_left front (seat ∷ []) d j less) (before j d less))
-    (rw (are, get_or_push front seat d (length front) refl) here) k (omega (arith, ap length are, length-append front (seat ∷ [])))
+    (rw (are, get_or_push front seat d (length front) refl) here) k (omega (
+      arith,
+      ap length are,
+      length-append front (seat ∷ []),
+    ))

@@ -50,7 +50,8 @@ pub in_order : (core : Core) (s : State) → IsSoundImage core.image core.record
 in_order core s sound stands = tables_of s (subst (λ (i : Image). HasTables i) stands.image sound.tables)
 
 -- what is told of a request leads to the view after its step
-leads : (s : State) (request : Request) → IsWellFormed s → TablesAscend s → all_followed (view_of s) (told_of s request) ≡ view_of (step s request).0
+leads : (s : State) (request : Request) → IsWellFormed s → TablesAscend s → all_followed (view_of s) (told_of s request)
+    ≡ view_of (step s request).0
 leads s (Do c) w h = by (ruling s c) where
   by : (r : Ruling) → all_followed (view_of s) (told_by r (call_changes s c.call)) ≡ view_of (after_ruling s c r).0
   by (Refused refusal) = refl
@@ -59,7 +60,9 @@ leads s (Do c) w h = by (ruling s c) where
 leads s (Ask query) w h = refl
 
 -- without a reply nothing is told
-pub nothing_told : {D : Type 0} (old new : Stored D) (s : State) (request : Request) (a : Answer) → ((reply : Reply) → a ≡ answer.Reply reply → ⊥) → new.changes ≡ old.changes ++ told s request a → new.changes ≡ old.changes
+pub nothing_told : {D : Type 0} (old new : Stored D) (s : State) (request : Request) (a : Answer)
+    → ((reply : Reply) → a ≡ answer.Reply reply → ⊥) → new.changes ≡ old.changes ++ told s request a
+    → new.changes ≡ old.changes
 nothing_told old new s request (answer.Reply reply) without tells = absurd (without reply refl)
 nothing_told old new s request answer.NoMemory without tells = tells ∙ append-nil old.changes
 nothing_told old new s request answer.DiskFault without tells = tells ∙ append-nil old.changes
@@ -73,17 +76,21 @@ module _ {D : Type 0} (base : State) where
   Publishes store entries halt published waiting = IsPublishing base (open_book store entries halt published waiting)
 
   -- nothing more is told, or nothing is told any more while there is no entry
-  pub nothing_more : (old new : Stored D) (entries : List Entry) (halt now : Option Halt) (published waiting : List Given) → Publishes old entries halt published waiting
-      → (new.changes ≡ old.changes) ⊎ ((entries ≡ []) × (new.changes ≡ [])) → Publishes new entries now published waiting
+  pub nothing_more : (old new : Stored D) (entries : List Entry) (halt now : Option Halt)
+      (published waiting : List Given) → Publishes old entries halt published waiting
+      → (new.changes ≡ old.changes) ⊎ ((entries ≡ []) × (new.changes ≡ []))
+      → Publishes new entries now published waiting
   nothing_more old new entries halt now published waiting h (inl same) = record {
     first = h.first;
     each = h.each;
     folds = ap (all_followed (seen_after (published ++ waiting))) same ∙ h.folds;
   }
   nothing_more old new entries halt now published waiting h (inr none) =
-      let all : published ++ waiting ≡ h.first.0 ∷ (h.first.1 ++ waiting) = ap (λ (bs : List Given). bs ++ waiting) h.first.2 in
+      let all : published ++ waiting ≡ h.first.0 ∷ (h.first.1 ++ waiting) =
+      ap (λ (bs : List Given). bs ++ waiting) h.first.2 in
       let each : AreViews base [] (h.first.0 ∷ (h.first.1 ++ waiting)) =
-      subst (AreViews base []) all (subst (λ (es : List Entry). AreViews base (map recorded es) (published ++ waiting)) none.0 h.each) in
+      subst (AreViews base []) all (subst (λ (es : List Entry). AreViews base (map recorded es) (published ++ waiting))
+      none.0 h.each) in
       record {
         first = h.first;
         each = h.each;
@@ -95,19 +102,24 @@ module _ {D : Type 0} (base : State) where
       }
 
   -- an entry, with what its call told
-  pub entry_more : (old new : Stored D) (entries : List Entry) (e : Entry) (halt now : Option Halt) (published waiting : List Given) → Publishes old entries halt published waiting
+  pub entry_more : (old new : Stored D) (entries : List Entry) (e : Entry) (halt now : Option Halt)
+      (published waiting : List Given) → Publishes old entries halt published waiting
       → IsSoundImage old.core.image old.core.records → StandsFor old.core (state_after base (map recorded entries))
       → new.changes ≡ old.changes ++ told (state_after base (map recorded entries)) e.request (answer.Reply e.reply)
       → Publishes new (entries ++ e ∷ []) now published waiting
   entry_more old new entries e halt now published waiting h sound stands tells =
       let s : State = state_after base (map recorded entries) in
-      let all : map recorded (entries ++ e ∷ []) ≡ map recorded entries ++ recorded e ∷ [] = map-append recorded entries (e ∷ []) in
+      let all : map recorded (entries ++ e ∷ []) ≡ map recorded entries ++ recorded e ∷ [] =
+      map-append recorded entries (e ∷ []) in
       record {
         first = h.first;
-        each = subst (λ (es : List history.Entry). AreViews base es (published ++ waiting)) (sym all) (views_grow base (map recorded entries) (recorded e) (published ++ waiting) h.each);
+        each = subst (λ (es : List history.Entry). AreViews base es (published ++ waiting)) (sym all)
+            (views_grow base (map recorded entries) (recorded e) (published ++ waiting) h.each);
         folds =
             ap (all_followed (seen_after (published ++ waiting))) tells
-            ∙ folds_on (published ++ waiting) old.changes (told_of s e.request) (view_of s) (view_of (step s e.request).0) h.folds (leads s e.request stands.formed (in_order old.core s sound stands))
+            ∙ folds_on (published ++ waiting) old.changes (told_of s e.request) (view_of s)
+            (view_of (step s e.request).0) h.folds (leads s e.request stands.formed
+            (in_order old.core s sound stands))
             ∙ ap view_of (sym (state-snoc base (map recorded entries) (recorded e)))
             ∙ ap (λ (es : List history.Entry). view_of (state_after base es)) (sym all);
       }
@@ -117,68 +129,99 @@ module _ {D : Type 0} (base : State) where
   abbrev batch : Stored D → List Entry → Given
   batch store entries = record { changes = store.changes; number = length entries }
 
-  one_more_view : (store : Stored D) (entries : List Entry) (halt : Option Halt) (published waiting : List Given) → Publishes store entries halt published waiting
+  one_more_view : (store : Stored D) (entries : List Entry) (halt : Option Halt) (published waiting : List Given)
+      → Publishes store entries halt published waiting
       → AreViews base (map recorded entries) ((published ++ waiting) ++ batch store entries ∷ [])
   one_more_view store entries halt published waiting h =
-      subst (λ n. AreViews base (map recorded entries) ((published ++ waiting) ++ record { changes = store.changes; number = n } ∷ [])) (length-map entries recorded)
+      subst (λ n. AreViews base (map recorded entries) ((published ++ waiting) ++ record {
+        changes = store.changes;
+        number = n;
+      } ∷ [])) (length-map entries recorded)
       (views_with base (map recorded entries) (published ++ waiting) store.changes h.folds h.each)
 
   -- the number of entries is not below any that was published
-  pub not_below : (store : Stored D) (entries : List Entry) (halt : Option Halt) (published waiting : List Given) → Publishes store entries halt published waiting
+  pub not_below : (store : Stored D) (entries : List Entry) (halt : Option Halt) (published waiting : List Given)
+      → Publishes store entries halt published waiting
       → last_from 0 (published ++ waiting) ≤ length entries
   not_below store entries halt published waiting h =
-      subst (λ n. last_from 0 (published ++ waiting) ≤ n) (length-map entries recorded) (last_low base (map recorded entries) (published ++ waiting) h.each)
+      subst (λ n. last_from 0 (published ++ waiting) ≤ n) (length-map entries recorded)
+      (last_low base (map recorded entries) (published ++ waiting) h.each)
 
   -- it went out, with what waited
-  pub goes_out : (store new : Stored D) (entries : List Entry) (halt : Option Halt) (published waiting published' waiting' : List Given) → Publishes store entries halt published waiting
+  pub goes_out : (store new : Stored D) (entries : List Entry) (halt : Option Halt)
+      (published waiting published' waiting' : List Given) → Publishes store entries halt published waiting
       → published' ≡ published ++ (waiting ++ batch store entries ∷ []) → waiting' ≡ [] → new.changes ≡ []
       → Publishes new entries halt published' waiting'
   goes_out store new entries halt published waiting published' waiting' h out none cleared =
       let all : published' ++ waiting' ≡ (published ++ waiting) ++ batch store entries ∷ [] =
-      ap (λ (bs : List Given). published' ++ bs) none ∙ append-nil published' ∙ out ∙ sym (append_assoc published waiting (batch store entries ∷ [])) in
+      ap (λ (bs : List Given). published' ++ bs) none ∙ append-nil published' ∙ out
+      ∙ sym (append_assoc published waiting (batch store entries ∷ [])) in
       record {
-        first = (h.first.0, h.first.1 ++ (waiting ++ batch store entries ∷ []), out ∙ ap (λ (bs : List Given). bs ++ (waiting ++ batch store entries ∷ [])) h.first.2, h.first.3);
-        each = subst (AreViews base (map recorded entries)) (sym all) (one_more_view store entries halt published waiting h);
+        first = (
+          h.first.0,
+          h.first.1 ++ (waiting ++ batch store entries ∷ []),
+          out
+              ∙ ap (λ (bs : List Given). bs ++ (waiting ++ batch store entries ∷ [])) h.first.2,
+          h.first.3,
+        );
+        each = subst (AreViews base (map recorded entries)) (sym all) (one_more_view store entries halt published
+            waiting h);
         folds =
             ap (all_followed (seen_after (published' ++ waiting'))) cleared
             ∙ ap (λ (bs : List Given). all_followed (seen_after bs) []) all
-            ∙ folds_out (published ++ waiting) store.changes (length entries) (view_of (state_after base (map recorded entries))) h.folds;
+            ∙ folds_out (published ++ waiting) store.changes (length entries)
+            (view_of (state_after base (map recorded entries))) h.folds;
       }
 
   -- without memory it was not taken, or it waits
-  pub waits : (store : Stored D) (entries : List Entry) (halt : Option Halt) (published waiting published' waiting' : List Given) → Publishes store entries halt published waiting
-      → published' ≡ published → (waiting' ≡ waiting) ⊎ (waiting' ≡ waiting ++ batch store entries ∷ []) → Publishes store entries halt published' waiting'
+  pub waits : (store : Stored D) (entries : List Entry) (halt : Option Halt) (published waiting published' waiting' :
+      List Given) → Publishes store entries halt published waiting
+      → published' ≡ published → (waiting' ≡ waiting) ⊎ (waiting' ≡ waiting ++ batch store entries ∷ [])
+      → Publishes store entries halt published' waiting'
   waits store entries halt published waiting published' waiting' h same (inl still) =
-      subst (λ (bs : List Given). Publishes store entries halt bs waiting') (sym same) (subst (λ (bs : List Given). Publishes store entries halt published bs) (sym still) h)
+      subst (λ (bs : List Given). Publishes store entries halt bs waiting') (sym same)
+      (subst (λ (bs : List Given). Publishes store entries halt published bs) (sym still) h)
   waits store entries halt published waiting published' waiting' h same (inr more) =
-      let all : published ++ (waiting ++ batch store entries ∷ []) ≡ (published ++ waiting) ++ batch store entries ∷ [] = sym (append_assoc published waiting (batch store entries ∷ [])) in
-      subst (λ (bs : List Given). Publishes store entries halt bs waiting') (sym same) (subst (λ (bs : List Given). Publishes store entries halt published bs) (sym more) (record {
+      let all : published ++ (waiting ++ batch store entries ∷ []) ≡ (published ++ waiting) ++ batch store entries
+      ∷ [] = sym (append_assoc published waiting (batch store entries ∷ [])) in
+      subst (λ (bs : List Given). Publishes store entries halt bs waiting') (sym same)
+      (subst (λ (bs : List Given). Publishes store entries halt published bs) (sym more) (record {
         first = h.first;
-        each = subst (AreViews base (map recorded entries)) (sym all) (one_more_view store entries halt published waiting h);
+        each = subst (AreViews base (map recorded entries)) (sym all) (one_more_view store entries halt published
+            waiting h);
         folds =
             ap (λ (bs : List Given). all_followed (seen_after bs) store.changes) all
-            ∙ folds_again (published ++ waiting) store.changes (length entries) (view_of (state_after base (map recorded entries))) h.folds;
+            ∙ folds_again (published ++ waiting) store.changes (length entries)
+            (view_of (state_after base (map recorded entries))) h.folds;
       }))
 
   -- ---- the beginning
 
   -- the list as it was opened, published as version 0
-  pub opens : (store : Stored D) (published waiting : List Given) → all_followed (view_of opening) store.changes ≡ view_of base
-      → published ≡ record { changes = store.changes; number = 0 } ∷ [] → waiting ≡ [] → Publishes store [] None published waiting
+  pub opens : (store : Stored D) (published waiting : List Given) → all_followed (view_of opening) store.changes
+      ≡ view_of base
+      → published ≡ record { changes = store.changes; number = 0 } ∷ [] → waiting ≡ []
+      → Publishes store [] None published waiting
   opens store published waiting listed out none =
       let opened : Given = record { changes = store.changes; number = 0 } in
-      subst (λ (bs : List Given). Publishes store [] None bs waiting) (sym out) (subst (λ (bs : List Given). Publishes store [] None (opened ∷ []) bs) (sym none) (record {
+      subst (λ (bs : List Given). Publishes store [] None bs waiting) (sym out)
+      (subst (λ (bs : List Given). Publishes store [] None (opened ∷ []) bs) (sym none) (record {
         first = (opened, [], refl, refl);
         each = views_with base [] [] store.changes listed (views_none base []);
         folds = folds_again [] store.changes 0 (view_of base) listed;
       }))
 
   -- what went out is let go, and what did not is kept
-  pub goes_or_waits : {X Y : Type 0} (r : Result X Y) (old new : Stored D) (entries : List Entry) (halt : Option Halt) (published waiting published' waiting' : List Given) (number : ℕ) → number ≡ length entries → Publishes old entries halt published waiting
-      → MatchResult r (λ _. (published' ≡ published ++ (waiting ++ record { changes = old.changes; number = number } ∷ [])) × (waiting' ≡ [])) (λ _. (published' ≡ published) × ((waiting' ≡ waiting) ⊎ (waiting' ≡ waiting ++ record { changes = old.changes; number = number } ∷ [])))
+  pub goes_or_waits : {X Y : Type 0} (r : Result X Y) (old new : Stored D) (entries : List Entry) (halt : Option Halt)
+      (published waiting published' waiting' : List Given) (number : ℕ) → number ≡ length entries
+      → Publishes old entries halt published waiting
+      → MatchResult r (λ _. (published' ≡ published ++ (waiting ++ record { changes = old.changes; number = number }
+      ∷ [])) × (waiting' ≡ [])) (λ _. (published' ≡ published) × ((waiting' ≡ waiting)
+      ⊎ (waiting' ≡ waiting ++ record { changes = old.changes; number = number } ∷ [])))
       → MatchResult r (λ _. new ≡ record old { changes = [] }) (λ _. new ≡ old)
       → Publishes new entries halt published' waiting'
   goes_or_waits (Ok x) old new entries halt published waiting published' waiting' number count h sent told =
       goes_out old new entries halt published waiting published' waiting' h (rw count at sent.0) sent.1 (rw told refl)
   goes_or_waits (Err y) old new entries halt published waiting published' waiting' number count h sent told =
-      subst (λ (store : Stored D). Publishes store entries halt published' waiting') (sym told) (waits old entries halt published waiting published' waiting' h sent.0 (rw count at sent.1))
+      subst (λ (store : Stored D). Publishes store entries halt published' waiting') (sym told)
+      (waits old entries halt published waiting published' waiting' h sent.0 (rw count at sent.1))

@@ -7,7 +7,8 @@ use Rattle.liq_types.specs.declared.replies.Reply.{Reply}
 use Rattle.liq_types.specs.declared.requests.Request.{Request}
 use Rattle.liq_book.specs.Entering.{IsEntered}
 
-pub not_entered : (session calls : ℕ) (request : Request) (a : Answer) (entries : List Entry) → ((reply : Reply) → a ≡ answer.Reply reply → ⊥)
+pub not_entered : (session calls : ℕ) (request : Request) (a : Answer) (entries : List Entry)
+    → ((reply : Reply) → a ≡ answer.Reply reply → ⊥)
     → IsEntered session calls request a entries entries
 not_entered session calls request (answer.Reply reply) entries none = absurd (none reply refl)
 not_entered session calls request answer.NoMemory entries none = refl
@@ -15,7 +16,8 @@ not_entered session calls request answer.DiskFault entries none = refl
 not_entered session calls request (answer.Stopped faults) entries none = refl
 not_entered session calls request (answer.HistoryFull most) entries none = refl
 
-pub entries_stay : (session calls : ℕ) (request : Request) (a : Answer) (old new : List Entry) → ((reply : Reply) → a ≡ answer.Reply reply → ⊥)
+pub entries_stay : (session calls : ℕ) (request : Request) (a : Answer) (old new : List Entry)
+    → ((reply : Reply) → a ≡ answer.Reply reply → ⊥)
     → IsEntered session calls request a old new → new ≡ old
 entries_stay session calls request (answer.Reply reply) old new none entered = absurd (none reply refl)
 entries_stay session calls request answer.NoMemory old new none entered = entered

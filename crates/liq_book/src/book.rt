@@ -1,4 +1,5 @@
-//! The value behind the lock of a service: a store, all that was entered, and the publisher of the list.
+//! The value behind the lock of a service: a store, all that was entered, and the publisher of the
+//! list.
 
 ghost use Rattle.std.specs.Prelude.{◌≡◌, ◌≤◌, ◌⊎◌, IfOk, map, length, [], ◌∷◌, None};
 ghost use Rattle.std.specs.Option.{option_map};
@@ -61,9 +62,9 @@ impl History {
     }
 }
 
-/// A store with the history of its calls, and the publisher of its list. Contracts see the store, the
-/// entries, the halt, once a call met a disk's fault, and the batches that were published or wait. It
-/// is not `Drop`: end it by `close`.
+/// A store with the history of its calls, and the publisher of its list. Contracts see the store,
+/// the entries, the halt, once a call met a disk's fault, and the batches that were published or
+/// wait. It is not `Drop`: end it by `close`.
 pub struct Book<D: Disk, O: Origin> {
     pub(crate) store: Store<D>,
     pub(crate) publisher: Publisher,
@@ -96,7 +97,8 @@ impl<D: Disk, O: Origin> Book<D, O> {
     ghost use Rattle.liq_book.specs.Origin.{IsAtOrigin, TellsList};
     ghost use Rattle.liq_book.specs.Publishing.{Publishes, PublishesNothing, open_book};
 
-    /// A book without entries, over a store that was never stopped, whose opened list was published.
+    /// A book without entries, over a store that was never stopped, whose opened list was
+    /// published.
     pub(crate) fn new(alloc: Global, store: Store<D>, publisher: Publisher) -> Book<D, O>
         requires going { store.stopped ≡ None }
         requires origin { IsAtOrigin D.at O.state O.left O.right store }
@@ -161,10 +163,10 @@ impl<D: Disk, O: Origin> Book<D, O> {
         }
     }
 
-    /// Answers a session's request, of which so many calls got a reply before, and enters it with its
-    /// reply. With any other answer the entries stay. At the limit nothing is asked of the store. After
-    /// a disk's fault there is a halt. It publishes nothing: what it changed in the list goes out with
-    /// the next publication.
+    /// Answers a session's request, of which so many calls got a reply before, and enters it with
+    /// its reply. With any other answer the entries stay. At the limit nothing is asked of the
+    /// store. After a disk's fault there is a halt. It publishes nothing: what it changed in the
+    /// list goes out with the next publication.
     pub(crate) fn call(&mut self, session: u8, calls: u32, request: &Request, hint: &Hint) -> Answer
         requires calls { length (own_entries session (map recorded self.old.book.entries)) ≡ calls }
         ensures enters { Enters O.state session calls request.now result self.old.book
@@ -200,8 +202,9 @@ impl<D: Disk, O: Origin> Book<D, O> {
         }
     }
 
-    /// Publishes what the calls since the last publication changed in the list, as the version after all
-    /// entries. Without memory what is told is kept, and goes out with the next publication.
+    /// Publishes what the calls since the last publication changed in the list, as the version
+    /// after all entries. Without memory what is told is kept, and goes out with the next
+    /// publication.
     pub(crate) fn publish<W: Wait>(&mut self, rt: &W) -> Result<Publication, NoMemory>
         ensures number { IfOk result (λ sent. sent.number ≡ length self.old.book.entries) }
         ensures sent { Publishes self.old result self.new }
@@ -211,7 +214,8 @@ impl<D: Disk, O: Origin> Book<D, O> {
     }
 }
 
-/// Before the first entry there is nothing to tell: the list as it was opened was published when the book was made.
+/// Before the first entry there is nothing to tell: the list as it was opened was published when
+/// the book was made.
 fn forget_opening<D: Disk>(store: &mut Store<D>, entries: &[Entry])
     ensures store { store.new ≡ record store.old { changes = store.new.changes } }
     ensures changes { (store.new.changes ≡ store.old.changes)

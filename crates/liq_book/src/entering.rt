@@ -6,8 +6,9 @@ use liq_outside::Disk;
 use liq_store::Store;
 use liq_types::{Answer, Entry, Hint, Request};
 
-/// Answers a session's request as `Store::call` does, and enters a reply behind all entries, as the session's next one: so many of
-/// its calls got one before. With any other answer the entries stay. There is room for the entry.
+/// Answers a session's request as `Store::call` does, and enters a reply behind all entries, as the
+/// session's next one: so many of its calls got one before. With any other answer the entries stay.
+/// There is room for the entry.
 pub(crate) fn enter<D: Disk>(
     store: &mut Store<D>,
     entries: &mut Vec<Entry>,

@@ -13,10 +13,10 @@ ghost use Rattle.liq_book.specs.Publishing.{IsPublishing, OpenBook};
 
 use liq_views::laws::ends_see_beginnings;
 
-/// What a reader of the book's publisher has seen makes a version of the book's one history, the view
-/// after as many entries as the version's number says; or it has seen nothing yet. Behind a look it
-/// has seen something, so the hint of that publisher's finder, which is the answer of the version of
-/// what its pane has seen, is that of such a version.
+/// What a reader of the book's publisher has seen makes a version of the book's one history, the
+/// view after as many entries as the version's number says; or it has seen nothing yet. Behind a
+/// look it has seen something, so the hint of that publisher's finder, which is the answer of the
+/// version of what its pane has seen, is that of such a version.
 pub fn readers_see_the_history<D>()
     ensures seen { (base : State) (b : OpenBook D) (x : Shelf) (reader : Sight)
         → IsPublishing base b → IsRead b.published x reader

@@ -1,5 +1,5 @@
-//! One history for all sessions: a book in which every call is entered that a store answers, under a lock at which each session has
-//! a seat.
+//! One history for all sessions: a book in which every call is entered that a store answers, under
+//! a lock at which each session has a seat.
 #![tactic(auto)]
 
 mod book;

@@ -6,8 +6,8 @@ ghost use Rattle.liq_book.specs.Origin.{nowhere};
 
 use std::marker::Brand;
 
-/// Where a book begins: a state, and both disks at that moment. Contracts alone see it. Whoever makes
-/// a service picks it, by the store that it then has.
+/// Where a book begins: a state, and both disks at that moment. Contracts alone see it. Whoever
+/// makes a service picks it, by the store that it then has.
 pub trait Origin {
     /// The state for which the store's protocol stood.
     ghost state: { State };

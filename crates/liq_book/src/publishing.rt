@@ -90,8 +90,8 @@ impl<'a, D: Disk, O: Origin> Desk for Publishing<'a, D, O> {
     }
 }
 
-/// Publishes what the store has to tell of its list, as this version, and lets that go. Without memory
-/// the store keeps it, and tells the same at the next publication.
+/// Publishes what the store has to tell of its list, as this version, and lets that go. Without
+/// memory the store keeps it, and tells the same at the next publication.
 pub(crate) fn publish<D: Disk, W: Wait>(
     store: &mut Store<D>,
     publisher: &mut Publisher,

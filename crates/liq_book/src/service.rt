@@ -17,8 +17,9 @@ use liq_outside::Disk;
 use liq_store::Store;
 use std::marker::PhantomData;
 
-/// A book under a lock, at which each session has a seat. As a desk it answers the requests of sessions at once, each as the protocol for
-/// one thread would along the one history of all their calls. It is not `Drop`: end it by `close`.
+/// A book under a lock, at which each session has a seat. As a desk it answers the requests of
+/// sessions at once, each as the protocol for one thread would along the one history of all their
+/// calls. It is not `Drop`: end it by `close`.
 pub struct Service<D: Disk, O: Origin> {
     pub(crate) lock: Lock<BoxedBook<D, O>>,
     pub(crate) sessions: u8,
@@ -35,7 +36,8 @@ pub struct Closed<D: Disk, O: Origin> {
     pub of: PhantomData<O>,
 }
 
-/// A service that was to be closed while seats were missing, with the seats that were there. All are as they were.
+/// A service that was to be closed while seats were missing, with the seats that were there. All
+/// are as they were.
 pub struct StillOut<D: Disk, O: Origin> {
     pub service: Service<D, O>,
     pub seats: Vec<BookSeat<O>>,

@@ -1,4 +1,5 @@
--- The rules of an opening, a change, a closing and a moved gain, read once by their places: what each tells where none refuses.
+-- The rules of an opening, a change, a closing and a moved gain, read once by their places: what each tells where none
+-- refuses.
 use Rattle.std.proofs.Common.{◌≡◌, ℕ, ◌≤◌, ◌<◌, Bool, true, false, refl, nat_lt, None, Option, arith}
 use Rattle.std.specs.Prelude.{◌&&◌, ◌||◌, ◌==◌}
 use Rattle.std.proofs.lemmas.Bool.{ltb-false, leb-false}
@@ -17,7 +18,8 @@ where_so : (condition test : Bool) → (condition && test) ≡ false → conditi
 where_so true test h is = h
 where_so false test h is = cc
 
-within_where : (condition : Bool) (least most : ℕ) → (condition && nat_lt most least) ≡ false → condition ≡ true → least ≤ most
+within_where : (condition : Bool) (least most : ℕ) → (condition && nat_lt most least) ≡ false → condition ≡ true
+    → least ≤ most
 within_where condition least most h is = ltb-false most least (where_so condition (nat_lt most least) h is)
 
 positive : (n : ℕ) → 0 < n → nat_lt 0 n ≡ true
@@ -32,7 +34,9 @@ bound_is m bound h =
     let both = either (nat_lt ONE bound) (nat_lt bound (least_bound m)) h in
     record { least = ltb-false bound (least_bound m) both.1; most = ltb-false ONE bound both.0 }
 
-pub open_passes : (m : Market) (wallet : Wallet) (exists : Bool) (account coll borrow bound : ℕ) → first_refusal (open_rules m wallet exists account coll borrow bound) ≡ None → OpenPasses m wallet exists coll borrow bound
+pub open_passes : (m : Market) (wallet : Wallet) (exists : Bool) (account coll borrow bound : ℕ)
+    → first_refusal (open_rules m wallet exists account coll borrow bound) ≡ None
+    → OpenPasses m wallet exists coll borrow bound
 open_passes m wallet exists account coll borrow bound h =
     let rules = all_false (open_rules m wallet exists account coll borrow bound) h in
     record {
@@ -46,7 +50,9 @@ open_passes m wallet exists account coll borrow bound h =
       totals = within_where _ _ _ rules.1.1.1.1.1.1.1.0;
     }
 
-pub change_passes : (m : Market) (wallet : Wallet) (entire : Option (ℕ × ℕ)) (change : Change) (account bound : ℕ) → first_refusal (adjust_rules m wallet entire account change bound) ≡ None → ChangePasses m wallet entire change bound
+pub change_passes : (m : Market) (wallet : Wallet) (entire : Option (ℕ × ℕ)) (change : Change) (account bound : ℕ)
+    → first_refusal (adjust_rules m wallet entire account change bound) ≡ None
+    → ChangePasses m wallet entire change bound
 change_passes m wallet entire change account bound h =
     let rules = all_false (adjust_rules m wallet entire account change bound) h in
     record {
@@ -67,7 +73,8 @@ change_passes m wallet entire change account bound h =
       totals = within_where _ _ _ rules.1.1.1.1.1.1.1.1.1.1.1.1.1.1.0;
     }
 
-pub close_passes : (m : Market) (wallet : Wallet) (entire : Option (ℕ × ℕ)) (account : ℕ) → first_refusal (close_rules m wallet entire account) ≡ None → ClosePasses m wallet entire
+pub close_passes : (m : Market) (wallet : Wallet) (entire : Option (ℕ × ℕ)) (account : ℕ)
+    → first_refusal (close_rules m wallet entire account) ≡ None → ClosePasses m wallet entire
 close_passes m wallet entire account h =
     let rules = all_false (close_rules m wallet entire account) h in
     record {
@@ -78,7 +85,8 @@ close_passes m wallet entire account h =
       totals = within_where _ _ _ rules.1.1.1.1.0;
     }
 
-pub gain_passes : (m : Market) (entire : Option (ℕ × ℕ)) (account gain : ℕ) → first_refusal (gain_rules m entire account gain) ≡ None → GainPasses m entire gain
+pub gain_passes : (m : Market) (entire : Option (ℕ × ℕ)) (account gain : ℕ)
+    → first_refusal (gain_rules m entire account gain) ≡ None → GainPasses m entire gain
 gain_passes m entire account gain h =
     let rules = all_false (gain_rules m entire account gain) h in
     record {

@@ -1,4 +1,5 @@
--- The rules of a change in the groups in which they are tested: with a fee, and of a trove with these entire amounts.
+-- The rules of a change in the groups in which they are tested: with a fee, and of a trove with
+-- these entire amounts.
 use Rattle.std.specs.Prelude.{ℕ, ◌+◌, ◌-◌, ◌*◌, ◌&&◌, ◌||◌, nat_lt, List, [], ◌∷◌}
 use Rattle.liq_types.specs.declared.amounts.TheConstants.{RESERVE, MIN_NET}
 use Rattle.liq_types.specs.declared.figures.Market.{Market}
@@ -27,18 +28,25 @@ held_rules m wallet had change fee =
     where_short change.coll_in wallet.coll ShortCollateral
     ∷ where_short change.coll_out had.0 ShortCollateral
     ∷ where_short change.repay wallet.lusd ShortTokens
-    ∷ only_where (nat_lt 0 change.repay) (where_below (had.1 - RESERVE - change.repay) MIN_NET NetDebtLow)
+    ∷ only_where (nat_lt 0 change.repay) (where_below (had.1 - RESERVE - change.repay) MIN_NET
+    NetDebtLow)
     ∷ where_above (m.total_debt + change.borrow + fee) (limit_of m) AmountLimit
     ∷ []
 
 -- the collateral and the debt that are left
 abbrev pub left_with : ℕ × ℕ → Change → ℕ → ℕ × ℕ
-left_with had change fee = (had.0 + change.coll_in - change.coll_out, had.1 + change.borrow + fee - change.repay)
+left_with had change fee = (
+  had.0 + change.coll_in - change.coll_out,
+  had.1 + change.borrow + fee
+      - change.repay,
+)
 
 -- of the ratios, where this is left
 abbrev pub ratio_rules : Market → Change → ℕ → ℕ × ℕ → ℕ × ℕ → List Rule
 ratio_rules m change fee had left =
     only_where (is_normal m || nat_lt 0 change.borrow) (ratio_low m (least_ratio m) left.0 left.1)
-    ∷ only_where (is_recovery m && nat_lt 0 change.borrow) (where_below (left.0 * had.1) (had.0 * left.1) RatioFalls)
-    ∷ system_ratio_low m (m.total_coll + change.coll_in - change.coll_out) (m.total_debt + change.borrow + fee - change.repay)
+    ∷ only_where (is_recovery m && nat_lt 0 change.borrow) (where_below (left.0 * had.1)
+    (had.0 * left.1) RatioFalls)
+    ∷ system_ratio_low m (m.total_coll + change.coll_in - change.coll_out) (m.total_debt
+    + change.borrow + fee - change.repay)
     ∷ []

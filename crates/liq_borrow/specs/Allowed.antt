@@ -13,7 +13,8 @@ pub record IsBound (m : Market) (bound : ℕ) : Type 0 where
   pub least : least_bound m ≤ bound
   pub most : bound ≤ ONE
 
-pub record OpenPasses (m : Market) (wallet : Wallet) (exists : Bool) (coll borrow bound : ℕ) : Type 0 where
+pub record OpenPasses (m : Market) (wallet : Wallet) (exists : Bool) (coll borrow bound : ℕ) :
+    Type 0 where
   pub absent : exists ≡ false
   pub bound_in : IsBound m bound
   pub fee : fee_now m borrow * ONE ≤ bound * borrow
@@ -21,10 +22,12 @@ pub record OpenPasses (m : Market) (wallet : Wallet) (exists : Bool) (coll borro
   pub limit : m.total_debt + open_debt m borrow ≤ limit_of m
   pub enough : coll ≤ wallet.coll
   pub ratio : asked (least_ratio m) (open_debt m borrow) ≤ worth coll m.price
-  pub totals : is_normal m ≡ true → asked CCR (m.total_debt + open_debt m borrow) ≤ worth (m.total_coll + coll) m.price
+  pub totals : is_normal m ≡ true → asked CCR (m.total_debt + open_debt m borrow)
+      ≤ worth (m.total_coll + coll) m.price
 
 -- of a trove that has these entire amounts, or of none
-pub record ChangePasses (m : Market) (w : Wallet) (entire : Option (ℕ × ℕ)) (change : Change) (bound : ℕ) : Type 0 where
+pub record ChangePasses (m : Market) (w : Wallet) (entire : Option (ℕ × ℕ)) (change : Change)
+    (bound : ℕ) : Type 0 where
   pub there : is_none entire ≡ false
   pub bound_in : 0 < change.borrow → IsBound m bound
   pub one_way_coll : (nat_lt 0 change.coll_in && nat_lt 0 change.coll_out) ≡ false
@@ -43,7 +46,8 @@ pub record ChangePasses (m : Market) (w : Wallet) (entire : Option (ℕ × ℕ))
   pub rises : (is_recovery m && nat_lt 0 change.borrow) ≡ true
       → (or_nothing entire).0 * adjusted_debt m (or_nothing entire).1 change
       ≤ adjusted_coll (or_nothing entire).0 change * (or_nothing entire).1
-  pub totals : is_normal m ≡ true → asked CCR (m.total_debt + change.borrow + fee_now m change.borrow - change.repay)
+  pub totals : is_normal m ≡ true
+      → asked CCR (m.total_debt + change.borrow + fee_now m change.borrow - change.repay)
       ≤ worth (m.total_coll + change.coll_in - change.coll_out) m.price
 
 pub record ClosePasses (m : Market) (wallet : Wallet) (entire : Option (ℕ × ℕ)) : Type 0 where
@@ -52,9 +56,11 @@ pub record ClosePasses (m : Market) (wallet : Wallet) (entire : Option (ℕ × �
   pub normal : is_recovery m ≡ false
   pub repaid : (or_nothing entire).1 - RESERVE ≤ wallet.lusd
   pub totals : is_normal m ≡ true
-      → asked CCR (m.total_debt - (or_nothing entire).1) ≤ worth (m.total_coll - (or_nothing entire).0) m.price
+      → asked CCR (m.total_debt - (or_nothing entire).1)
+      ≤ worth (m.total_coll - (or_nothing entire).0) m.price
 
 pub record GainPasses (m : Market) (entire : Option (ℕ × ℕ)) (gain : ℕ) : Type 0 where
   pub there : is_none entire ≡ false
   pub some : 1 ≤ gain
-  pub ratio : is_normal m ≡ true → asked MCR (or_nothing entire).1 ≤ worth ((or_nothing entire).0 + gain) m.price
+  pub ratio : is_normal m ≡ true → asked MCR (or_nothing entire).1
+      ≤ worth ((or_nothing entire).0 + gain) m.price

@@ -22,7 +22,8 @@ fee_now m amount = if is_recovery m then 0 else borrow_fee (rate_left m) amount
 
 -- the base rate after a borrowing, which Recovery Mode leaves
 abbrev pub rate_borrowed : Market → ℕ → Rate
-rate_borrowed m borrow = if is_normal m && nat_lt 0 borrow then rate_at m (rate_left m) else rate_kept m
+rate_borrowed m borrow = if is_normal m && nat_lt 0 borrow then rate_at m (rate_left m)
+    else rate_kept m
 
 abbrev pub least_bound : Market → ℕ
 least_bound m = if is_recovery m then 0 else FLOOR_RATE
@@ -38,11 +39,13 @@ ratio_low m percent coll debt = where_below (worth coll m.price) (asked percent 
 
 -- in Normal Mode, the totals that would result
 abbrev pub system_ratio_low : Market → ℕ → ℕ → Rule
-system_ratio_low m coll debt = only_where (is_normal m) (where_below (worth coll m.price) (asked CCR debt) SystemRatioLow)
+system_ratio_low m coll debt = only_where (is_normal m) (where_below (worth coll m.price)
+    (asked CCR debt) SystemRatioLow)
 
 -- it is Recovery Mode
 abbrev pub recovery_forbids : Market → Rule
-recovery_forbids m = where_below (worth m.total_coll m.price) (asked CCR m.total_debt) RecoveryForbids
+recovery_forbids m = where_below (worth m.total_coll m.price) (asked CCR m.total_debt)
+    RecoveryForbids
 
 -- ---- open
 
@@ -51,7 +54,12 @@ open_debt m borrow = borrow + fee_now m borrow + RESERVE
 
 abbrev pub opening_terms : Market → ℕ → ℕ → Plan
 opening_terms m coll borrow =
-    record { coll = coll; debt = open_debt m borrow; fee = fee_now m borrow; rate = rate_borrowed m borrow }
+    record {
+      coll = coll;
+      debt = open_debt m borrow;
+      fee = fee_now m borrow;
+      rate = rate_borrowed m borrow;
+    }
 
 abbrev pub open_rules : Market → Wallet → Bool → ℕ → ℕ → ℕ → ℕ → List Rule
 open_rules m wallet exists account coll borrow bound =
@@ -68,7 +76,8 @@ open_rules m wallet exists account coll borrow bound =
 
 abbrev pub open_plan : Market → Wallet → Bool → ℕ → ℕ → ℕ → ℕ → Result Plan Refusal
 open_plan m wallet exists account coll borrow bound =
-    outcome (first_refusal (open_rules m wallet exists account coll borrow bound)) (opening_terms m coll borrow)
+    outcome (first_refusal (open_rules m wallet exists account coll borrow bound))
+    (opening_terms m coll borrow)
 
 -- ---- adjust
 
@@ -92,7 +101,8 @@ abbrev pub both_ways : ℕ → ℕ → Rule
 both_ways first second = (nat_lt 0 first && nat_lt 0 second, BothWays first second)
 
 abbrev pub is_no_change : Change → Bool
-is_no_change change = change.coll_in == 0 && change.coll_out == 0 && change.borrow == 0 && change.repay == 0
+is_no_change change = change.coll_in == 0 && change.coll_out == 0 && change.borrow
+    == 0 && change.repay == 0
 
 abbrev pub adjust_rules : Market → Wallet → Option (ℕ × ℕ) → ℕ → Change → ℕ → List Rule
 adjust_rules m wallet entire account change bound =
@@ -109,16 +119,20 @@ adjust_rules m wallet entire account change bound =
     ∷ where_short change.coll_in wallet.coll ShortCollateral
     ∷ where_short change.coll_out had.0 ShortCollateral
     ∷ where_short change.repay wallet.lusd ShortTokens
-    ∷ only_where (nat_lt 0 change.repay) (where_below (had.1 - RESERVE - change.repay) MIN_NET NetDebtLow)
+    ∷ only_where (nat_lt 0 change.repay) (where_below (had.1 - RESERVE - change.repay) MIN_NET
+    NetDebtLow)
     ∷ where_above (m.total_debt + change.borrow + terms.fee) (limit_of m) AmountLimit
     ∷ only_where (is_normal m || borrows) (ratio_low m (least_ratio m) terms.coll terms.debt)
-    ∷ only_where (is_recovery m && borrows) (where_below (terms.coll * had.1) (had.0 * terms.debt) RatioFalls)
-    ∷ system_ratio_low m (m.total_coll + change.coll_in - change.coll_out) (m.total_debt + change.borrow + terms.fee - change.repay)
+    ∷ only_where (is_recovery m && borrows) (where_below (terms.coll * had.1) (had.0 * terms.debt)
+    RatioFalls)
+    ∷ system_ratio_low m (m.total_coll + change.coll_in - change.coll_out) (m.total_debt
+    + change.borrow + terms.fee - change.repay)
     ∷ []
 
 abbrev pub adjust_plan : Market → Wallet → Option (ℕ × ℕ) → ℕ → Change → ℕ → Result Plan Refusal
 adjust_plan m wallet entire account change bound =
-    outcome (first_refusal (adjust_rules m wallet entire account change bound)) (adjusting_terms m (or_nothing entire) change)
+    outcome (first_refusal (adjust_rules m wallet entire account change bound)) (adjusting_terms m
+    (or_nothing entire) change)
 
 -- ---- close
 
@@ -138,7 +152,8 @@ close_rules m wallet entire account =
 
 abbrev pub close_plan : Market → Wallet → Option (ℕ × ℕ) → ℕ → Result (ℕ × ℕ) Refusal
 close_plan m wallet entire account =
-    outcome (first_refusal (close_rules m wallet entire account)) (closing_terms (or_nothing entire))
+    outcome (first_refusal (close_rules m wallet entire account))
+    (closing_terms (or_nothing entire))
 
 -- ---- a gain that moves into the trove
 
@@ -156,4 +171,5 @@ gain_rules m entire account gain =
 
 abbrev pub gain_plan : Market → Option (ℕ × ℕ) → ℕ → ℕ → Result Plan Refusal
 gain_plan m entire account gain =
-    outcome (first_refusal (gain_rules m entire account gain)) (gaining_terms m (or_nothing entire) gain)
+    outcome (first_refusal (gain_rules m entire account gain))
+    (gaining_terms m (or_nothing entire) gain)

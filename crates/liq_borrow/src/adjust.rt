@@ -12,11 +12,13 @@ use crate::terms::{borrowing, is_recovery, least_bound, least_ratio};
 use liq_types::amounts::{LIM, RESERVE};
 use liq_types::{Market, Refusal, Wallet};
 
-/// What a change would make of an account's trove, of which the entire collateral (gwei) and debt (micro-LUSD) are given,
-/// the rate of the borrowing's fee being bound. Refused, in this order: `NoTrove`; `FeeBound`, where it borrows; `BothWays`;
-/// `NoChange`; `RecoveryForbids`, where collateral goes out; `FeeOver`; `ShortCollateral` of the wallet, then of the trove;
-/// `ShortTokens`; `NetDebtLow`, where it repays; `AmountLimit` of all debt; `RatioLow`, in Recovery Mode only where it
-/// borrows; `RatioFalls`, where it borrows in Recovery Mode; `SystemRatioLow`, in Normal Mode.
+/// What a change would make of an account's trove, of which the entire collateral (gwei) and debt
+/// (micro-LUSD) are given, the rate of the borrowing's fee being bound. Refused, in this order:
+/// `NoTrove`; `FeeBound`, where it borrows; `BothWays`; `NoChange`; `RecoveryForbids`, where
+/// collateral goes out; `FeeOver`; `ShortCollateral` of the wallet, then of the trove;
+/// `ShortTokens`; `NetDebtLow`, where it repays; `AmountLimit` of all debt; `RatioLow`, in Recovery
+/// Mode only where it borrows; `RatioFalls`, where it borrows in Recovery Mode; `SystemRatioLow`,
+/// in Normal Mode.
 pub fn plan_adjust(
     m: &Market,
     wallet: &Wallet,
@@ -26,7 +28,8 @@ pub fn plan_adjust(
     bound: u64,
 ) -> Result<Plan, Refusal>
     requires market { IsMarket m.now }
-    // What was brought in is within the limit, and so are the trove's part of it and the wallet's together.
+    // What was brought in is within the limit, and so are the trove's part of it and the wallet's
+    // together.
     requires coll { (or_nothing entire).0 + wallet.now.coll ≤ LIM }
     requires debt { (or_nothing entire).1 ≤ m.now.total_debt }
     ensures { result ≡ adjust_plan m.now wallet.now entire account change.now bound }
@@ -60,8 +63,8 @@ fn check_asked(m: &Market, change: &Change, fee: u64, bound: u64) -> Result<(), 
     Ok(())
 }
 
-/// The collateral and the debt that a change with this fee leaves a trove that had so much, or what is refused since the wallet
-/// or the trove has too little, or all troves too much.
+/// The collateral and the debt that a change with this fee leaves a trove that had so much, or what
+/// is refused since the wallet or the trove has too little, or all troves too much.
 fn left_of(
     m: &Market,
     wallet: &Wallet,
@@ -71,7 +74,8 @@ fn left_of(
 ) -> Result<(u64, u64), Refusal>
     requires coll { had.0 + wallet.now.coll ≤ LIM }
     requires debt { had.1 ≤ m.now.total_debt }
-    ensures { result ≡ outcome (first_refusal (held_rules m.now wallet.now had change.now fee)) (left_with had change.now fee) }
+    ensures { result ≡ outcome (first_refusal (held_rules m.now wallet.now had change.now fee))
+        (left_with had change.now fee) }
 {
     checks::collateral(change.coll_in, wallet.coll)?;
     checks::collateral(change.coll_out, had.0)?;
@@ -85,7 +89,8 @@ fn left_of(
     Ok((coll, debt))
 }
 
-/// What is refused by the ratios of a trove that had so much and of all troves, after a change with this fee.
+/// What is refused by the ratios of a trove that had so much and of all troves, after a change with
+/// this fee.
 fn check_ratios(
     m: &Market,
     change: &Change,

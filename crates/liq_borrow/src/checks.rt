@@ -1,4 +1,5 @@
-//! The rules, each tested by itself. A rule that is tested only where a condition holds is told whether it `applies`.
+//! The rules, each tested by itself. A rule that is tested only where a condition holds is told
+//! whether it `applies`.
 
 ghost use Rattle.std.specs.Prelude.{◌≡◌, ◌≤◌, ◌<◌, ◌^◌, ◌*◌, nat_le};
 ghost use Rattle.liq_types.specs.declared.replies.Refusal.TheVariants as refused;
@@ -112,7 +113,8 @@ pub fn tokens(need: u64, have: u64) -> Result<(), Refusal>
 pub fn ratio(applies: bool, coll: u64, debt: u64, price: u64, percent: u64) -> Result<(), Refusal>
     requires price { price ≤ 10 ^ 12 }
     requires percent { percent ≤ 150 }
-    ensures { Tells (only_where applies (where_below (worth coll price) (asked percent debt) refused.RatioLow)) result }
+    ensures { Tells (only_where applies (where_below (worth coll price) (asked percent debt)
+        refused.RatioLow)) result }
 {
     let left = worth_of(u128::from(coll), price);
     let right = asked_of(percent, u128::from(debt));
@@ -122,12 +124,14 @@ pub fn ratio(applies: bool, coll: u64, debt: u64, price: u64, percent: u64) -> R
     Ok(())
 }
 
-/// `SystemRatioLow`: all collateral (gwei) is worth less than the critical percent of all debt (micro-LUSD).
+/// `SystemRatioLow`: all collateral (gwei) is worth less than the critical percent of all debt
+/// (micro-LUSD).
 pub fn totals(applies: bool, coll: u128, debt: u128, price: u64) -> Result<(), Refusal>
     requires price { price ≤ 10 ^ 12 }
     requires coll { coll < 2 ^ 66 }
     requires debt { debt < 2 ^ 66 }
-    ensures { Tells (only_where applies (where_below (worth coll price) (asked CCR debt) refused.SystemRatioLow)) result }
+    ensures { Tells (only_where applies (where_below (worth coll price) (asked CCR debt)
+        refused.SystemRatioLow)) result }
 {
     let left = worth_of(coll, price);
     let right = asked_of(CCR, debt);
@@ -140,7 +144,8 @@ pub fn totals(applies: bool, coll: u128, debt: u128, price: u64) -> Result<(), R
 /// `RecoveryForbids`: the same of the totals as they are.
 pub fn no_recovery(applies: bool, coll: u64, debt: u64, price: u64) -> Result<(), Refusal>
     requires price { price ≤ 10 ^ 12 }
-    ensures { Tells (only_where applies (where_below (worth coll price) (asked CCR debt) refused.RecoveryForbids)) result }
+    ensures { Tells (only_where applies (where_below (worth coll price) (asked CCR debt)
+        refused.RecoveryForbids)) result }
 {
     let left = worth_of(u128::from(coll), price);
     let right = asked_of(CCR, u128::from(debt));
@@ -150,9 +155,11 @@ pub fn no_recovery(applies: bool, coll: u64, debt: u64, price: u64) -> Result<()
     Ok(())
 }
 
-/// `RatioFalls`: the ratio of the new collateral (gwei) to the new debt (micro-LUSD) is below that of the old ones.
+/// `RatioFalls`: the ratio of the new collateral (gwei) to the new debt (micro-LUSD) is below that
+/// of the old ones.
 pub fn no_fall(applies: bool, new: (u64, u64), old: (u64, u64)) -> Result<(), Refusal>
-    ensures { Tells (only_where applies (where_below (new.0 * old.1) (old.0 * new.1) refused.RatioFalls)) result }
+    ensures { Tells (only_where applies (where_below (new.0 * old.1)
+        (old.0 * new.1) refused.RatioFalls)) result }
 {
     let left = u128::from(new.0) * u128::from(old.1);
     let right = u128::from(old.0) * u128::from(new.1);

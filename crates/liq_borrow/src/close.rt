@@ -9,9 +9,10 @@ use crate::terms::is_recovery;
 use liq_types::amounts::RESERVE;
 use liq_types::{Market, Refusal, Wallet};
 
-/// What closing an account's trove, of which the entire collateral (gwei) and debt (micro-LUSD) are given, repays
-/// (micro-LUSD) and returns (gwei). Refused, in this order: `NoTrove`; `LastTrove`; `RecoveryForbids`; `ShortTokens`, where the
-/// wallet has less than the debt beside the reserve; `SystemRatioLow`.
+/// What closing an account's trove, of which the entire collateral (gwei) and debt (micro-LUSD) are
+/// given, repays (micro-LUSD) and returns (gwei). Refused, in this order: `NoTrove`; `LastTrove`;
+/// `RecoveryForbids`; `ShortTokens`, where the wallet has less than the debt beside the reserve;
+/// `SystemRatioLow`.
 pub fn plan_close(
     m: &Market,
     wallet: &Wallet,

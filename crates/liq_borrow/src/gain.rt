@@ -10,9 +10,9 @@ use crate::terms::{is_recovery, rate_kept};
 use liq_types::amounts::{LIM, MCR};
 use liq_types::{Market, Refusal};
 
-/// What a gain (gwei) of the Stability Pool would make of the account's trove, of which the entire collateral (gwei) and debt
-/// (micro-LUSD) are given. It is no borrowing: there is no fee, and the base rate stays. Refused, in this order: `NoTrove`;
-/// `NoGain`; `RatioLow`, in Normal Mode.
+/// What a gain (gwei) of the Stability Pool would make of the account's trove, of which the entire
+/// collateral (gwei) and debt (micro-LUSD) are given. It is no borrowing: there is no fee, and the
+/// base rate stays. Refused, in this order: `NoTrove`; `NoGain`; `RatioLow`, in Normal Mode.
 pub fn plan_gain(
     m: &Market,
     entire: Option<(u64, u64)>,
@@ -20,7 +20,8 @@ pub fn plan_gain(
     gain: u64,
 ) -> Result<Plan, Refusal>
     requires market { IsMarket m.now }
-    // What was brought in is within the limit, and so are the trove's part of it and the gain together.
+    // What was brought in is within the limit, and so are the trove's part of it and the gain
+    // together.
     requires coll { (or_nothing entire).0 + gain ≤ LIM }
     ensures { result ≡ gain_plan m.now entire account gain }
 {

@@ -1,4 +1,5 @@
-//! Opening, changing and closing troves: the rules that decide what is refused, and what a trove then has.
+//! Opening, changing and closing troves: the rules that decide what is refused, and what a trove
+//! then has.
 #![tactic(auto)]
 
 mod adjust;

@@ -10,9 +10,10 @@ use crate::terms::{borrowing, is_recovery, least_bound, least_ratio};
 use liq_types::amounts::RESERVE;
 use liq_types::{Market, Refusal, Wallet};
 
-/// What opening a trove with so much collateral (gwei) and borrowing (micro-LUSD) would make of it, the fee's rate being
-/// bound. Refused, in this order: `TroveExists`; `FeeBound`; `FeeOver`; `NetDebtLow`, where what is borrowed and the fee are
-/// too low; `AmountLimit` of all debt; `ShortCollateral`; `RatioLow`; `SystemRatioLow`, in Normal Mode.
+/// What opening a trove with so much collateral (gwei) and borrowing (micro-LUSD) would make of it,
+/// the fee's rate being bound. Refused, in this order: `TroveExists`; `FeeBound`; `FeeOver`;
+/// `NetDebtLow`, where what is borrowed and the fee are too low; `AmountLimit` of all debt;
+/// `ShortCollateral`; `RatioLow`; `SystemRatioLow`, in Normal Mode.
 pub fn plan_open(
     m: &Market,
     wallet: &Wallet,

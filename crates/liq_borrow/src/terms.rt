@@ -28,8 +28,8 @@ pub fn rate_kept(m: &Market) -> Rate
     }
 }
 
-/// The fee of a borrowing (micro-LUSD) and the base rate after it. In Recovery Mode there is no fee and the rate stays, as it
-/// does where nothing is borrowed.
+/// The fee of a borrowing (micro-LUSD) and the base rate after it. In Recovery Mode there is no fee
+/// and the rate stays, as it does where nothing is borrowed.
 pub fn borrowing(m: &Market, amount: u64) -> (u64, Rate)
     requires { IsMarket m.now }
     ensures fee { result.0 ≡ rules.fee_now m.now amount }

@@ -68,7 +68,8 @@ listed accounts places = record {
   status = if nat_lt places accounts then SHORT else OK;
 }
 
--- what stands in some places into which a list goes from an index on; for two lists memory is wanted
+-- what stands in some places into which a list goes from an index on; for two lists memory is
+-- wanted
 abbrev pub ListsAs : Content → AccountList → ℕ → (old new : List ℕ) → Done → Type 0
 ListsAs m list from old new result =
     ((new ≡ laid (drop from (accounts_in list m)) old)

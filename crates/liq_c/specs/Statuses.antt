@@ -33,8 +33,8 @@ told_text lines = record {
   status = line_status lines.fault;
 }
 
--- A call that answers a batch of so many items. Without a market it does nothing; else it tells how the
--- batch ended, and the batch leaves the market that is then in the place.
+-- A call that answers a batch of so many items. Without a market it does nothing; else it tells how
+-- the batch ended, and the batch leaves the market that is then in the place.
 abbrev pub Ends : (old new : Option Content) → (items : ℕ) → Done → Type 0
     → (Content → Content → Batch → Type 0) → Type 0
 Ends None new items result Unwritten Leaves =

@@ -1,5 +1,5 @@
-//! The engine for C: markets in memory, each in a place of the caller's. Each call that changes a market takes it out
-//! of its place and puts it back.
+//! The engine for C: markets in memory, each in a place of the caller's. Each call that changes a
+//! market takes it out of its place and puts it back.
 #![tactic(auto)]
 
 ghost use Rattle.std.specs.Prelude.{◌≡◌};

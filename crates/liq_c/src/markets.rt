@@ -13,8 +13,8 @@ use liq_market::Market;
 use liq_types::NoMemory;
 use std::alloc::Global;
 
-/// Puts a market into a place, as it opens: it has touched nobody. What was in it is freed. Without memory the place is
-/// as it was.
+/// Puts a market into a place, as it opens: it has touched nobody. What was in it is freed. Without
+/// memory the place is as it was.
 #[unsafe(no_mangle)]
 pub extern "C" fn liq_open(alloc: Global, slot: &mut Slot) -> u32
     ensures opened { result ≡ OK
@@ -39,8 +39,8 @@ pub extern "C" fn liq_close(alloc: Global, slot: &mut Slot)
     *slot = Slot::closed(alloc);
 }
 
-/// Puts the same market into another place; what was in that is freed. Without a market or memory that place is as it
-/// was.
+/// Puts the same market into another place; what was in that is freed. Without a market or memory
+/// that place is as it was.
 #[unsafe(no_mangle)]
 pub extern "C" fn liq_fork(alloc: Global, slot: &mut Slot, into: &mut Slot) -> u32
     ensures kept { slot.new.inside.held ≡ slot.old.inside.held }

@@ -37,7 +37,8 @@ pub extern "C" fn liq_save(alloc: Global, slot: &mut Slot, bytes: &mut [u8]) -> 
     status
 }
 
-/// Puts the market of a save into a place; what was in it is freed. Where there is none the place is as it was.
+/// Puts the market of a save into a place; what was in it is freed. Where there is none the place
+/// is as it was.
 #[unsafe(no_mangle)]
 pub extern "C" fn liq_load(alloc: Global, slot: &mut Slot, bytes: &[u8]) -> u32
     ensures { Loads bytes.now slot.old.inside.held slot.new.inside.held result }

@@ -9,7 +9,8 @@ pub fn is_change(word: &str) -> bool {
     matches!(word, "bytes" | "text" | "crash" | "cut" | "flip" | "set")
 }
 
-/// What a disk that held these bytes holds once it is changed, as words say whose first names the disk: in each way but by a crash.
+/// What a disk that held these bytes holds once it is changed, as words say whose first names the
+/// disk: in each way but by a crash.
 pub fn changed(alloc: Global, held: &[u8], words: &[&str]) -> Result<Vec<u8>, Misread> {
     match words {
         [_, "bytes", digits] => hex_bytes(alloc, digits),

@@ -4,7 +4,8 @@ use crate::misread::Misread;
 use crate::run::Side;
 use crate::signing::sign;
 
-/// A byte that is put at a place of a disk, and the number of the record that it damages: 0 is the header and its checkpoint.
+/// A byte that is put at a place of a disk, and the number of the record that it damages: 0 is the
+/// header and its checkpoint.
 #[derive(Clone, Copy)]
 pub struct Forged {
     pub side: Side,

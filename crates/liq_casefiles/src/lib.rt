@@ -1,4 +1,5 @@
-//! Case files: what their lines say of runs, and what is told of a file. The form of a case is told in docs/CASES.md.
+//! Case files: what their lines say of runs, and what is told of a file. The form of a case is told
+//! in docs/CASES.md.
 #![tactic(auto)]
 
 mod changes;

@@ -84,7 +84,8 @@ impl Lines {
         self.input.get(..input).unwrap_or(&[])
     }
 
-    /// What goes out by the lines that have ended, with their line ends, in the first so many bytes that come in.
+    /// What goes out by the lines that have ended, with their line ends, in the first so many bytes
+    /// that come in.
     pub fn answered(&self, bytes: usize) -> &[u8] {
         let mut output = 0;
         for end in &self.ends {
@@ -96,7 +97,8 @@ impl Lines {
         self.output.get(..output).unwrap_or(&[])
     }
 
-    /// How many lines are answered by the first so many bytes that go out, and all that goes out for them.
+    /// How many lines are answered by the first so many bytes that go out, and all that goes out
+    /// for them.
     pub fn answered_by(&self, bytes: usize) -> (usize, &[u8]) {
         let mut lines: usize = 0;
         let mut output = 0;
@@ -109,7 +111,8 @@ impl Lines {
         (lines, self.output.get(..output).unwrap_or(&[]))
     }
 
-    /// Appends what must go out for the lines of a session, by its digit, below a line that names it.
+    /// Appends what must go out for the lines of a session, by its digit, below a line that names
+    /// it.
     pub fn put_session(&self, text: &mut Vec<u8>, session: u8) -> Result<(), AllocError> {
         let mut named = false;
         let mut input = 0;

@@ -62,7 +62,8 @@ pub struct Failing {
     pub right: Vec<u64>,
 }
 
-/// A sweep that is asked for. Those of disks have the numbers of the first call that fails and of the last one.
+/// A sweep that is asked for. Those of disks have the numbers of the first call that fails and of
+/// the last one.
 #[derive(Clone, Copy)]
 pub enum Asked {
     Source,

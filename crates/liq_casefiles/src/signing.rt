@@ -12,7 +12,8 @@ const BODY: usize = 96;
 /// The bytes of a record with its gate.
 const RECORD: usize = 129;
 
-/// Makes the digest true of the record of this number, or of the header and the checkpoint where it is 0.
+/// Makes the digest true of the record of this number, or of the header and the checkpoint where it
+/// is 0.
 pub fn sign(held: &mut [u8], index: u64) -> Result<(), Misread> {
     if index == 0 {
         sign_header(held)

@@ -4,7 +4,8 @@ use crate::misread::Misread;
 use liq_text::read_number;
 use std::alloc::Global;
 
-/// Appends a line: what a text writes out, and a line end where it leaves it in. A text without letters is no line.
+/// Appends a line: what a text writes out, and a line end where it leaves it in. A text without
+/// letters is no line.
 pub fn put_line(bytes: &mut Vec<u8>, text: &str) -> Result<(), Misread> {
     if text.is_empty() {
         return Ok(());

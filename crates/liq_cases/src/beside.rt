@@ -1,5 +1,6 @@
-//! What no file asks for: sessions that are held back, so that it shows whether they are served at once; one whose calls show what is
-//! published behind each; sources that go on behind their end; and words that the system does not give.
+//! What no file asks for: sessions that are held back, so that it shows whether they are served at
+//! once; one whose calls show what is published behind each; sources that go on behind their end;
+//! and words that the system does not give.
 
 use crate::devices::{Devices, through};
 use crate::endings::check_endings;
@@ -19,7 +20,8 @@ const TWO: &[u8] = b"1 ? pools\n2 ? system\n";
 const EIGHT: &[u8] =
     b"1 ? pools\n2 ? pools\n3 ? pools\n4 ? pools\n5 ? pools\n6 ? pools\n7 ? pools\n8 ? pools\n";
 
-/// Lines of sessions, and whose first calls are held back: by those of others, which so do not wait for the end of theirs.
+/// Lines of sessions, and whose first calls are held back: by those of others, which so do not wait
+/// for the end of theirs.
 const HELD: [(&[u8], Holds); 3] = [
     (
         TWO,
@@ -53,13 +55,14 @@ const BEHIND: Holds = Holds::Until {
     index: 2,
 };
 
-/// The versions by which the calls of both are hinted: session 1 sees the list as it was opened, and session 2 the one behind the first
-/// trove, which is the second entry.
+/// The versions by which the calls of both are hinted: session 1 sees the list as it was opened,
+/// and session 2 the one behind the first trove, which is the second entry.
 const VERSIONS: [u64; 4] = [0, 0, 2, 2];
 
-/// Calls of one session, and the version of the list by which each is hinted: the number of the last call in front of it whose
-/// reply changed the list. Each of the seven kinds of such replies comes, each kind that changes none, and a refused opening
-/// and a query. A command is accepted only where the one numbered before it was, so the last line shows that all of them were.
+/// Calls of one session, and the version of the list by which each is hinted: the number of the
+/// last call in front of it whose reply changed the list. Each of the seven kinds of such replies
+/// comes, each kind that changes none, and a refused opening and a query. A command is accepted
+/// only where the one numbered before it was, so the last line shows that all of them were.
 const PUBLISHED: [(&[u8], u64); 28] = [
     (b"1 1 1 fund 1 40000000000\n", 0),
     (b"1 1 2 fund 2 100000000000\n", 0),

@@ -15,8 +15,8 @@ use std::alloc::{AllocError, Global};
 use std::sync::Wait;
 use std::thread::Threads;
 
-/// What a run meets: its words, its input, how many bytes a read gives and a write takes, what the disks hold, and
-/// which calls fail.
+/// What a run meets: its words, its input, how many bytes a read gives and a write takes, what the
+/// disks hold, and which calls fail.
 #[derive(Clone, Copy)]
 pub struct Devices<'a> {
     pub words: &'a [String],

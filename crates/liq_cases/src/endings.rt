@@ -1,5 +1,6 @@
-//! What no file asks for: a source that goes on behind its end, as a terminal does behind a line that was ended
-//! there, and a pipe to which somebody else writes. It is at its end where it says so, and is not read again.
+//! What no file asks for: a source that goes on behind its end, as a terminal does behind a line
+//! that was ended there, and a pipe to which somebody else writes. It is at its end where it says
+//! so, and is not read again.
 
 ghost use Rattle.std.specs.Prelude.{None};
 
@@ -17,7 +18,8 @@ const JOURNAL: &[u8] =
     \x8a\xc7\x23\x04\x89\xe8\x00\x00\x3c\x06\x68\x8a\x69\x3b\xa1\x79\xd1\x34\x1d\xa5\xad\x38\x32\xe9\
     \xf1\xbb\x0b\x73\xbf\x33\x2f\x55\x14\x21\xa1\xc3\x4a\x52\x19\xd6\x01";
 
-/// Words that read, a first text, what is answered to it on new disks, and a second text behind an end.
+/// Words that read, a first text, what is answered to it on new disks, and a second text behind an
+/// end.
 const TEXTS: [(&str, &[u8], &[u8], &[u8]); 9] = [
     ("run", b"? wallet 1\n", b"0 0\n", b"? wallet 2\n"),
     ("run", b"? wallet 1", b"0 0\n", b"\n? wallet 2\n"),
@@ -60,8 +62,8 @@ const TEXTS: [(&str, &[u8], &[u8], &[u8]); 9] = [
     ),
 ];
 
-/// Gives the bytes of a first text, then an end, and then those of a second. It tells none of them: behind an end a
-/// source that does has nothing left.
+/// Gives the bytes of a first text, then an end, and then those of a second. It tells none of them:
+/// behind an end a source that does has nothing left.
 #[derive(Drop)]
 struct TwoTexts {
     first: Vec<u8>,
@@ -92,7 +94,8 @@ impl TwoTexts {
         &text[self.taken.min(text.len())..]
     }
 
-    /// How many bytes were read of the second text, or the length of both where the first has not ended.
+    /// How many bytes were read of the second text, or the length of both where the first has not
+    /// ended.
     fn behind(&self) -> usize {
         if self.ended {
             self.taken
@@ -119,7 +122,8 @@ impl Source for TwoTexts {
     }
 }
 
-/// Runs each of these words over its two texts: the first alone is answered, and nothing of the second is read.
+/// Runs each of these words over its two texts: the first alone is answered, and nothing of the
+/// second is read.
 pub fn check_endings<R: Threads + Wait + Sync>(
     rt: &R,
     alloc: Global,

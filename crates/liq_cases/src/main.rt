@@ -1,6 +1,7 @@
-//! Runs cases: whole runs of liq, written down in readable files. `liq_cases FILE ..` prints a line for each file, with how many cases it
-//! has, and a line for each difference between what a case says and what comes. The form of a case is told in docs/CASES.md. The last
-//! line is that of a few runs that no file asks for.
+//! Runs cases: whole runs of liq, written down in readable files. `liq_cases FILE ..` prints a line
+//! for each file, with how many cases it has, and a line for each difference between what a case
+//! says and what comes. The form of a case is told in docs/CASES.md. The last line is that of a few
+//! runs that no file asks for.
 #![tactic(auto)]
 
 mod beside;

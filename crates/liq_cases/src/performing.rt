@@ -14,7 +14,8 @@ use std::alloc::AllocError;
 use std::sync::Wait;
 use std::thread::Threads;
 
-/// Makes a run's sweeps, and then the run for each of its sizes. The disks become those that the last size leaves.
+/// Makes a run's sweeps, and then the run for each of its sizes. The disks become those that the
+/// last size leaves.
 pub fn perform<R: Threads + Wait + Sync>(
     rt: &R,
     stage: &Stage<'_>,
@@ -64,7 +65,8 @@ fn make<R: Threads + Wait + Sync>(
     Ok(())
 }
 
-/// What a run at a read and a write of these sizes leaves, once it is compared with what stands in the file.
+/// What a run at a read and a write of these sizes leaves, once it is compared with what stands in
+/// the file.
 pub fn make_once<R: Threads + Wait + Sync>(
     rt: &R,
     stage: &Stage<'_>,

@@ -7,8 +7,8 @@ use std::alloc::{AllocError, Global};
 use std::sync::Wait;
 use std::thread::Threads;
 
-/// A run by the call with threads. Where the other call leaves anything else over equal devices, that is told;
-/// sessions have no other call.
+/// A run by the call with threads. Where the other call leaves anything else over equal devices,
+/// that is told; sessions have no other call.
 pub fn run_by_both<R: Threads + Wait + Sync>(
     rt: &R,
     alloc: Global,

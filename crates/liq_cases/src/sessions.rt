@@ -9,7 +9,8 @@ use std::alloc::{AllocError, Global};
 use std::sync::Wait;
 use std::thread::Threads;
 
-/// Texts of eight sessions, those of one behind those of another, and where each session's begin and end.
+/// Texts of eight sessions, those of one behind those of another, and where each session's begin
+/// and end.
 struct BySession<'a> {
     texts: Vec<&'a [u8]>,
     ranges: [(usize, usize); 9],
@@ -120,7 +121,8 @@ impl Drop for Output<'_> {
     }
 }
 
-/// How far an output is read: the session of the heading, whether the history has begun, and the calls in it.
+/// How far an output is read: the session of the heading, whether the history has begun, and the
+/// calls in it.
 #[derive(Drop)]
 struct Reading {
     session: u8,
@@ -225,8 +227,8 @@ fn put_history(alloc: Global, text: &mut Vec<u8>, history: &[u8]) -> Result<(), 
     Ok(())
 }
 
-/// Tells where the output of sessions is not what it must be: each session's replies, and a history that has each
-/// line once.
+/// Tells where the output of sessions is not what it must be: each session's replies, and a history
+/// that has each line once.
 pub fn check_served<R: Threads + Wait + Sync>(
     rt: &R,
     stage: &Stage<'_>,
@@ -335,8 +337,8 @@ fn put(text: &mut Vec<u8>, line: Option<&[u8]>) -> Result<(), AllocError> {
     text.extend_from_slice(b"\n")
 }
 
-/// Tells where one session that asks the lines along the history, over the disks with which the run began, gets other
-/// replies, or leaves other disks than the run did.
+/// Tells where one session that asks the lines along the history, over the disks with which the run
+/// began, gets other replies, or leaves other disks than the run did.
 fn check_legal<R: Threads + Wait + Sync>(
     rt: &R,
     stage: &Stage<'_>,

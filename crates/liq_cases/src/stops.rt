@@ -1,5 +1,5 @@
-//! Runs whose disks fail from a call on, crashed and opened again: all that was answered is found, and one line more at most. Then
-//! that opening is stopped too.
+//! Runs whose disks fail from a call on, crashed and opened again: all that was answered is found,
+//! and one line more at most. Then that opening is stopped too.
 
 use crate::devices::{Devices, are_serve, by_protocol};
 use crate::performing::check;
@@ -83,7 +83,8 @@ impl<'a> Stops<'a> {
         self.stage.run.found.get(lines).unwrap_or(&self.nothing)
     }
 
-    /// What a run meets that asks on these disks what is found after so many lines, where they fail from these calls on.
+    /// What a run meets that asks on these disks what is found after so many lines, where they fail
+    /// from these calls on.
     fn asking<'b>(&'b self, lines: usize, held: &'b Start, stop: Stop) -> Devices<'b> {
         Devices {
             words: &self.asking,
@@ -113,7 +114,8 @@ impl<'a> Stops<'a> {
         }
     }
 
-    /// So many lines are answered, and one more may be carried out. How many sessions were answered is not told.
+    /// So many lines are answered, and one more may be carried out. How many sessions were answered
+    /// is not told.
     fn answered(&self, lines: usize) -> Between {
         let all = self.all();
         if are_serve(&self.stage.run.words) {
@@ -132,7 +134,8 @@ fn is_same(one: &Start, other: &Start) -> bool {
     one.left == other.left && one.right == other.right
 }
 
-/// Both disks fail from calls on, each pair of these in turn and of those behind the last ones, which are never made.
+/// Both disks fail from calls on, each pair of these in turn and of those behind the last ones,
+/// which are never made.
 pub fn sweep_stops<R: Threads + Wait + Sync>(
     rt: &R,
     stage: &Stage<'_>,
@@ -157,7 +160,8 @@ pub fn sweep_stops<R: Threads + Wait + Sync>(
     Ok(())
 }
 
-/// A beginning of the replies goes out, or all where no call fails; and what is found after each crash stands behind them.
+/// A beginning of the replies goes out, or all where no call fails; and what is found after each
+/// crash stands behind them.
 fn check_stop<R: Threads + Wait + Sync>(
     rt: &R,
     stops: &mut Stops<'_>,
@@ -178,7 +182,8 @@ fn check_stop<R: Threads + Wait + Sync>(
     check_crashes(rt, stops, told, stop, between)
 }
 
-/// What the crashes of a run leave, each way of the one disk beside each of the other, and each pair once.
+/// What the crashes of a run leave, each way of the one disk beside each of the other, and each
+/// pair once.
 fn crashes<R: Threads + Wait + Sync>(
     rt: &R,
     alloc: Global,
@@ -220,8 +225,8 @@ fn pairs(alloc: Global, lefts: &[Vec<u8>], rights: &[Vec<u8>]) -> Result<Vec<Sta
     Ok(pairs)
 }
 
-/// Crashes both disks in each way, up to the first after which something else is found. An opening of what is left is
-/// stopped too, if none of the same was.
+/// Crashes both disks in each way, up to the first after which something else is found. An opening
+/// of what is left is stopped too, if none of the same was.
 fn check_crashes<R: Threads + Wait + Sync>(
     rt: &R,
     stops: &mut Stops<'_>,
@@ -241,7 +246,8 @@ fn check_crashes<R: Threads + Wait + Sync>(
     Ok(())
 }
 
-/// After how many lines what these disks hold is found, of what may be. Where it is something else, that is told.
+/// After how many lines what these disks hold is found, of what may be. Where it is something else,
+/// that is told.
 fn find<'a, R: Threads + Wait + Sync>(
     rt: &R,
     stops: &'a Stops<'_>,
@@ -307,8 +313,8 @@ fn stop_opening<R: Threads + Wait + Sync>(
     Ok(())
 }
 
-/// Whether an opening is stopped where these disks fail from these calls on. If it is, just that is told, and no less than was
-/// found before is found on them after each crash.
+/// Whether an opening is stopped where these disks fail from these calls on. If it is, just that is
+/// told, and no less than was found before is found on them after each crash.
 fn is_stopped<'a, R: Threads + Wait + Sync>(
     rt: &R,
     stops: &'a Stops<'_>,
@@ -328,7 +334,8 @@ fn is_stopped<'a, R: Threads + Wait + Sync>(
     Ok(true)
 }
 
-/// Crashes both disks in each way after an opening that was stopped. What is as before need not be opened again.
+/// Crashes both disks in each way after an opening that was stopped. What is as before need not be
+/// opened again.
 fn check_second_crashes<'a, R: Threads + Wait + Sync>(
     rt: &R,
     stops: &'a Stops<'_>,

@@ -75,7 +75,8 @@ fn fail_read<R: Threads + Wait + Sync>(
     run_by_both(rt, stage.alloc, told, &devices)
 }
 
-/// Each line is answered that had ended among so many bytes, which came before the read that failed.
+/// Each line is answered that had ended among so many bytes, which came before the read that
+/// failed.
 fn check_failed_read(stage: &Stage<'_>, told: &mut Told, bytes: u64, outcome: &Outcome) {
     let answered = stage.run.lines.answered(answering(stage, bytes as usize));
     let output = outcome.output();
@@ -94,7 +95,8 @@ fn answering(stage: &Stage<'_>, bytes: usize) -> usize {
     }
 }
 
-/// Of the input only the first bytes come in, so many and one more, up to so many. The same goes out.
+/// Of the input only the first bytes come in, so many and one more, up to so many. The same goes
+/// out.
 pub fn sweep_cuts<R: Threads + Wait + Sync>(
     rt: &R,
     stage: &Stage<'_>,
@@ -197,7 +199,8 @@ fn check_failed_write(
     told.number("status", u64::from(status), outcome.status());
 }
 
-/// How many bytes of an output are replies: a last line behind them says why a run ended, where it did not end well.
+/// How many bytes of an output are replies: a last line behind them says why a run ended, where it
+/// did not end well.
 fn replies(status: u8, output: &[u8]) -> usize {
     if status == 0 {
         return output.len();
@@ -213,8 +216,8 @@ fn replies(status: u8, output: &[u8]) -> usize {
     replies
 }
 
-/// These calls of a disk fail in turn: a beginning of the replies goes out, and what was answered is found after each
-/// crash. Then one behind the last of them fails, which is never made.
+/// These calls of a disk fail in turn: a beginning of the replies goes out, and what was answered
+/// is found after each crash. Then one behind the last of them fails, which is never made.
 pub fn sweep_disk<R: Threads + Wait + Sync>(
     rt: &R,
     stage: &Stage<'_>,
@@ -253,7 +256,8 @@ fn fail_call<R: Threads + Wait + Sync>(
     run_by_both(rt, stage.alloc, told, &devices)
 }
 
-/// Where a call of a disk fails, a beginning of the replies goes out, and is found after each crash.
+/// Where a call of a disk fails, a beginning of the replies goes out, and is found after each
+/// crash.
 fn check_failed_call<R: Threads + Wait + Sync>(
     rt: &R,
     stage: &Stage<'_>,

@@ -18,7 +18,8 @@ pub enum Holds {
     All(u64),
 }
 
-/// The hint that a call was made with: its version, and the account on each side, as a number: 0 where it is absent, and else one more.
+/// The hint that a call was made with: its version, and the account on each side, as a number: 0
+/// where it is absent, and else one more.
 #[derive(Drop)]
 pub struct Hinted {
     pub version: AtomicU64,
@@ -50,8 +51,8 @@ impl Hinted {
     }
 }
 
-/// Holds calls back, and keeps the hints of the first two calls of sessions 1 and 2. After many turns it lets a call through and
-/// notes a miss.
+/// Holds calls back, and keeps the hints of the first two calls of sessions 1 and 2. After many
+/// turns it lets a call through and notes a miss.
 #[derive(Drop)]
 pub struct Waiting {
     holds: Holds,
@@ -130,7 +131,8 @@ impl Gate for Waiting {
     }
 }
 
-/// Lets every call through at once, and keeps by which version of the list each call of the one session is hinted.
+/// Lets every call through at once, and keeps by which version of the list each call of the one
+/// session is hinted.
 #[derive(Drop)]
 pub struct Versions {
     hinted: Vec<AtomicU64>,

@@ -22,11 +22,13 @@ out_of_rest list e =
 
 ascends : (list : List Ranked) (change : ListChange) → IsAscending list → IsAscending (listed list change)
 ascends list (Put key account) h =
-    with_ascending (without_ranked list account) (key, account) (out_of_rest list (key, account)) (ascending_kept (λ (e : Ranked). not (e.1 == account)) list h)
+    with_ascending (without_ranked list account) (key, account) (out_of_rest list (key, account))
+    (ascending_kept (λ (e : Ranked). not (e.1 == account)) list h)
 ascends list (Gone account) h = ascending_kept (λ (e : Ranked). not (e.1 == account)) list h
 ascends list (Words snap_stakes snap_coll sum_debt) h = h
 
-pub all_ascend : (list : List Ranked) (changes : List ListChange) → IsAscending list → IsAscending (all_listed list changes)
+pub all_ascend : (list : List Ranked) (changes : List ListChange) → IsAscending list
+    → IsAscending (all_listed list changes)
 all_ascend list [] h = h
 all_ascend list (change ∷ more) h = all_ascend (listed list change) more (ascends list change h)
 
@@ -50,7 +52,8 @@ entry_settles e (Gone account) = by (e.1 == account) where
   by false = inl (λ there. refl)
 entry_settles e (Words snap_stakes snap_coll sum_debt) = inl (λ there. refl)
 
-one_is_in : (list : List Ranked) (change : ListChange) (e : Ranked) → is_in (listed list change) e ≡ is_in_after e (is_in list e) change
+one_is_in : (list : List Ranked) (change : ListChange) (e : Ranked) → is_in (listed list change) e
+    ≡ is_in_after e (is_in list e) change
 unfolding is_in_after
 one_is_in list (Put key account) e =
     with_is_in (without_ranked list account) (key, account) e
@@ -58,12 +61,14 @@ one_is_in list (Put key account) e =
 one_is_in list (Gone account) e = without_is_in list account e
 one_is_in list (Words snap_stakes snap_coll sum_debt) e = refl
 
-all_is_in : (list : List Ranked) (changes : List ListChange) (e : Ranked) → is_in (all_listed list changes) e ≡ fold (is_in_after e) (is_in list e) changes
+all_is_in : (list : List Ranked) (changes : List ListChange) (e : Ranked) → is_in (all_listed list changes) e
+    ≡ fold (is_in_after e) (is_in list e) changes
 all_is_in list [] e = refl
 all_is_in list (change ∷ more) e =
     all_is_in (listed list change) more e ∙ ap (λ b. fold (is_in_after e) b more) (one_is_in list change e)
 
-list_again : (list : List Ranked) (first more : List ListChange) → IsAscending list → all_listed (all_listed list first) (first ++ more) ≡ all_listed list (first ++ more)
+list_again : (list : List Ranked) (first more : List ListChange) → IsAscending list
+    → all_listed (all_listed list first) (first ++ more) ≡ all_listed list (first ++ more)
 list_again list first more h =
     same_list (all_listed (all_listed list first) (first ++ more)) (all_listed list (first ++ more))
     (all_ascend (all_listed list first) (first ++ more) (all_ascend list first h)) (all_ascend list (first ++ more) h)
@@ -98,12 +103,14 @@ one_words v (Put key account) = refl
 one_words v (Gone account) = refl
 one_words v (Words snap_stakes snap_coll sum_debt) = refl
 
-all_words : (v : View) (changes : List ListChange) → words_of (all_followed v changes) ≡ fold words_after (words_of v) changes
+all_words : (v : View) (changes : List ListChange) → words_of (all_followed v changes)
+    ≡ fold words_after (words_of v) changes
 all_words v [] = refl
 all_words v (change ∷ more) =
     all_words (followed v change) more ∙ ap (λ (w : ThreeWords). fold words_after w more) (one_words v change)
 
-words_again : (v : View) (first more : List ListChange) → words_of (all_followed (all_followed v first) (first ++ more)) ≡ words_of (all_followed v (first ++ more))
+words_again : (v : View) (first more : List ListChange) → words_of (all_followed (all_followed v first) (first ++ more))
+    ≡ words_of (all_followed v (first ++ more))
 words_again v first more =
     all_words (all_followed v first) (first ++ more)
     ∙ ap (λ (w : ThreeWords). fold words_after w (first ++ more)) (all_words v first)
@@ -115,17 +122,21 @@ words_again v first more =
 abbrev with_words : List Ranked → ThreeWords → View
 with_words list words = record { list = list; snap_stakes = words.0; snap_coll = words.1; sum_debt = words.2 }
 
-entries_again : (v : View) (first more : List ListChange) → IsAscending v.list → (all_followed (all_followed v first) (first ++ more)).list ≡ (all_followed v (first ++ more)).list
+entries_again : (v : View) (first more : List ListChange) → IsAscending v.list
+    → (all_followed (all_followed v first) (first ++ more)).list ≡ (all_followed v (first ++ more)).list
 entries_again v first more h =
     list_of_views (all_followed v first) (first ++ more)
     ∙ ap (λ (l : List Ranked). all_listed l (first ++ more)) (list_of_views v first)
     ∙ list_again v.list first more h
     ∙ sym (list_of_views v (first ++ more))
 
-pub view_again : (v : View) (first more : List ListChange) → IsAscending v.list → all_followed (all_followed v first) (first ++ more) ≡ all_followed v (first ++ more)
+pub view_again : (v : View) (first more : List ListChange) → IsAscending v.list
+    → all_followed (all_followed v first) (first ++ more) ≡ all_followed v (first ++ more)
 view_again v first more h =
-    ap (λ (l : List Ranked). with_words l (words_of (all_followed (all_followed v first) (first ++ more)))) (entries_again v first more h)
+    ap (λ (l : List Ranked). with_words l (words_of (all_followed (all_followed v first) (first ++ more))))
+    (entries_again v first more h)
     ∙ ap (λ (w : ThreeWords). with_words (all_followed v (first ++ more)).list w) (words_again v first more)
 
-pub view_ascends : (v : View) (changes : List ListChange) → IsAscending v.list → IsAscending (all_followed v changes).list
+pub view_ascends : (v : View) (changes : List ListChange) → IsAscending v.list
+    → IsAscending (all_followed v changes).list
 view_ascends v changes h = subst IsAscending (sym (list_of_views v changes)) (all_ascend v.list changes h)

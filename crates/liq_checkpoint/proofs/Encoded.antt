@@ -17,6 +17,7 @@ module _ (i : Image) (bytes : List ℕ) where
   pub is_long : HasTables i → Puts (name i.limit) bytes (contents i) → length bytes ≡ checkpoint_length i
   is_long tables put = ap length (is_spelled put) ∙ spelling_is_long i tables
 
-  pub reads : HasTables i → Puts (name i.limit) bytes (contents i) → IsLimit i.limit → image_at (length bytes) bytes ≡ Ok i
+  pub reads : HasTables i → Puts (name i.limit) bytes (contents i) → IsLimit i.limit
+      → image_at (length bytes) bytes ≡ Ok i
   reads tables put limit =
       ap (image_at (length bytes)) (is_spelled put) ∙ image_again i tables put.fit limit (length bytes)

@@ -30,61 +30,85 @@ use Rattle.liq_checkpoint.proofs.Rows.{IsRow, IsOrder, table_then, table_again, 
 
 -- ---- parts of rows
 
-some_takes : (end count : ℕ) (at : List ℕ) (x : ℕ × List ℕ) → IsBytes at → some_at end count at ≡ Ok x → Takes at ((count, x.0) ∷ []) x.1 × (1 ≤ x.0)
+some_takes : (end count : ℕ) (at : List ℕ) (x : ℕ × List ℕ) → IsBytes at → some_at end count at ≡ Ok x
+    → Takes at ((count, x.0) ∷ []) x.1 × (1 ≤ x.0)
 unfolding some_at
 some_takes end count at x fits e =
     let a = bind_ok (number_at end count at) _ x e in
     let p = passed (not (a.0.0 == 0)) end at a.0 x a.2 in
     let some : 1 ≤ a.0.0 = grind (arith, nat_tests, p.0) in
-    subst (λ (y : ℕ × List ℕ). Takes at ((count, y.0) ∷ []) y.1 × (1 ≤ y.0)) p.1 (number_takes end count at a.0 fits a.1, some)
+    subst (λ (y : ℕ × List ℕ). Takes at ((count, y.0) ∷ []) y.1
+    × (1 ≤ y.0)) p.1 (number_takes end count at a.0 fits a.1, some)
 
-some_then : {Y P : Type 0} (end count : ℕ) (at : List ℕ) (f : ℕ × List ℕ → Result Y ℕ) (y : Y) → IsBytes at → (some_at end count at >>= f) ≡ Ok y → ((n : ℕ) (rest : List ℕ) → Takes at ((count, n) ∷ []) rest → 1 ≤ n → f (n, rest) ≡ Ok y → P) → P
-some_then end count at f y fits e on = let a = bind_ok (some_at end count at) f y e in let t = some_takes end count at a.0 fits a.1 in on a.0.0 a.0.1 t.0 t.1 a.2
+some_then : {Y P : Type 0} (end count : ℕ) (at : List ℕ) (f : ℕ × List ℕ → Result Y ℕ) (y : Y) → IsBytes at
+    → (some_at end count at >>= f) ≡ Ok y → ((n : ℕ) (rest : List ℕ) → Takes at ((count, n) ∷ []) rest → 1 ≤ n
+    → f (n, rest) ≡ Ok y → P) → P
+some_then end count at f y fits e on = let a = bind_ok (some_at end count at) f y e
+    in let t = some_takes end count at a.0 fits a.1 in on a.0.0 a.0.1 t.0 t.1 a.2
 
-some_again : (end count n : ℕ) (more : List Field) (rest : List ℕ) → n < 256 ^ count → 1 ≤ n → some_at end count (spelled ((count, n) ∷ more) ++ rest) ≡ Ok (n, spelled more ++ rest)
+some_again : (end count n : ℕ) (more : List Field) (rest : List ℕ) → n < 256 ^ count → 1 ≤ n
+    → some_at end count (spelled ((count, n) ∷ more) ++ rest) ≡ Ok (n, spelled more ++ rest)
 unfolding some_at
 some_again end count n more rest small some =
     let not_none : not (n == 0) ≡ true = grind (arith, nat_tests, some) in
     rw (number_again end count n more rest small, not_none) refl
 
-key_takes : (end : ℕ) (last : Option ℕ) (at : List ℕ) (x : ℕ × List ℕ) → IsBytes at → key_at end last at ≡ Ok x → Takes at ((4, x.0) ∷ []) x.1 × (follows last x.0 ≡ true)
+key_takes : (end : ℕ) (last : Option ℕ) (at : List ℕ) (x : ℕ × List ℕ) → IsBytes at → key_at end last at ≡ Ok x
+    → Takes at ((4, x.0) ∷ []) x.1 × (follows last x.0 ≡ true)
 unfolding key_at
 key_takes end last at x fits e =
     let a = bind_ok (number_at end 4 at) _ x e in
     let p = passed (follows last a.0.0) end at a.0 x a.2 in
-    subst (λ (y : ℕ × List ℕ). Takes at ((4, y.0) ∷ []) y.1 × (follows last y.0 ≡ true)) p.1 (number_takes end 4 at a.0 fits a.1, p.0)
+    subst (λ (y : ℕ × List ℕ). Takes at ((4, y.0) ∷ []) y.1 × (follows last y.0 ≡ true)) p.1
+    (number_takes end 4 at a.0 fits a.1, p.0)
 
-key_then : {Y P : Type 0} (end : ℕ) (last : Option ℕ) (at : List ℕ) (f : ℕ × List ℕ → Result Y ℕ) (y : Y) → IsBytes at → (key_at end last at >>= f) ≡ Ok y → ((key : ℕ) (rest : List ℕ) → Takes at ((4, key) ∷ []) rest → follows last key ≡ true → f (key, rest) ≡ Ok y → P) → P
-key_then end last at f y fits e on = let a = bind_ok (key_at end last at) f y e in let t = key_takes end last at a.0 fits a.1 in on a.0.0 a.0.1 t.0 t.1 a.2
+key_then : {Y P : Type 0} (end : ℕ) (last : Option ℕ) (at : List ℕ) (f : ℕ × List ℕ → Result Y ℕ) (y : Y) → IsBytes at
+    → (key_at end last at >>= f) ≡ Ok y → ((key : ℕ) (rest : List ℕ) → Takes at ((4, key) ∷ []) rest
+    → follows last key ≡ true → f (key, rest) ≡ Ok y → P) → P
+key_then end last at f y fits e on = let a = bind_ok (key_at end last at) f y e
+    in let t = key_takes end last at a.0 fits a.1 in on a.0.0 a.0.1 t.0 t.1 a.2
 
-key_again : (end : ℕ) (last : Option ℕ) (key : ℕ) (more : List Field) (rest : List ℕ) → key < 256 ^ 4 → follows last key ≡ true → key_at end last (spelled ((4, key) ∷ more) ++ rest) ≡ Ok (key, spelled more ++ rest)
+key_again : (end : ℕ) (last : Option ℕ) (key : ℕ) (more : List Field) (rest : List ℕ) → key < 256 ^ 4
+    → follows last key ≡ true → key_at end last (spelled ((4, key) ∷ more) ++ rest) ≡ Ok (key, spelled more ++ rest)
 unfolding key_at
 key_again end last key more rest small h = rw (number_again end 4 key more rest small, h) refl
 
 -- ---- wallets
 
-wallet_takes : (end : ℕ) (last : Option ℕ) (at : List ℕ) (x : (ℕ × Wallet) × List ℕ) → IsBytes at → wallet_at end last at ≡ Ok x → Takes at (wallet x.0) x.1 × (is_used_wallet x.0.1 ≡ true) × (follows last x.0.0 ≡ true)
+wallet_takes : (end : ℕ) (last : Option ℕ) (at : List ℕ) (x : (ℕ × Wallet) × List ℕ) → IsBytes at
+    → wallet_at end last at ≡ Ok x → Takes at (wallet x.0) x.1 × (is_used_wallet x.0.1 ≡ true)
+    × (follows last x.0.0 ≡ true)
 unfolding wallet_at
 wallet_takes end last at x fits e =
     key_then end last at _ x fits e λ account a t0 above e0.
     number_then end 8 a _ x t0.rest_fits e0 λ coll b t1 e1.
     number_then end 8 b _ x t1.rest_fits e1 λ lusd c t2 e2.
     let p = passed (not (coll == 0 && lusd == 0)) end b ((account, record { coll = coll; lusd = lusd }), c) x e2 in
-    subst (λ (y : (ℕ × Wallet) × List ℕ). Takes at (wallet y.0) y.1 × (is_used_wallet y.0.1 ≡ true) × (follows last y.0.0 ≡ true)) p.1
+    subst (λ (y : (ℕ × Wallet) × List ℕ). Takes at (wallet y.0) y.1 × (is_used_wallet y.0.1 ≡ true)
+    × (follows last y.0.0 ≡ true)) p.1
     (Takes-then t0 (Takes-then t1 t2), p.0, above)
 
-wallet_again : (end : ℕ) (last : Option ℕ) (row : ℕ × Wallet) (rest : List ℕ) → Fit (wallet row) → is_used_wallet row.1 ≡ true → follows last row.0 ≡ true → wallet_at end last (spelled (wallet row) ++ rest) ≡ Ok (row, rest)
+wallet_again : (end : ℕ) (last : Option ℕ) (row : ℕ × Wallet) (rest : List ℕ) → Fit (wallet row)
+    → is_used_wallet row.1 ≡ true → follows last row.0 ≡ true → wallet_at end last (spelled (wallet row) ++ rest)
+    ≡ Ok (row, rest)
 unfolding wallet_at
 wallet_again end last row rest fit used h =
     let w = row.1 in
-    rw (key_again end last row.0 ((8, w.coll) ∷ (8, w.lusd) ∷ []) rest fit.0 h, number_again end 8 w.coll ((8, w.lusd) ∷ []) rest fit.1.0, number_again end 8 w.lusd [] rest fit.1.1.0, used) refl
+    rw (
+      key_again end last row.0 ((8, w.coll) ∷ (8, w.lusd) ∷ []) rest fit.0 h,
+      number_again end 8 w.coll ((8, w.lusd)
+          ∷ []) rest fit.1.0,
+      number_again end 8 w.lusd [] rest fit.1.1.0,
+      used,
+    ) refl
 
 pub wallet_row : (end : ℕ) → IsRow (wallet_at end) wallet (λ w. is_used_wallet w ≡ true) follows
 wallet_row end = record { takes = wallet_takes end; again = wallet_again end }
 
 -- ---- troves
 
-trove_takes : (end : ℕ) (last : Option ℕ) (at : List ℕ) (x : (ℕ × Trove) × List ℕ) → IsBytes at → trove_at end last at ≡ Ok x → Takes at (trove x.0) x.1 × Unit {0} × (follows last x.0.0 ≡ true)
+trove_takes : (end : ℕ) (last : Option ℕ) (at : List ℕ) (x : (ℕ × Trove) × List ℕ) → IsBytes at
+    → trove_at end last at ≡ Ok x → Takes at (trove x.0) x.1 × Unit {0} × (follows last x.0.0 ≡ true)
 unfolding trove_at
 trove_takes end last at x fits e =
     key_then end last at _ x fits e λ account a t0 above e0.
@@ -94,10 +118,14 @@ trove_takes end last at x fits e =
     number_then end 16 d _ x t3.rest_fits e3 λ mark_coll f t4 e4.
     number_then end 16 f _ x t4.rest_fits e4 λ mark_debt g t5 e5.
     subst (λ (y : (ℕ × Trove) × List ℕ). Takes at (trove y.0) y.1 × Unit {0} × (follows last y.0.0 ≡ true))
-    (ok_is ((account, record { coll = coll; debt = debt; stake = stake; mark_coll = mark_coll; mark_debt = mark_debt }), g) x e5)
+    (ok_is (
+      (account, record { coll = coll; debt = debt; stake = stake; mark_coll = mark_coll; mark_debt = mark_debt }),
+      g,
+    ) x e5)
     (Takes-then t0 (Takes-then t1 (Takes-then t2 (Takes-then t3 (Takes-then t4 t5)))), tt, above)
 
-trove_again : (end : ℕ) (last : Option ℕ) (row : ℕ × Trove) (rest : List ℕ) → Fit (trove row) → Unit {0} → follows last row.0 ≡ true → trove_at end last (spelled (trove row) ++ rest) ≡ Ok (row, rest)
+trove_again : (end : ℕ) (last : Option ℕ) (row : ℕ × Trove) (rest : List ℕ) → Fit (trove row) → Unit {0}
+    → follows last row.0 ≡ true → trove_at end last (spelled (trove row) ++ rest) ≡ Ok (row, rest)
 unfolding trove_at
 trove_again end last row rest fit used h =
     let t = row.1 in
@@ -120,15 +148,18 @@ no_use (row ∷ rows) = (tt, no_use rows)
 
 -- ---- surplus
 
-surplus_takes : (end : ℕ) (last : Option ℕ) (at : List ℕ) (x : (ℕ × ℕ) × List ℕ) → IsBytes at → surplus_at end last at ≡ Ok x → Takes at (surplus x.0) x.1 × (1 ≤ x.0.1) × (follows last x.0.0 ≡ true)
+surplus_takes : (end : ℕ) (last : Option ℕ) (at : List ℕ) (x : (ℕ × ℕ) × List ℕ) → IsBytes at
+    → surplus_at end last at ≡ Ok x → Takes at (surplus x.0) x.1 × (1 ≤ x.0.1) × (follows last x.0.0 ≡ true)
 unfolding surplus_at
 surplus_takes end last at x fits e =
     key_then end last at _ x fits e λ account a t0 above e0.
     some_then end 8 a _ x t0.rest_fits e0 λ coll b t1 some e1.
-    subst (λ (y : (ℕ × ℕ) × List ℕ). Takes at (surplus y.0) y.1 × (1 ≤ y.0.1) × (follows last y.0.0 ≡ true)) (ok_is ((account, coll), b) x e1)
+    subst (λ (y : (ℕ × ℕ) × List ℕ). Takes at (surplus y.0) y.1 × (1 ≤ y.0.1) × (follows last y.0.0 ≡ true))
+    (ok_is ((account, coll), b) x e1)
     (Takes-then t0 t1, some, above)
 
-surplus_again : (end : ℕ) (last : Option ℕ) (row : ℕ × ℕ) (rest : List ℕ) → Fit (surplus row) → 1 ≤ row.1 → follows last row.0 ≡ true → surplus_at end last (spelled (surplus row) ++ rest) ≡ Ok (row, rest)
+surplus_again : (end : ℕ) (last : Option ℕ) (row : ℕ × ℕ) (rest : List ℕ) → Fit (surplus row) → 1 ≤ row.1
+    → follows last row.0 ≡ true → surplus_at end last (spelled (surplus row) ++ rest) ≡ Ok (row, rest)
 unfolding surplus_at
 surplus_again end last row rest fit used h =
     rw (key_again end last row.0 ((8, row.1) ∷ []) rest fit.0 h, some_again end 8 row.1 [] rest fit.1.0 used) refl
@@ -143,7 +174,8 @@ epoch_too : (last : Option Place) (place : Place) → place_follows last place �
 epoch_too None place h = refl
 epoch_too (Some last) place h = grind (arith, nat_tests, h)
 
-finished_takes : (end : ℕ) (last : Option Place) (at : List ℕ) (x : (Place × ℕ) × List ℕ) → IsBytes at → finished_at end last at ≡ Ok x → Takes at (finished x.0) x.1 × (1 ≤ x.0.1) × (place_follows last x.0.0 ≡ true)
+finished_takes : (end : ℕ) (last : Option Place) (at : List ℕ) (x : (Place × ℕ) × List ℕ) → IsBytes at
+    → finished_at end last at ≡ Ok x → Takes at (finished x.0) x.1 × (1 ≤ x.0.1) × (place_follows last x.0.0 ≡ true)
 unfolding finished_at
 finished_takes end last at x fits e =
     number_then end 8 at _ x fits e λ epoch a t0 e0.
@@ -151,10 +183,12 @@ finished_takes end last at x fits e =
     number_then end 8 a _ x t0.rest_fits e1 λ scale b t1 e2.
     passed_then (place_follows last (epoch, scale)) end a (scale, b) _ x e2 λ above e3.
     some_then end 16 b _ x t1.rest_fits e3 λ sum c t2 some e4.
-    subst (λ (y : (Place × ℕ) × List ℕ). Takes at (finished y.0) y.1 × (1 ≤ y.0.1) × (place_follows last y.0.0 ≡ true)) (ok_is (((epoch, scale), sum), c) x e4)
+    subst (λ (y : (Place × ℕ) × List ℕ). Takes at (finished y.0) y.1 × (1 ≤ y.0.1) × (place_follows last y.0.0 ≡ true))
+    (ok_is (((epoch, scale), sum), c) x e4)
     (Takes-then t0 (Takes-then t1 t2), some, above)
 
-finished_again : (end : ℕ) (last : Option Place) (row : Place × ℕ) (rest : List ℕ) → Fit (finished row) → 1 ≤ row.1 → place_follows last row.0 ≡ true → finished_at end last (spelled (finished row) ++ rest) ≡ Ok (row, rest)
+finished_again : (end : ℕ) (last : Option Place) (row : Place × ℕ) (rest : List ℕ) → Fit (finished row) → 1 ≤ row.1
+    → place_follows last row.0 ≡ true → finished_at end last (spelled (finished row) ++ rest) ≡ Ok (row, rest)
 unfolding finished_at
 finished_again end last row rest fit used h =
     rw (
@@ -170,7 +204,8 @@ finished_row end = record { takes = finished_takes end; again = finished_again e
 
 -- ---- deposits
 
-deposit_takes : (end : ℕ) (last : Option ℕ) (at : List ℕ) (x : (ℕ × Deposit) × List ℕ) → IsBytes at → deposit_at end last at ≡ Ok x → Takes at (deposit x.0) x.1 × (1 ≤ x.0.1.amount) × (follows last x.0.0 ≡ true)
+deposit_takes : (end : ℕ) (last : Option ℕ) (at : List ℕ) (x : (ℕ × Deposit) × List ℕ) → IsBytes at
+    → deposit_at end last at ≡ Ok x → Takes at (deposit x.0) x.1 × (1 ≤ x.0.1.amount) × (follows last x.0.0 ≡ true)
 unfolding deposit_at
 deposit_takes end last at x fits e =
     key_then end last at _ x fits e λ account a t0 above e0.
@@ -179,11 +214,13 @@ deposit_takes end last at x fits e =
     number_then end 16 c _ x t2.rest_fits e2 λ sum d t3 e3.
     number_then end 8 d _ x t3.rest_fits e3 λ scale f t4 e4.
     number_then end 8 f _ x t4.rest_fits e4 λ epoch g t5 e5.
-    subst (λ (y : (ℕ × Deposit) × List ℕ). Takes at (deposit y.0) y.1 × (1 ≤ y.0.1.amount) × (follows last y.0.0 ≡ true))
+    subst (λ (y : (ℕ × Deposit) × List ℕ). Takes at (deposit y.0) y.1 × (1 ≤ y.0.1.amount)
+    × (follows last y.0.0 ≡ true))
     (ok_is ((account, record { amount = amount; p = p; sum = sum; scale = scale; epoch = epoch }), g) x e5)
     (Takes-then t0 (Takes-then t1 (Takes-then t2 (Takes-then t3 (Takes-then t4 t5)))), some, above)
 
-deposit_again : (end : ℕ) (last : Option ℕ) (row : ℕ × Deposit) (rest : List ℕ) → Fit (deposit row) → 1 ≤ row.1.amount → follows last row.0 ≡ true → deposit_at end last (spelled (deposit row) ++ rest) ≡ Ok (row, rest)
+deposit_again : (end : ℕ) (last : Option ℕ) (row : ℕ × Deposit) (rest : List ℕ) → Fit (deposit row) → 1 ≤ row.1.amount
+    → follows last row.0 ≡ true → deposit_at end last (spelled (deposit row) ++ rest) ≡ Ok (row, rest)
 unfolding deposit_at
 deposit_again end last row rest fit used h =
     let d = row.1 in
@@ -209,14 +246,16 @@ kind_fits : (kind : ℕ) → 1 ≤ kind → kind ≤ 16 → is_kind kind ≡ tru
 kind_fits kind low high = grind (arith, nat_tests)
 
 -- so many numbers, and nothing more of the row
-values_again : (end : ℕ) (numbers : List ℕ) (count : ℕ) (rest : List ℕ) → Fit (eights numbers) → length numbers ≡ count → numbers_at end count (spelled (eights numbers) ++ rest) ≡ Ok (numbers, rest)
+values_again : (end : ℕ) (numbers : List ℕ) (count : ℕ) (rest : List ℕ) → Fit (eights numbers) → length numbers ≡ count
+    → numbers_at end count (spelled (eights numbers) ++ rest) ≡ Ok (numbers, rest)
 values_again end numbers count rest fit is =
     let whole : eights numbers ≡ eights numbers ++ [] = sym (append-nil (eights numbers)) in
     ap (λ (n : ℕ). numbers_at end n (spelled (eights numbers) ++ rest)) (sym is)
     ∙ ap (λ (fields : List Field). numbers_at end (length numbers) (spelled fields ++ rest)) whole
     ∙ numbers_again end numbers [] rest fit
 
-client_takes : (end : ℕ) (last : Option ℕ) (at : List ℕ) (x : (ℕ × Client) × List ℕ) → IsBytes at → client_at end last at ≡ Ok x → Takes at (client x.0) x.1 × IsClientRow x.0.1 × (follows last x.0.0 ≡ true)
+client_takes : (end : ℕ) (last : Option ℕ) (at : List ℕ) (x : (ℕ × Client) × List ℕ) → IsBytes at
+    → client_at end last at ≡ Ok x → Takes at (client x.0) x.1 × IsClientRow x.0.1 × (follows last x.0.0 ≡ true)
 unfolding client_at
 client_takes end last at x fits e =
     key_then end last at _ x fits e λ client_key a t0 above e0.
@@ -225,10 +264,18 @@ client_takes end last at x fits e =
     passed_then (is_kind kind) end b (kind, c) _ x e2 λ within e3.
     numbers_then end 6 c _ x t2.rest_fits e3 λ values d t3 six e4.
     subst (λ (y : (ℕ × Client) × List ℕ). Takes at (client y.0) y.1 × IsClientRow y.0.1 × (follows last y.0.0 ≡ true))
-    (ok_is ((client_key, record { last = number; kept = record { kind = kind; values = values } }), d) x e4)
-    (Takes-then t0 (Takes-then t1 (Takes-then t2 t3)), record { last = some; kind = kind_within kind within; values = six }, above)
+    (ok_is ((client_key, record { last = number; kept = record { kind = kind; values = values } }), d) x e4) (
+      Takes-then t0 (Takes-then t1 (Takes-then t2 t3)),
+      record {
+        last = some;
+        kind = kind_within kind within;
+        values = six;
+      },
+      above,
+    )
 
-client_again : (end : ℕ) (last : Option ℕ) (row : ℕ × Client) (rest : List ℕ) → Fit (client row) → IsClientRow row.1 → follows last row.0 ≡ true → client_at end last (spelled (client row) ++ rest) ≡ Ok (row, rest)
+client_again : (end : ℕ) (last : Option ℕ) (row : ℕ × Client) (rest : List ℕ) → Fit (client row) → IsClientRow row.1
+    → follows last row.0 ≡ true → client_at end last (spelled (client row) ++ rest) ≡ Ok (row, rest)
 unfolding client_at
 client_again end last row rest fit used h =
     let kept = row.1.kept in
@@ -259,12 +306,15 @@ by_cells : (n : ℕ) (xs : List ℕ) → length xs ≡ n → xs ≡ cells 0 n xs
 by_cells zero [] len = refl
 by_cells zero (x ∷ xs) len = absurd (omega arith)
 by_cells (suc n) [] len = absurd (omega arith)
-by_cells (suc n) (x ∷ xs) len = ap (λ (rest : List ℕ). x ∷ rest) (by_cells n xs (omega arith) ∙ sym (cells-cons 0 n x xs))
+by_cells (suc n) (x ∷ xs) len = ap (λ (rest : List ℕ). x ∷ rest) (by_cells n xs (omega arith)
+    ∙ sym (cells-cons 0 n x xs))
 
-in_cells : {at rest : List ℕ} (n : ℕ) (numbers : List ℕ) → length numbers ≡ n → Takes at (eights numbers) rest → Takes at (eights (cells 0 n numbers)) rest
+in_cells : {at rest : List ℕ} (n : ℕ) (numbers : List ℕ) → length numbers ≡ n → Takes at (eights numbers) rest
+    → Takes at (eights (cells 0 n numbers)) rest
 in_cells {at} {rest} n numbers len t = subst (λ (ns : List ℕ). Takes at (eights ns) rest) (by_cells n numbers len) t
 
-words_take : (end limit : ℕ) (at : List ℕ) (x : Image × List ℕ) → IsBytes at → words_at end limit at ≡ Ok x → Takes at (words x.0) x.1 × (x.0.limit ≡ limit)
+words_take : (end limit : ℕ) (at : List ℕ) (x : Image × List ℕ) → IsBytes at → words_at end limit at ≡ Ok x
+    → Takes at (words x.0) x.1 × (x.0.limit ≡ limit)
 unfolding words_at
 words_take end limit at x fits e =
     numbers_then end 6 at _ x fits e λ times a t0 six e0.
@@ -277,19 +327,32 @@ words_take end limit at x fits e =
     number_then end 16 h _ x t6.rest_fits e6 λ sum j t7 e7.
     numbers_then end 2 j _ x t7.rest_fits e7 λ deposited k t8 both e8.
     subst (λ (y : Image × List ℕ). Takes at (words y.0) y.1 × (y.0.limit ≡ limit)) (ok_is _ x e8) (
-      Takes-then (in_cells 6 times six t0) (Takes-then (in_cells 8 pools eight t1) (Takes-then t2 (Takes-then t3 (Takes-then (in_cells 3 stakes three t4)
+      Takes-then (in_cells 6 times six t0) (Takes-then (in_cells 8 pools eight t1)
+          (Takes-then t2 (Takes-then t3 (Takes-then (in_cells 3 stakes three t4)
           (Takes-then t5 (Takes-then (in_cells 2 place two t6) (Takes-then t7 (in_cells 2 deposited both t8)))))))),
       refl,
     )
 
-words_then : {Y P : Type 0} (end limit : ℕ) (at : List ℕ) (f : Image × List ℕ → Result Y ℕ) (y : Y) → IsBytes at → (words_at end limit at >>= f) ≡ Ok y → ((i : Image) (rest : List ℕ) → Takes at (words i) rest → i.limit ≡ limit → f (i, rest) ≡ Ok y → P) → P
-words_then end limit at f y fits e on = let a = bind_ok (words_at end limit at) f y e in let t = words_take end limit at a.0 fits a.1 in on a.0.0 a.0.1 t.0 t.1 a.2
+words_then : {Y P : Type 0} (end limit : ℕ) (at : List ℕ) (f : Image × List ℕ → Result Y ℕ) (y : Y) → IsBytes at
+    → (words_at end limit at >>= f) ≡ Ok y → ((i : Image) (rest : List ℕ) → Takes at (words i) rest → i.limit ≡ limit
+    → f (i, rest) ≡ Ok y → P) → P
+words_then end limit at f y fits e on = let a = bind_ok (words_at end limit at) f y e
+    in let t = words_take end limit at a.0 fits a.1 in on a.0.0 a.0.1 t.0 t.1 a.2
 
 -- an image without its rows, under another limit
 abbrev without_rows : ℕ → Image → Image
-without_rows limit i = record i { limit = limit; wallets = []; troves = []; surplus_rows = []; finished = []; deposits = []; clients = [] }
+without_rows limit i = record i {
+  limit = limit;
+  wallets = [];
+  troves = [];
+  surplus_rows = [];
+  finished = [];
+  deposits = [];
+  clients = [];
+}
 
-words_again : (end limit : ℕ) (i : Image) (rest : List ℕ) → Fit (words i) → words_at end limit (spelled (words i) ++ rest) ≡ Ok (without_rows limit i, rest)
+words_again : (end limit : ℕ) (i : Image) (rest : List ℕ) → Fit (words i)
+    → words_at end limit (spelled (words i) ++ rest) ≡ Ok (without_rows limit i, rest)
 unfolding words_at
 words_again end limit i rest fit =
     let deposited : List Field = eights (i.total ∷ i.pool_coll ∷ []) in
@@ -299,7 +362,8 @@ words_again end limit i rest fit =
     let stakes : List Field = eights (i.stakes ∷ i.snap_stakes ∷ i.snap_coll ∷ []) ++ p in
     let sum_debt : List Field = (16, i.sum_debt) ∷ stakes in
     let sum_coll : List Field = (16, i.sum_coll) ∷ sum_debt in
-    let pools : List ℕ = i.active_coll ∷ i.active_debt ∷ i.default_coll ∷ i.default_debt ∷ i.reserve ∷ i.surplus ∷ i.fee_coll ∷ i.fee_lusd ∷ [] in
+    let pools : List ℕ = i.active_coll ∷ i.active_debt ∷ i.default_coll ∷ i.default_debt ∷ i.reserve ∷ i.surplus
+    ∷ i.fee_coll ∷ i.fee_lusd ∷ [] in
     let times : List ℕ = i.price ∷ i.minute ∷ i.base ∷ i.fee_minute ∷ i.generation ∷ i.brought ∷ [] in
     let fit_pools : Fit (eights pools ++ sum_coll) = Fit-back (eights times) (eights pools ++ sum_coll) fit in
     let fit_sums : Fit sum_coll = Fit-back (eights pools) sum_coll fit_pools in
@@ -311,7 +375,8 @@ words_again end limit i rest fit =
       numbers_again end pools sum_coll rest (Fit-front (eights pools) sum_coll fit_pools),
       number_again end 16 i.sum_coll sum_debt rest fit_sums.0,
       number_again end 16 i.sum_debt stakes rest fit_sums.1.0,
-      numbers_again end (i.stakes ∷ i.snap_stakes ∷ i.snap_coll ∷ []) p rest (Fit-front (eights (i.stakes ∷ i.snap_stakes ∷ i.snap_coll ∷ [])) p fit_stakes),
+      numbers_again end (i.stakes ∷ i.snap_stakes ∷ i.snap_coll ∷ []) p rest
+          (Fit-front (eights (i.stakes ∷ i.snap_stakes ∷ i.snap_coll ∷ [])) p fit_stakes),
       number_again end 16 i.p place rest fit_p.0,
       numbers_again end (i.scale ∷ i.epoch ∷ []) sum rest (Fit-front (eights (i.scale ∷ i.epoch ∷ [])) sum fit_p.1),
       number_again end 16 i.sum deposited rest fit_sum.0,
@@ -341,22 +406,35 @@ limit_takes : (end : ℕ) (at : List ℕ) (x : ℕ × List ℕ) → IsBytes at �
 unfolding limit_at
 limit_takes end at x fits e =
     by (ltb (length at) 8) refl e where
-      by : (short : Bool) → ltb (length at) 8 ≡ short → cond short (Err end) (tested (bytes_eq (take 8 at) (name (limit_named (take 8 at)))) end at (limit_named (take 8 at), drop 8 at)) ≡ Ok x → IsNamed at x
+      by : (short : Bool) → ltb (length at) 8 ≡ short
+          → cond short (Err end) (tested (bytes_eq (take 8 at) (name (limit_named (take 8 at)))) end at
+          (limit_named (take 8 at), drop 8 at)) ≡ Ok x → IsNamed at x
       by true is e = absurd cc
       by false is e =
           let l = limit_named (take 8 at) in
           let p = passed (bytes_eq (take 8 at) (name l)) end at (l, drop 8 at) x e in
           let front : take 8 at ≡ name l = (bytes_eq-Decides (take 8 at) (name l)).0 p.0 in
-          let parts : at ≡ name l ++ drop 8 at = sym (take-append-drop 8 at) ∙ ap (λ (bytes : List ℕ). bytes ++ drop 8 at) front in
-          subst (IsNamed at) p.1 (record { named = parts; rest_fits = IsBytes-drop 8 at fits; is_limit = one_named (take 8 at) })
+          let parts : at ≡ name l ++ drop 8 at = sym (take-append-drop 8 at)
+          ∙ ap (λ (bytes : List ℕ). bytes ++ drop 8 at) front in
+          subst (IsNamed at) p.1 (record {
+            named = parts;
+            rest_fits = IsBytes-drop 8 at fits;
+            is_limit = one_named (take 8 at);
+          })
 
-limit_then : {Y P : Type 0} (end : ℕ) (at : List ℕ) (f : ℕ × List ℕ → Result Y ℕ) (y : Y) → IsBytes at → (limit_at end at >>= f) ≡ Ok y → ((limit : ℕ) (rest : List ℕ) → IsNamed at (limit, rest) → f (limit, rest) ≡ Ok y → P) → P
-limit_then end at f y fits e on = let a = bind_ok (limit_at end at) f y e in on a.0.0 a.0.1 (limit_takes end at a.0 fits a.1) a.2
+limit_then : {Y P : Type 0} (end : ℕ) (at : List ℕ) (f : ℕ × List ℕ → Result Y ℕ) (y : Y) → IsBytes at
+    → (limit_at end at >>= f) ≡ Ok y → ((limit : ℕ) (rest : List ℕ) → IsNamed at (limit, rest) → f (limit, rest) ≡ Ok y
+    → P) → P
+limit_then end at f y fits e on = let a = bind_ok (limit_at end at) f y e
+    in on a.0.0 a.0.1 (limit_takes end at a.0 fits a.1) a.2
 
 limit_again : (end limit : ℕ) (rest : List ℕ) → IsLimit limit → limit_at end (name limit ++ rest) ≡ Ok (limit, rest)
 unfolding limit_at
 limit_again end limit rest is =
-    let long : ltb (length (name limit ++ rest)) 8 ≡ false = le-ltb (length (name limit ++ rest)) 8 (omega (arith, length-append (name limit) rest)) in
+    let long : ltb (length (name limit ++ rest)) 8 ≡ false = le-ltb (length (name limit ++ rest)) 8 (omega (
+      arith,
+      length-append (name limit) rest,
+    )) in
     let same : bytes_eq (name limit) (name limit) ≡ true = (bytes_eq-Decides (name limit) (name limit)).1 refl in
     rw (long, its_limit limit is, same) refl
 
@@ -378,14 +456,25 @@ nothing_left : (xs : List ℕ) → (length xs == 0) ≡ true → xs ≡ []
 nothing_left [] h = refl
 nothing_left (x ∷ xs) h = absurd (let e : suc (length xs) ≡ 0 = eqb-true (suc (length xs)) 0 h in omega arith)
 
-to_the_end : {at : List ℕ} {fields : List Field} {rest : List ℕ} → Takes at fields rest → rest ≡ [] → at ≡ spelled fields
-to_the_end {at} {fields} t none = t.parts ∙ ap (λ (bytes : List ℕ). spelled fields ++ bytes) none ∙ append-nil (spelled fields)
+to_the_end : {at : List ℕ} {fields : List Field} {rest : List ℕ} → Takes at fields rest → rest ≡ []
+    → at ≡ spelled fields
+to_the_end {at} {fields} t none = t.parts ∙ ap (λ (bytes : List ℕ). spelled fields ++ bytes) none
+    ∙ append-nil (spelled fields)
 
-abbrev with_rows : Image → Table Wallet → Table Trove → Table ℕ → List (Place × ℕ) → Table Deposit → Table Client → Image
+abbrev with_rows : Image → Table Wallet → Table Trove → Table ℕ → List (Place × ℕ) → Table Deposit
+    → Table Client → Image
 with_rows i wallets troves surplus finished deposits clients =
-    record i { wallets = wallets; troves = troves; surplus_rows = surplus; finished = finished; deposits = deposits; clients = clients }
+    record i {
+      wallets = wallets;
+      troves = troves;
+      surplus_rows = surplus;
+      finished = finished;
+      deposits = deposits;
+      clients = clients;
+    }
 
-image_takes : (end : ℕ) (at : List ℕ) (i : Image) → IsBytes at → image_at end at ≡ Ok i → HasCheckpoint i × (at ≡ spelling i)
+image_takes : (end : ℕ) (at : List ℕ) (i : Image) → IsBytes at → image_at end at ≡ Ok i → HasCheckpoint i
+    × (at ≡ spelling i)
 unfolding image_at spelling
 image_takes end at i fits e =
     limit_then end at _ i fits e λ limit a named e0.
@@ -397,7 +486,8 @@ image_takes end at i fits e =
     table_then _ _ _ _ (deposit_row end) end g _ i t4.takes.rest_fits e5 λ deposits h t5 e6.
     table_then _ _ _ _ (client_row end) end h _ i t5.takes.rest_fits e6 λ clients k t6 e7.
     let p = passed (length k == 0) end k (with_rows w wallets troves surplus finished deposits clients) i e7 in
-    let all = Takes-then t0 (Takes-then (Takes-then (Takes-then (Takes-then (Takes-then t1.takes t2.takes) t3.takes) t4.takes) t5.takes) t6.takes) in
+    let all = Takes-then t0 (Takes-then (Takes-then (Takes-then (Takes-then (Takes-then t1.takes t2.takes) t3.takes)
+    t4.takes) t5.takes) t6.takes) in
     subst (λ (j : Image). HasCheckpoint j × (at ≡ name j.limit ++ spelled (contents j))) p.1 (
       record {
         numbers = all.fit;
@@ -420,7 +510,8 @@ image_takes end at i fits e =
     )
 
 -- six parts, one behind the other
-six_apart : (a b c d e f : List Field) → spelled (a ++ b ++ c ++ d ++ e ++ f) ≡ spelled a ++ (spelled b ++ (spelled c ++ (spelled d ++ (spelled e ++ (spelled f ++ [])))))
+six_apart : (a b c d e f : List Field) → spelled (a ++ b ++ c ++ d ++ e ++ f)
+    ≡ spelled a ++ (spelled b ++ (spelled c ++ (spelled d ++ (spelled e ++ (spelled f ++ [])))))
 six_apart a b c d e f = simp (spelled-append, append_assoc, append-nil)
 
 module _ (i : Image) (tables : HasTables i) (fit : Fit (contents i)) (limit : IsLimit i.limit) where
@@ -444,22 +535,30 @@ module _ (i : Image) (tables : HasTables i) (fit : Fit (contents i)) (limit : Is
       let after_troves = spelled s ++ after_surplus in
       let after_wallets = spelled t ++ after_troves in
       let after_words = spelled w ++ after_wallets in
-      let apart : spelled (contents i) ≡ spelled (words i) ++ after_words = spelled-append (words i) (w ++ t ++ s ++ f ++ d ++ c) ∙ ap (λ (bytes : List ℕ). spelled (words i) ++ bytes) (six_apart w t s f d c) in
+      let apart : spelled (contents i) ≡ spelled (words i) ++ after_words = spelled-append (words i) (w ++ t ++ s ++ f
+      ++ d ++ c) ∙ ap (λ (bytes : List ℕ). spelled (words i) ++ bytes) (six_apart w t s f d c) in
       ap (λ (bytes : List ℕ). image_at end (name i.limit ++ bytes)) apart
       ∙ rw (
         limit_again end i.limit (spelled (words i) ++ after_words) limit,
         words_again end i.limit i after_words (Fit-front (words i) (w ++ t ++ s ++ f ++ d ++ c) fit),
-        table_again _ _ _ _ (wallet_row end) end i.wallets after_wallets (Fit-front w t fit_2) tables.used_wallets (ascend_from nat_cmp follows keys_in_order i.wallets tables.wallets),
-        table_again _ _ _ _ (trove_row end) end i.troves after_troves (Fit-back w t fit_2) (no_use i.troves) (ascend_from nat_cmp follows keys_in_order i.troves tables.troves),
-        table_again _ _ _ _ (surplus_row end) end i.surplus_rows after_surplus (Fit-back (w ++ t) s fit_3) tables.some_surplus (ascend_from nat_cmp follows keys_in_order i.surplus_rows tables.surplus),
-        table_again _ _ _ _ (finished_row end) end i.finished after_sums (Fit-back (w ++ t ++ s) f fit_4) tables.some_finished (ascend_from place_order place_follows places_in_order i.finished tables.finished),
-        table_again _ _ _ _ (deposit_row end) end i.deposits after_deposits (Fit-back (w ++ t ++ s ++ f) d fit_5) tables.some_deposits (ascend_from nat_cmp follows keys_in_order i.deposits tables.deposits),
-        table_again _ _ _ _ (client_row end) end i.clients [] (Fit-back (w ++ t ++ s ++ f ++ d) c fit_tables) tables.client_rows (ascend_from nat_cmp follows keys_in_order i.clients tables.clients),
+        table_again _ _ _ _ (wallet_row end) end i.wallets after_wallets (Fit-front w t fit_2) tables.used_wallets
+            (ascend_from nat_cmp follows keys_in_order i.wallets tables.wallets),
+        table_again _ _ _ _ (trove_row end) end i.troves after_troves (Fit-back w t fit_2) (no_use i.troves)
+            (ascend_from nat_cmp follows keys_in_order i.troves tables.troves),
+        table_again _ _ _ _ (surplus_row end) end i.surplus_rows after_surplus (Fit-back (w ++ t) s fit_3)
+            tables.some_surplus (ascend_from nat_cmp follows keys_in_order i.surplus_rows tables.surplus),
+        table_again _ _ _ _ (finished_row end) end i.finished after_sums (Fit-back (w ++ t ++ s) f fit_4)
+            tables.some_finished (ascend_from place_order place_follows places_in_order i.finished tables.finished),
+        table_again _ _ _ _ (deposit_row end) end i.deposits after_deposits (Fit-back (w ++ t ++ s ++ f) d fit_5)
+            tables.some_deposits (ascend_from nat_cmp follows keys_in_order i.deposits tables.deposits),
+        table_again _ _ _ _ (client_row end) end i.clients [] (Fit-back (w ++ t ++ s ++ f ++ d) c fit_tables)
+            tables.client_rows (ascend_from nat_cmp follows keys_in_order i.clients tables.clients),
       ) refl
 
 -- ---- what decode ensures
 
-pub is_found : (bytes : List ℕ) (r : Result Image ImageBytes) → IsBytes bytes → Gives (λ i. i) r (image_at (length bytes) bytes) → IfOk r (λ i. HasCheckpoint i × (bytes ≡ spelling i))
+pub is_found : (bytes : List ℕ) (r : Result Image ImageBytes) → IsBytes bytes
+    → Gives (λ i. i) r (image_at (length bytes) bytes) → IfOk r (λ i. HasCheckpoint i × (bytes ≡ spelling i))
 is_found bytes (Ok i) fits given = image_takes (length bytes) bytes i fits given
 is_found bytes (Err e) fits given = tt
 

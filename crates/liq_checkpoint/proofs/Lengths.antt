@@ -33,17 +33,20 @@ eights_are [] = refl
 eights_are (n ∷ ns) = let rest = eights_are ns in omega (arith, rest)
 
 -- rows of one width
-rows_are : {R : Type 0} (row : R → List Field) (k : ℕ) (rows : List R) → AllByRecursion (λ r. widths (row r) ≡ k) rows → widths (flat_map row rows) ≡ k * length rows
+rows_are : {R : Type 0} (row : R → List Field) (k : ℕ) (rows : List R) → AllByRecursion (λ r. widths (row r) ≡ k) rows
+    → widths (flat_map row rows) ≡ k * length rows
 rows_are row k [] all = omega arith
 rows_are row k (r ∷ rs) all =
     let rest = rows_are row k rs all.1 in
     grind (arith, widths-append (row r) (flat_map row rs), all.0, rest)
 
-each : {R : Type 0} (row : R → List Field) (k : ℕ) → ((r : R) → widths (row r) ≡ k) → (rows : List R) → AllByRecursion (λ r. widths (row r) ≡ k) rows
+each : {R : Type 0} (row : R → List Field) (k : ℕ) → ((r : R) → widths (row r) ≡ k) → (rows : List R)
+    → AllByRecursion (λ r. widths (row r) ≡ k) rows
 each row k is [] = tt
 each row k is (r ∷ rs) = (is r, each row k is rs)
 
-each_client : (rows : Table Client) → AllByRecursion IsClientRow (values_of rows) → AllByRecursion (λ (r : ℕ × Client). widths (client r) ≡ client_length) rows
+each_client : (rows : Table Client) → AllByRecursion IsClientRow (values_of rows)
+    → AllByRecursion (λ (r : ℕ × Client). widths (client r) ≡ client_length) rows
 each_client [] h = tt
 each_client (r ∷ rs) h = (omega (arith, eights_are r.1.kept.values, h.0.values), each_client rs h.1)
 
@@ -56,8 +59,22 @@ spelling_is_long i has =
     let f = rows_are finished 32 i.finished (each finished 32 (λ r. refl) i.finished) in
     let d = rows_are deposit 60 i.deposits (each deposit 60 (λ r. refl) i.deposits) in
     let c = rows_are client client_length i.clients (each_client i.clients has.client_rows) in
-    apart (table wallet i.wallets) (table trove i.troves) (table surplus i.surplus_rows) (table finished i.finished) (table deposit i.deposits) (table client i.clients) (omega (arith, w, t, s, f, d, c)) where
-      apart : (a b g h j k : List Field) → widths (words i) + widths a + widths b + widths g + widths h + widths j + widths k + 8 ≡ checkpoint_length i → length (name i.limit ++ spelled (words i ++ (a ++ b ++ g ++ h ++ j ++ k))) ≡ checkpoint_length i
+    apart (table wallet i.wallets) (table trove i.troves) (table surplus i.surplus_rows) (table finished i.finished)
+    (table deposit i.deposits) (table client i.clients) (omega (arith, w, t, s, f, d, c)) where
+      apart : (a b g h j k : List Field) → widths (words i) + widths a + widths b + widths g + widths h + widths j
+          + widths k + 8 ≡ checkpoint_length i
+          → length (name i.limit ++ spelled (words i ++ (a ++ b ++ g ++ h ++ j ++ k))) ≡ checkpoint_length i
       apart a b g h j k is =
           let whole = spelled_are (words i ++ (a ++ b ++ g ++ h ++ j ++ k)) in
-          omega (arith, whole, is, length-append (name i.limit) (spelled (words i ++ (a ++ b ++ g ++ h ++ j ++ k))), widths-append (words i) (a ++ b ++ g ++ h ++ j ++ k), widths-append (a ++ b ++ g ++ h ++ j) k, widths-append (a ++ b ++ g ++ h) j, widths-append (a ++ b ++ g) h, widths-append (a ++ b) g, widths-append a b)
+          omega (
+            arith,
+            whole,
+            is,
+            length-append (name i.limit) (spelled (words i ++ (a ++ b ++ g ++ h ++ j ++ k))),
+            widths-append (words i) (a ++ b ++ g ++ h ++ j ++ k),
+            widths-append (a ++ b ++ g ++ h ++ j) k,
+            widths-append (a ++ b ++ g ++ h) j,
+            widths-append (a ++ b ++ g) h,
+            widths-append (a ++ b) g,
+            widths-append a b,
+          )

@@ -1,8 +1,8 @@
 pub mod Fields
-pub mod Loop
-pub mod Rows
+mod Loop
+mod Rows
 pub mod Images
-pub mod Putting
+mod Putting
 pub mod Lengths
-pub mod Encoded
+mod Encoded
 mod Places

@@ -21,15 +21,18 @@ err_within end place le = record { told = λ p is. let same : place ≡ p = cc (
 ok_within : {X : Type 0} (end : ℕ) (x : X) → Within end (Ok x)
 ok_within end x = record { told = λ p is. absurd (cc (is)) }
 
-then_within : {A B : Type 0} {end : ℕ} {read : Result A ℕ} {f : A → Result B ℕ} → Within end read → ((x : A) → Within end (f x)) → Within end (read >>= f)
+then_within : {A B : Type 0} {end : ℕ} {read : Result A ℕ} {f : A → Result B ℕ} → Within end read
+    → ((x : A) → Within end (f x)) → Within end (read >>= f)
 then_within {end = end} {read = Ok x} first others = others x
-then_within {end = end} {read = Err place} first others = err_within end place (let here : Err place ≡ Err place = λ i. Err place in first.told place here)
+then_within {end = end} {read = Err place} first others = err_within end place (let here : Err place
+    ≡ Err place = λ i. Err place in first.told place here)
 
 tested_within : {X : Type 0} (fits : Bool) (end : ℕ) (at : List ℕ) (x : X) → Within end (tested fits end at x)
 tested_within true end at x = ok_within end x
 tested_within false end at x = err_within end (end - length at) (omega arith)
 
-unless_within : {X : Type 0} (b : Bool) (end : ℕ) (read : Result X ℕ) → Within end read → Within end (if b then Err end else read)
+unless_within : {X : Type 0} (b : Bool) (end : ℕ) (read : Result X ℕ) → Within end read
+    → Within end (if b then Err end else read)
 unless_within true end read within = err_within end end (omega arith)
 unless_within false end read within = within
 
@@ -117,7 +120,9 @@ module _ (end : ℕ) where
 
   -- ---- tables
 
-  rows_within : {K X : Type 0} (row_at : Option K → List ℕ → Result ((K × X) × List ℕ) ℕ) → ((last : Option K) (at : List ℕ) → Within end (row_at last at)) → (n : ℕ) (last : Option K) (at : List ℕ) → Within end (rows_at row_at n last at)
+  rows_within : {K X : Type 0} (row_at : Option K → List ℕ → Result ((K × X) × List ℕ) ℕ)
+      → ((last : Option K) (at : List ℕ) → Within end (row_at last at)) → (n : ℕ) (last : Option K) (at : List ℕ)
+      → Within end (rows_at row_at n last at)
   unfolding rows_at
   rows_within row_at row zero last at = ok_within end ([], at)
   rows_within row_at row (suc n) last at =
@@ -125,7 +130,9 @@ module _ (end : ℕ) where
       then_within (rows_within row_at row n (Some first.0.0) first.1) (λ others.
       ok_within end (first.0 ∷ others.0, others.1)))
 
-  table_within : {K X : Type 0} (row_at : Option K → List ℕ → Result ((K × X) × List ℕ) ℕ) → ((last : Option K) (at : List ℕ) → Within end (row_at last at)) → (at : List ℕ) → Within end (table_at row_at end at)
+  table_within : {K X : Type 0} (row_at : Option K → List ℕ → Result ((K × X) × List ℕ) ℕ)
+      → ((last : Option K) (at : List ℕ) → Within end (row_at last at)) → (at : List ℕ)
+      → Within end (table_at row_at end at)
   unfolding table_at
   table_within row_at row at = then_within (number_within 8 at) (λ count. rows_within row_at row count.0 None count.1)
 
@@ -135,7 +142,8 @@ module _ (end : ℕ) where
   unfolding limit_at
   limit_within at =
       let limit = limit_named (take 8 at) in
-      unless_within (nat_lt (length at) 8) end (tested (bytes_eq (take 8 at) (name limit)) end at (limit, drop 8 at)) (tested_within _ end at _)
+      unless_within (nat_lt (length at) 8) end (tested (bytes_eq (take 8 at) (name limit)) end at (limit, drop 8 at))
+      (tested_within _ end at _)
 
   words_within : (limit : ℕ) (at : List ℕ) → Within end (words_at end limit at)
   unfolding words_at
@@ -168,21 +176,29 @@ pub place_within : (end place : ℕ) (at : List ℕ) → image_at end at ≡ Err
 place_within end place at is = (image_within end at).told place is
 
 -- what decode ensures of a fault
-pub told_within : (end place : ℕ) (at : List ℕ) (r : Result Image ImageBytes) → Gives (λ i. i) r (image_at end at) → r ≡ Err (Bad place) → place ≤ end
-told_within end place at r given is = place_within end place at (subst (λ (q : Result Image ImageBytes). Gives (λ i. i) q (image_at end at)) is given)
+pub told_within : (end place : ℕ) (at : List ℕ) (r : Result Image ImageBytes) → Gives (λ i. i) r (image_at end at)
+    → r ≡ Err (Bad place) → place ≤ end
+told_within end place at r given is =
+    place_within end place at (subst (λ (q : Result Image ImageBytes). Gives (λ i. i) q (image_at end at)) is given)
 
 -- ---- a wallet of nothing
 
 -- behind a number
-number_behind : (end count : ℕ) (at : List ℕ) (x : ℕ × List ℕ) → number_at end count at ≡ Ok x → length x.1 ≡ length at - count
+number_behind : (end count : ℕ) (at : List ℕ) (x : ℕ × List ℕ) → number_at end count at ≡ Ok x
+    → length x.1 ≡ length at - count
 unfolding number_at
 number_behind end count at x e =
     by (nat_lt (length at) count) e where
-      by : (short : Bool) → (if short then Err end else Ok (big_number count at, drop count at)) ≡ Ok x → length x.1 ≡ length at - count
+      by : (short : Bool) → (if short then Err end else Ok (big_number count at, drop count at)) ≡ Ok x
+          → length x.1 ≡ length at - count
       by true e = absurd cc
-      by false e = subst (λ (y : ℕ × List ℕ). length y.1 ≡ length at - count) (ok_is (big_number count at, drop count at) x e) (length-drop count at)
+      by false e = subst (λ (y : ℕ × List ℕ). length y.1 ≡ length at - count) (ok_is (
+        big_number count at,
+        drop count at,
+      ) x e) (length-drop count at)
 
-key_behind : (end : ℕ) (last : Option ℕ) (at : List ℕ) (x : ℕ × List ℕ) → key_at end last at ≡ Ok x → length x.1 ≡ length at - 4
+key_behind : (end : ℕ) (last : Option ℕ) (at : List ℕ) (x : ℕ × List ℕ) → key_at end last at ≡ Ok x
+    → length x.1 ≡ length at - 4
 unfolding key_at
 key_behind end last at x e =
     let a = bind_ok (number_at end 4 at) _ x e in
@@ -190,7 +206,9 @@ key_behind end last at x e =
     subst (λ (y : ℕ × List ℕ). length y.1 ≡ length at - 4) p.1 (number_behind end 4 at a.0 a.1)
 
 -- its fault is told where its second amount begins
-pub empty_wallet : (end : ℕ) (last : Option ℕ) (row : List ℕ) (account coll lusd : ℕ × List ℕ) → key_at end last row ≡ Ok account → number_at end 8 account.1 ≡ Ok coll → number_at end 8 coll.1 ≡ Ok lusd → coll.0 ≡ 0 → lusd.0 ≡ 0
+pub empty_wallet : (end : ℕ) (last : Option ℕ) (row : List ℕ) (account coll lusd : ℕ × List ℕ)
+    → key_at end last row ≡ Ok account → number_at end 8 account.1 ≡ Ok coll → number_at end 8 coll.1 ≡ Ok lusd
+    → coll.0 ≡ 0 → lusd.0 ≡ 0
     → (place : ℕ) → place ≡ end - (length row - 12) → wallet_at end last row ≡ Err place
 unfolding wallet_at
 empty_wallet end last row account coll lusd key first second no_coll no_lusd place is =

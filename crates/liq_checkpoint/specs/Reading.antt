@@ -1,6 +1,7 @@
--- Reading from left to right. A fault is told by its place: that of the first field that fits no checkpoint, which is
--- tested by its own number and by what stands before it; the end, where bytes are missing; or where bytes follow.
--- `end` is how many bytes there are in all, and `at` are those that are still to be read.
+-- Reading from left to right. A fault is told by its place: that of the first field that fits no
+-- checkpoint, which is tested by its own number and by what stands before it; the end, where bytes
+-- are missing; or where bytes follow. `end` is how many bytes there are in all, and `at` are those
+-- that are still to be read.
 use Rattle.std.specs.Prelude.{◌≡◌, ℕ, zero, suc, ◌-◌, List, [], ◌∷◌, length, take, drop, get_or}
 use Rattle.std.specs.Prelude.{Option, Some, None, Result, Ok, Err, if◌then◌else◌}
 use Rattle.std.specs.Prelude.{Bool, not, ◌==◌, ◌&&◌, nat_lt, nat_le}
@@ -38,7 +39,8 @@ Gives view (Err e) read = Fails e read
 
 -- a number and the bytes behind it
 unfoldable pub number_at : ℕ → ℕ → List ℕ → Result (ℕ × List ℕ) ℕ
-number_at end count at = if nat_lt (length at) count then Err end else Ok (big_number count at, drop count at)
+number_at end count at = if nat_lt (length at) count then Err end
+    else Ok (big_number count at, drop count at)
 
 -- x, if what begins here fits
 abbrev pub tested : {X : Type 0} → Bool → ℕ → List ℕ → X → Result X ℕ
@@ -71,7 +73,16 @@ wallet_at end last at = do
   account ← key_at end last at
   coll ← number_at end 8 account.1
   lusd ← number_at end 8 coll.1
-  tested (not (coll.0 == 0 && lusd.0 == 0)) end coll.1 ((account.0, record { coll = coll.0; lusd = lusd.0 }), lusd.1)
+  tested (not (coll.0 == 0 && lusd.0 == 0)) end coll.1 (
+    (
+      account.0,
+      record {
+        coll = coll.0;
+        lusd = lusd.0;
+      },
+    ),
+    lusd.1,
+  )
 
 unfoldable pub trove_at : ℕ → Option ℕ → List ℕ → Result ((ℕ × Trove) × List ℕ) ℕ
 trove_at end last at = do
@@ -118,7 +129,19 @@ deposit_at end last at = do
   sum ← number_at end 16 p.1
   scale ← number_at end 8 sum.1
   epoch ← number_at end 8 scale.1
-  Ok ((account.0, record { amount = amount.0; p = p.0; sum = sum.0; scale = scale.0; epoch = epoch.0 }), epoch.1)
+  Ok (
+    (
+      account.0,
+      record {
+        amount = amount.0;
+        p = p.0;
+        sum = sum.0;
+        scale = scale.0;
+        epoch = epoch.0;
+      },
+    ),
+    epoch.1,
+  )
 
 -- the place of one of the sixteen verbs
 abbrev pub is_kind : ℕ → Bool
@@ -131,7 +154,10 @@ client_at end last at = do
   verb ← number_at end 1 number.1
   kind ← tested (is_kind verb.0) end number.1 verb
   values ← numbers_at end 6 kind.1
-  Ok ((client.0, record { last = number.0; kept = record { kind = kind.0; values = values.0 } }), values.1)
+  Ok (
+    (client.0, record { last = number.0; kept = record { kind = kind.0; values = values.0 } }),
+    values.1,
+  )
 
 -- ---- tables
 
@@ -161,9 +187,11 @@ limit_named front = if bytes_eq front (name LIM) then LIM else LIM_OF_VERSION_1
 unfoldable pub limit_at : ℕ → List ℕ → Result (ℕ × List ℕ) ℕ
 limit_at end at =
     let limit = limit_named (take 8 at) in
-    if nat_lt (length at) 8 then Err end else tested (bytes_eq (take 8 at) (name limit)) end at (limit, drop 8 at)
+    if nat_lt (length at) 8 then Err end else tested (bytes_eq (take 8 at) (name limit)) end at
+    (limit, drop 8 at)
 
--- An image without rows, of the numbers that are read: it differs from the opening one in its words.
+-- An image without rows, of the numbers that are read: it differs from the opening one in its
+-- words.
 abbrev pub image_by : ℕ → Words → Image
 image_by limit words =
     record (opening_image_with limit) {

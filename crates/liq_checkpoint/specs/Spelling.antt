@@ -1,4 +1,5 @@
--- How an image is spelled: a name, and then its numbers one after the other, each with its high byte first.
+-- How an image is spelled: a name, and then its numbers one after the other, each with its high
+-- byte first.
 use Rattle.std.specs.Prelude.{◌≡◌, ℕ, ◌<◌, ◌^◌, List, [], ◌∷◌, ◌++◌, length, map}
 use Rattle.std.specs.List.{flat_map, AllByRecursion}
 use Rattle.byteorder.specs.Endian.{big_bytes}
@@ -73,7 +74,8 @@ table row rows = (8, length rows) ∷ flat_map row rows
 
 abbrev pub words : Image → List Field
 words i =
-    (8, i.price) ∷ (8, i.minute) ∷ (8, i.base) ∷ (8, i.fee_minute) ∷ (8, i.generation) ∷ (8, i.brought)
+    (8, i.price) ∷ (8, i.minute) ∷ (8, i.base) ∷ (8, i.fee_minute) ∷ (8, i.generation)
+    ∷ (8, i.brought)
     ∷ (8, i.active_coll) ∷ (8, i.active_debt) ∷ (8, i.default_coll) ∷ (8, i.default_debt)
     ∷ (8, i.reserve) ∷ (8, i.surplus) ∷ (8, i.fee_coll) ∷ (8, i.fee_lusd)
     ∷ (16, i.sum_coll) ∷ (16, i.sum_debt) ∷ (8, i.stakes) ∷ (8, i.snap_stakes) ∷ (8, i.snap_coll)
@@ -92,7 +94,8 @@ contents i = words i ++ tables i
 unfoldable pub spelling : Image → List ℕ
 spelling i = name i.limit ++ spelled (contents i)
 
--- What has a checkpoint: numbers that have room in their fields, tables in order, and a limit for which a name stands.
+-- What has a checkpoint: numbers that have room in their fields, tables in order, and a limit for
+-- which a name stands.
 pub record HasCheckpoint (i : Image) : Type 0 where
   pub numbers : Fit (contents i)
   pub tables : HasTables i

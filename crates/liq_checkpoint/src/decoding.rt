@@ -12,18 +12,21 @@ use crate::tables::{clients_at, deposits_at, sums_at, surpluses_at, troves_at, w
 use liq_types::{ClientRows, DepositRows, FinishedRows, Image, SurplusRows, TroveRows, WalletRows};
 use std::alloc::Global;
 
-/// The image that a checkpoint's bytes spell, all of them, under the limit for which its name stands. `Bad` tells where the
-/// first field begins that cannot stand where it does, by its own number and by what stands before it; the end, where bytes are
-/// missing; or the first byte that follows.
+/// The image that a checkpoint's bytes spell, all of them, under the limit for which its name
+/// stands. `Bad` tells where the first field begins that cannot stand where it does, by its own
+/// number and by what stands before it; the end, where bytes are missing; or the first byte that
+/// follows.
 pub fn decode(alloc: Global, bytes: &[u8]) -> Result<Image, ImageBytes>
     // What is read is spelled so.
     ensures found { IfOk result (λ i. HasCheckpoint i × (bytes.now ≡ spelling i)) }
     // What is spelled so is read, unless memory runs out.
-    ensures only { (i : Image) → HasCheckpoint i → bytes.now ≡ spelling i → Gives (λ j. j) result (Ok i) }
+    ensures only { (i : Image) → HasCheckpoint i → bytes.now ≡ spelling i
+        → Gives (λ j. j) result (Ok i) }
     // Which fault it is.
     ensures exact { Gives (λ i. i) result (image_at (length bytes.now) bytes.now) }
     // Its place is one of the bytes, or their end.
-    ensures place { (place : ℕ) → result ≡ Err (Bad place) → (place ≤ length bytes.now) × (place < 2 ^ 63) }
+    ensures place { (place : ℕ) → result ≡ Err (Bad place) → (place ≤ length bytes.now)
+        × (place < 2 ^ 63) }
 {
     image_at(alloc, bytes.len() as u64, bytes)
 }
@@ -38,8 +41,8 @@ fn image_at(alloc: Global, end: u64, at: &[u8]) -> Result<Image, ImageBytes>
     Ok(image)
 }
 
-// The tables behind the words, up to the end. Each is put into the image before the next is read, so that none is held
-// beside it over a fault.
+// The tables behind the words, up to the end. Each is put into the image before the next is read,
+// so that none is held beside it over a fault.
 fn read_tables(alloc: Global, end: u64, image: &mut Image, at: &[u8]) -> Result<(), ImageBytes>
     ensures { Gives (λ _. image.new) result (tables_at end image.old at.now) }
 {
@@ -61,8 +64,8 @@ fn read_tables(alloc: Global, end: u64, image: &mut Image, at: &[u8]) -> Result<
     Ok(())
 }
 
-// The numbers of an image, in the order of its bytes: price, minutes and journal, the pools, what is redistributed, the
-// stakes, and those of the Stability Pool.
+// The numbers of an image, in the order of its bytes: price, minutes and journal, the pools, what
+// is redistributed, the stakes, and those of the Stability Pool.
 #[derive(Drop)]
 struct Words {
     times: [u64; 6],

@@ -16,8 +16,8 @@ use liq_types::amounts::CHECKPOINT_BYTES_MOST;
 use liq_types::{Image, NoMemory, RowCounts};
 use std::alloc::{AllocError, Global};
 
-/// The bytes of an image's checkpoint, which are read back as that image. They begin with `LIQSTAT1` under the limit of
-/// version 1, and with `LIQSTAT2` under the other.
+/// The bytes of an image's checkpoint, which are read back as that image. They begin with
+/// `LIQSTAT1` under the limit of version 1, and with `LIQSTAT2` under the other.
 pub fn encode(alloc: Global, image: &Image) -> Result<Vec<u8>, NoMemory>
     requires tables { HasTables image.now }
     requires limit { IsLimit image.now.limit }

@@ -8,7 +8,8 @@ use thiserror::Error;
 /// The bytes are no checkpoint, or there was no memory for what they hold.
 #[derive(Clone, Copy, Debug, Error)]
 pub enum ImageBytes {
-    /// Where the first field begins that cannot stand there, the end where bytes are missing, or where bytes follow.
+    /// Where the first field begins that cannot stand there, the end where bytes are missing, or
+    /// where bytes follow.
     #[error("byte {place} begins what fits no checkpoint")]
     Bad { place: u64 },
     #[error("no memory for the image of a checkpoint")]

@@ -1,4 +1,5 @@
-//! Numbers read from the front of bytes. `end` is how many bytes there are in all, so that a fault can be told by its place.
+//! Numbers read from the front of bytes. `end` is how many bytes there are in all, so that a fault
+//! can be told by its place.
 
 ghost use Rattle.std.specs.Prelude.{◌≡◌, ◌-◌, length};
 ghost use Rattle.liq_checkpoint.specs.declared.image_bytes.ImageBytes.TheVariants.{Bad};

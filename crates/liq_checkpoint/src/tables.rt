@@ -1,4 +1,5 @@
-//! The six tables of an image, each read row by row. A count is any number, so no room is made for it.
+//! The six tables of an image, each read row by row. A count is any number, so no room is made for
+//! it.
 
 ghost use Rattle.std.specs.Prelude.{◌≡◌, None};
 ghost use Rattle.liq_checkpoint.specs.Reading.{Gives, rows_at, table_at, wallet_at, trove_at, surplus_at, finished_at, deposit_at, client_at};

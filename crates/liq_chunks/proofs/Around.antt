@@ -14,47 +14,66 @@ use Rattle.liq_chunks.specs.Entries.{with_entry, without_entry, entry_before, en
 use Rattle.liq_chunks.proofs.Lists.{Ahead, after_ahead, after_past, before_ahead, before_past, entered_ahead, entered_past, left_ahead, left_past, is_less, turned}
 use Rattle.liq_chunks.proofs.Standing.{Leads, before_middle, before_more, behind_from, first_half, last_half}
 
-pub around : (fs : List Ranked) (rs : List (List Ranked)) (i : ℕ) (d : Ranked) → i < length fs → length fs ≡ length rs → joined fs rs ≡ joined (take i fs) (take i rs) ++ ((get_or fs i d ∷ get_or rs i []) ++ joined (drop (suc i) fs) (drop (suc i) rs))
+pub around : (fs : List Ranked) (rs : List (List Ranked)) (i : ℕ) (d : Ranked) → i < length fs → length fs ≡ length rs
+    → joined fs rs ≡ joined (take i fs) (take i rs) ++ ((get_or fs i d ∷ get_or rs i []) ++ joined (drop (suc i) fs)
+    (drop (suc i) rs))
 around [] rs i d h k = absurd (omega arith)
 around (f ∷ fs) [] i d h k = absurd (omega arith)
 around (f ∷ fs) (r ∷ rs) zero d h k = refl
 around (f ∷ fs) (r ∷ rs) (suc i) d h k =
     ap (λ (l : List Ranked). f ∷ (r ++ l)) (around fs rs i d (omega arith) (omega arith))
-    ∙ ap (λ (l : List Ranked). f ∷ l) (sym (append_assoc r (joined (take i fs) (take i rs)) ((get_or fs i d ∷ get_or rs i []) ++ joined (drop (suc i) fs) (drop (suc i) rs))))
+    ∙ ap (λ (l : List Ranked). f ∷ l) (sym (append_assoc r (joined (take i fs) (take i rs))
+    ((get_or fs i d ∷ get_or rs i []) ++ joined (drop (suc i) fs) (drop (suc i) rs))))
 
 -- each chunk has a first
-pub no_more_than_entries : (fs : List Ranked) (rs : List (List Ranked)) → length fs ≡ length rs → length fs ≤ length (joined fs rs)
+pub no_more_than_entries : (fs : List Ranked) (rs : List (List Ranked)) → length fs ≡ length rs
+    → length fs ≤ length (joined fs rs)
 no_more_than_entries [] rs h = omega arith
 no_more_than_entries (f ∷ fs) [] h = absurd (omega (arith, h))
-no_more_than_entries (f ∷ fs) (r ∷ rs) h = omega (arith, length-append r (joined fs rs), no_more_than_entries fs rs (omega (arith, h)))
+no_more_than_entries (f ∷ fs) (r ∷ rs) h = omega (
+  arith,
+  length-append r (joined fs rs),
+  no_more_than_entries fs rs (omega (arith, h)),
+)
 
-set_around : (fs : List Ranked) (rs : List (List Ranked)) (i : ℕ) (f : Ranked) (r : List Ranked) → i < length fs → length fs ≡ length rs → joined (set fs i f) (set rs i r) ≡ joined (take i fs) (take i rs) ++ ((f ∷ r) ++ joined (drop (suc i) fs) (drop (suc i) rs))
+set_around : (fs : List Ranked) (rs : List (List Ranked)) (i : ℕ) (f : Ranked) (r : List Ranked) → i < length fs
+    → length fs ≡ length rs → joined (set fs i f) (set rs i r) ≡ joined (take i fs) (take i rs)
+    ++ ((f ∷ r) ++ joined (drop (suc i) fs) (drop (suc i) rs))
 set_around [] rs i f r h k = absurd (omega arith)
 set_around (g ∷ fs) [] i f r h k = absurd (omega arith)
 set_around (g ∷ fs) (q ∷ rs) zero f r h k = refl
 set_around (g ∷ fs) (q ∷ rs) (suc i) f r h k =
     ap (λ (l : List Ranked). g ∷ (q ++ l)) (set_around fs rs i f r (omega arith) (omega arith))
-    ∙ ap (λ (l : List Ranked). g ∷ l) (sym (append_assoc q (joined (take i fs) (take i rs)) ((f ∷ r) ++ joined (drop (suc i) fs) (drop (suc i) rs))))
+    ∙ ap (λ (l : List Ranked). g ∷ l) (sym (append_assoc q (joined (take i fs) (take i rs)) ((f ∷ r)
+    ++ joined (drop (suc i) fs) (drop (suc i) rs))))
 
-removed_around : (fs : List Ranked) (rs : List (List Ranked)) (i : ℕ) → i < length fs → length fs ≡ length rs → joined (remove fs i) (remove rs i) ≡ joined (take i fs) (take i rs) ++ joined (drop (suc i) fs) (drop (suc i) rs)
+removed_around : (fs : List Ranked) (rs : List (List Ranked)) (i : ℕ) → i < length fs → length fs ≡ length rs
+    → joined (remove fs i) (remove rs i) ≡ joined (take i fs) (take i rs) ++ joined (drop (suc i) fs) (drop (suc i) rs)
 removed_around [] rs i h k = absurd (omega arith)
 removed_around (g ∷ fs) [] i h k = absurd (omega arith)
 removed_around (g ∷ fs) (q ∷ rs) zero h k = refl
 removed_around (g ∷ fs) (q ∷ rs) (suc i) h k =
     ap (λ (l : List Ranked). g ∷ (q ++ l)) (removed_around fs rs i (omega arith) (omega arith))
-    ∙ ap (λ (l : List Ranked). g ∷ l) (sym (append_assoc q (joined (take i fs) (take i rs)) (joined (drop (suc i) fs) (drop (suc i) rs))))
+    ∙ ap (λ (l : List Ranked). g ∷ l) (sym (append_assoc q (joined (take i fs) (take i rs)) (joined (drop (suc i) fs)
+    (drop (suc i) rs))))
 
 -- a chunk that is cut in two: the list is the same
-pub cut : (fs : List Ranked) (rs : List (List Ranked)) (i : ℕ) (f : Ranked) (r q : List Ranked) → i < length fs → length fs ≡ length rs → get_or rs i [] ≡ r ++ (f ∷ q) → joined (insert fs (suc i) f) (set (insert rs (suc i) q) i r) ≡ joined fs rs
+pub cut : (fs : List Ranked) (rs : List (List Ranked)) (i : ℕ) (f : Ranked) (r q : List Ranked) → i < length fs
+    → length fs ≡ length rs → get_or rs i [] ≡ r ++ (f ∷ q)
+    → joined (insert fs (suc i) f) (set (insert rs (suc i) q) i r) ≡ joined fs rs
 cut [] rs i f r q h k is = absurd (omega arith)
 cut (g ∷ fs) [] i f r q h k is = absurd (omega arith)
 cut (g ∷ fs) (p ∷ rs) zero f r q h k is =
-    ap (λ (l : List Ranked). g ∷ l) (sym (append_assoc r (f ∷ q) (joined fs rs)) ∙ ap (λ (l : List Ranked). l ++ joined fs rs) (sym is))
+    ap (λ (l : List Ranked). g ∷ l) (sym (append_assoc r (f ∷ q) (joined fs rs))
+    ∙ ap (λ (l : List Ranked). l ++ joined fs rs) (sym is))
 cut (g ∷ fs) (p ∷ rs) (suc i) f r q h k is =
     ap (λ (l : List Ranked). g ∷ (p ++ l)) (cut fs rs i f r q (omega arith) (omega arith) is)
 
 -- two chunks that become one: the list is the same
-pub together : (fs : List Ranked) (rs : List (List Ranked)) (i : ℕ) (d : Ranked) → suc i < length fs → length fs ≡ length rs → joined (remove fs (suc i)) (set (remove rs (suc i)) i (get_or rs i [] ++ (get_or fs (suc i) d ∷ get_or rs (suc i) []))) ≡ joined fs rs
+pub together : (fs : List Ranked) (rs : List (List Ranked)) (i : ℕ) (d : Ranked) → suc i < length fs
+    → length fs ≡ length rs
+    → joined (remove fs (suc i)) (set (remove rs (suc i)) i (get_or rs i [] ++ (get_or fs (suc i) d
+    ∷ get_or rs (suc i) []))) ≡ joined fs rs
 together [] rs i d h k = absurd (omega arith)
 together (f ∷ fs) [] i d h k = absurd (omega arith)
 together (f ∷ []) (r ∷ rs) zero d h k = absurd (omega arith)
@@ -63,13 +82,19 @@ together (f ∷ g ∷ fs) (r ∷ q ∷ rs) zero d h k = ap (λ (l : List Ranked)
 together (f ∷ fs) (r ∷ rs) (suc i) d h k =
     ap (λ (l : List Ranked). f ∷ (r ++ l)) (together fs rs i d (omega arith) (omega arith))
 
-before_chunk : (fs : List Ranked) (rs : List (List Ranked)) (i : ℕ) (d e : Ranked) (back : List Ranked) → ((d : Ranked) → 0 < i → is_lt (rank_order e (get_or fs i d)) ≡ false) → IsAscending (joined (take i fs) (take i rs) ++ ((get_or fs i d ∷ get_or rs i []) ++ back)) → Ahead e (joined (take i fs) (take i rs))
+before_chunk : (fs : List Ranked) (rs : List (List Ranked)) (i : ℕ) (d e : Ranked) (back : List Ranked)
+    → ((d : Ranked) → 0 < i → is_lt (rank_order e (get_or fs i d)) ≡ false)
+    → IsAscending (joined (take i fs) (take i rs) ++ ((get_or fs i d ∷ get_or rs i []) ++ back))
+    → Ahead e (joined (take i fs) (take i rs))
 before_chunk fs rs zero d e back low h = tt
 before_chunk fs rs (suc i) d e back low h =
     let front = joined (take (suc i) fs) (take (suc i) rs) in
-    before_more front (get_or fs (suc i) d) e (low d (omega arith)) (before_middle front (get_or fs (suc i) d) (get_or rs (suc i) [] ++ back) h)
+    before_more front (get_or fs (suc i) d) e (low d (omega arith)) (before_middle front (get_or fs (suc i) d)
+    (get_or rs (suc i) [] ++ back) h)
 
-leads_joined : (fs : List Ranked) (rs : List (List Ranked)) (j : ℕ) (e : Ranked) → length fs ≡ length rs → ((d : Ranked) → j < length fs → is_lt (rank_order e (get_or fs j d)) ≡ true) → Leads e (joined (drop j fs) (drop j rs))
+leads_joined : (fs : List Ranked) (rs : List (List Ranked)) (j : ℕ) (e : Ranked) → length fs ≡ length rs
+    → ((d : Ranked) → j < length fs → is_lt (rank_order e (get_or fs j d)) ≡ true)
+    → Leads e (joined (drop j fs) (drop j rs))
 leads_joined [] rs zero e k high = tt
 leads_joined [] rs (suc j) e k high = tt
 leads_joined (f ∷ fs) [] j e k high = absurd (omega arith)
@@ -107,19 +132,22 @@ module _ (fs : List Ranked) (rs : List (List Ranked)) (i : ℕ) (d : Ranked)
     front_ahead = before_chunk fs rs i d e back_of low parts
 
     back_behind : Behind e back_of
-    back_behind = behind_from back_of e (leads_joined fs rs (suc i) e lengths next) (last_half chunk_at back_of (last_half front_of (chunk_at ++ back_of) parts)) where
-      next : (d : Ranked) → suc i < length fs → is_lt (rank_order e (get_or fs (suc i) d)) ≡ true
-      next d h =
-          let q : suc i ≡ i + 1 = omega arith in
-          ap (λ n. is_lt (rank_order e (get_or fs n d))) q ∙ high d (omega arith)
+    back_behind = behind_from back_of e (leads_joined fs rs (suc i) e lengths next) (last_half chunk_at back_of
+        (last_half front_of (chunk_at ++ back_of) parts)) where
+          next : (d : Ranked) → suc i < length fs → is_lt (rank_order e (get_or fs (suc i) d)) ≡ true
+          next d h =
+              let q : suc i ≡ i + 1 = omega arith in
+              ap (λ n. is_lt (rank_order e (get_or fs n d))) q ∙ high d (omega arith)
 
     -- it comes into what the chunk is now
-    entered_between : (chunk : List Ranked) → with_entry (front_of ++ (chunk ++ back_of)) e ≡ front_of ++ (with_entry chunk e ++ back_of)
+    entered_between : (chunk : List Ranked) → with_entry (front_of ++ (chunk ++ back_of)) e
+        ≡ front_of ++ (with_entry chunk e ++ back_of)
     entered_between chunk =
         entered_past front_of (chunk ++ back_of) e front_ahead
         ∙ ap (λ (l : List Ranked). front_of ++ l) (entered_ahead chunk back_of e back_behind)
 
-    pub chunk_entered : (f : Ranked) (r : List Ranked) → f ∷ r ≡ with_entry chunk_at e → joined (set fs i f) (set rs i r) ≡ with_entry (joined fs rs) e
+    pub chunk_entered : (f : Ranked) (r : List Ranked) → f ∷ r ≡ with_entry chunk_at e
+        → joined (set fs i f) (set rs i r) ≡ with_entry (joined fs rs) e
     chunk_entered f r is =
         set_around fs rs i f r within lengths
         ∙ ap (λ (l : List Ranked). front_of ++ (l ++ back_of)) is
@@ -132,7 +160,8 @@ module _ (fs : List Ranked) (rs : List (List Ranked)) (i : ℕ) (d : Ranked)
         ∙ ap (λ (l : List Ranked). front_of ++ l) (left_ahead chunk_at back_of e back_behind)
 
     -- it leaves
-    pub chunk_left : (f : Ranked) (r : List Ranked) → f ∷ r ≡ without_entry chunk_at e → joined (set fs i f) (set rs i r) ≡ without_entry (joined fs rs) e
+    pub chunk_left : (f : Ranked) (r : List Ranked) → f ∷ r ≡ without_entry chunk_at e
+        → joined (set fs i f) (set rs i r) ≡ without_entry (joined fs rs) e
     chunk_left f r is =
         set_around fs rs i f r within lengths
         ∙ ap (λ (l : List Ranked). front_of ++ (l ++ back_of)) is
@@ -161,7 +190,8 @@ module _ (fs : List Ranked) (rs : List (List Ranked)) (i : ℕ) (d : Ranked)
   pub chunk_has : (e : Ranked) → Contains (get_or rs i []) e → Contains (joined fs rs) e
   chunk_has e there =
       subst (λ (l : List Ranked). Contains l e) (sym (around fs rs i d within lengths))
-      (Contains-append_right front_of (chunk_at ++ back_of) e (Contains-append_left chunk_at back_of e (Contains-append_right (get_or fs i d ∷ []) (get_or rs i []) e there)))
+      (Contains-append_right front_of (chunk_at ++ back_of) e (Contains-append_left chunk_at back_of e
+      (Contains-append_right (get_or fs i d ∷ []) (get_or rs i []) e there)))
 
   -- one entry leaves and another comes in, both behind the first of the chunk
   module _ (from to : Ranked)
@@ -170,18 +200,22 @@ module _ (fs : List Ranked) (rs : List (List Ranked)) (i : ℕ) (d : Ranked)
       (there : Contains (get_or rs i []) from)
       (behind_first : is_lt (rank_order (get_or fs i d) to) ≡ true)
       (before_next : (d : Ranked) → i + 1 < length fs → is_lt (rank_order to (get_or fs (i + 1) d)) ≡ true) where
-    pub chunk_shifted : (r : List Ranked) → r ≡ with_entry (without_entry (get_or rs i []) from) to → joined fs (set rs i r) ≡ with_entry (without_entry (joined fs rs) from) to
+    pub chunk_shifted : (r : List Ranked) → r ≡ with_entry (without_entry (get_or rs i []) from) to
+        → joined fs (set rs i r) ≡ with_entry (without_entry (joined fs rs) from) to
     chunk_shifted r is =
         let first = get_or fs i d in
         let rest = without_entry (get_or rs i []) from in
-        let from_behind : rank_order first from ≡ Less = All-contains (λ (f : Ranked). rank_order first f ≡ Less) (get_or rs i []) from (All-from_recursion (λ (f : Ranked). rank_order first f ≡ Less) (get_or rs i []) chunk_ascending.0) there in
+        let from_behind : rank_order first from ≡ Less = All-contains (λ (f : Ranked). rank_order first f
+        ≡ Less) (get_or rs i []) from (All-from_recursion (λ (f : Ranked). rank_order first f
+        ≡ Less) (get_or rs i []) chunk_ascending.0) there in
         let to_behind : rank_order first to ≡ Less = is_less (rank_order first to) behind_first in
         ap (λ (l : List Ranked). joined l (set rs i r)) (sym (set-get_or fs i d))
         ∙ set_around fs rs i first r within lengths
         ∙ ap (λ (l : List Ranked). front_of ++ ((first ∷ l) ++ back_of)) is
         ∙ ap (λ (l : List Ranked). front_of ++ (l ++ back_of)) (sym (entered_past (first ∷ []) rest to (to_behind, tt)))
         ∙ sym (entered_between to to_low before_next (first ∷ rest))
-        ∙ ap (λ (l : List Ranked). with_entry (front_of ++ (l ++ back_of)) to) (sym (left_past (first ∷ []) (get_or rs i []) from (from_behind, tt)))
+        ∙ ap (λ (l : List Ranked). with_entry (front_of ++ (l ++ back_of)) to)
+        (sym (left_past (first ∷ []) (get_or rs i []) from (from_behind, tt)))
         ∙ ap (λ (l : List Ranked). with_entry l to) (sym (without from low high)) where
           to_low : (g : Ranked) → 0 < i → is_lt (rank_order to (get_or fs i g)) ≡ false
           to_low g k =

@@ -1,6 +1,6 @@
-pub mod Around
+mod Around
 pub mod Lists
-pub mod Nearest
-pub mod Short
-pub mod Standing
-pub mod Stored
+mod Nearest
+mod Short
+mod Standing
+mod Stored

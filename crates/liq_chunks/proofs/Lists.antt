@@ -39,24 +39,29 @@ is_less Greater h = cc
 abbrev pub Ahead : Ranked → List Ranked → Type 0
 Ahead e list = AllByRecursion (λ (f : Ranked). rank_order f e ≡ Less) list
 
-pub each : (P Q : Ranked → Type 0) → ((f : Ranked) → P f → Q f) → (list : List Ranked) → AllByRecursion P list → AllByRecursion Q list
+pub each : (P Q : Ranked → Type 0) → ((f : Ranked) → P f → Q f) → (list : List Ranked) → AllByRecursion P list
+    → AllByRecursion Q list
 each P Q so list h = recursion_from_All Q list (All-weaker P Q so list (All-from_recursion P list h))
 
 -- ---- an entry comes in
 
-pub all_entered : (P : Ranked → Type 0) (list : List Ranked) (e : Ranked) → AllByRecursion P list → P e → AllByRecursion P (with_entry list e)
-all_entered P list e h is = recursion_from_All P (with_entry list e) (All-insert_key rank_order e P list (All-from_recursion P list h) is)
+pub all_entered : (P : Ranked → Type 0) (list : List Ranked) (e : Ranked) → AllByRecursion P list → P e
+    → AllByRecursion P (with_entry list e)
+all_entered P list e h is = recursion_from_All P (with_entry list e) (All-insert_key rank_order e P list
+    (All-from_recursion P list h) is)
 
 pub entered_ascending : (list : List Ranked) (e : Ranked) → IsAscending list → IsAscending (with_entry list e)
 entered_ascending [] e h = (tt, tt)
 entered_ascending (f ∷ fs) e h = by (rank_order e f) refl (entered_ascending fs e h.1) where
-  by : (o : Ordering) → rank_order e f ≡ o → IsAscending (with_entry fs e) → IsAscending (match_ordering o (e ∷ f ∷ fs) (f ∷ fs) (f ∷ with_entry fs e))
+  by : (o : Ordering) → rank_order e f ≡ o → IsAscending (with_entry fs e)
+      → IsAscending (match_ordering o (e ∷ f ∷ fs) (f ∷ fs) (f ∷ with_entry fs e))
   by Less is more = ((is, behind_more e f fs is h.0), h)
   by Equal is more = h
   by Greater is more = (all_entered (λ (g : Ranked). rank_order f g ≡ Less) fs e h.0 (turned f e Greater is), more)
 
 -- also where an entry couldn't come
-pub ascending_after : {X E : Type 0} (r : Result X E) (old new : List Ranked) (e : Ranked) → IsAscending old → OnOk r (new ≡ with_entry old e) → OnErr r (new ≡ old) → IsAscending new
+pub ascending_after : {X E : Type 0} (r : Result X E) (old new : List Ranked) (e : Ranked) → IsAscending old
+    → OnOk r (new ≡ with_entry old e) → OnErr r (new ≡ old) → IsAscending new
 ascending_after (Ok x) old new e h ok err = subst IsAscending (sym ok) (entered_ascending old e h)
 ascending_after (Err x) old new e h ok err = subst IsAscending (sym err) h
 
@@ -70,7 +75,9 @@ pub entered_ahead : (xs ys : List Ranked) (e : Ranked) → Behind e ys → with_
 entered_ahead [] [] e h = refl
 entered_ahead [] (y ∷ ys) e h = ap (λ o. match_ordering o (e ∷ y ∷ ys) (y ∷ ys) (y ∷ with_entry ys e)) h.0
 entered_ahead (x ∷ xs) ys e h = by (rank_order e x) (entered_ahead xs ys e h) where
-  by : (o : Ordering) → with_entry (xs ++ ys) e ≡ with_entry xs e ++ ys → match_ordering o (e ∷ x ∷ (xs ++ ys)) (x ∷ (xs ++ ys)) (x ∷ with_entry (xs ++ ys) e) ≡ match_ordering o (e ∷ x ∷ xs) (x ∷ xs) (x ∷ with_entry xs e) ++ ys
+  by : (o : Ordering) → with_entry (xs ++ ys) e ≡ with_entry xs e ++ ys
+      → match_ordering o (e ∷ x ∷ (xs ++ ys)) (x ∷ (xs ++ ys)) (x ∷ with_entry (xs ++ ys) e)
+      ≡ match_ordering o (e ∷ x ∷ xs) (x ∷ xs) (x ∷ with_entry xs e) ++ ys
   by Less more = refl
   by Equal more = refl
   by Greater more = ap (λ (l : List Ranked). x ∷ l) more
@@ -93,7 +100,8 @@ left_behind (b ∷ back) e h =
     ∙ ap (λ (l : List Ranked). b ∷ l) (left_behind back e h.1)
 
 -- the first one leaves
-pub left_first : (f : Ranked) (fs : List Ranked) (e : Ranked) → IsAscending (f ∷ fs) → is_eq (rank_order e f) ≡ true → without_entry (f ∷ fs) e ≡ fs
+pub left_first : (f : Ranked) (fs : List Ranked) (e : Ranked) → IsAscending (f ∷ fs) → is_eq (rank_order e f) ≡ true
+    → without_entry (f ∷ fs) e ≡ fs
 left_first f fs e h is =
     ap (λ b. cond (not b) (f ∷ without_entry fs e) (without_entry fs e)) is
     ∙ left_behind fs e (subst (λ (g : Ranked). Behind g fs) (sym (same_entry e f is)) h.0)
@@ -103,7 +111,8 @@ left_past xs ys e h =
     filter-append (λ (f : Ranked). not (is_eq (rank_order e f))) xs ys
     ∙ ap (λ (l : List Ranked). l ++ without_entry ys e) (left_before xs e h)
 
-pub left_ahead : (xs ys : List Ranked) (e : Ranked) → Behind e ys → without_entry (xs ++ ys) e ≡ without_entry xs e ++ ys
+pub left_ahead : (xs ys : List Ranked) (e : Ranked) → Behind e ys → without_entry (xs ++ ys) e
+    ≡ without_entry xs e ++ ys
 left_ahead xs ys e h =
     filter-append (λ (f : Ranked). not (is_eq (rank_order e f))) xs ys
     ∙ ap (λ (l : List Ranked). without_entry xs e ++ l) (left_behind ys e h)
@@ -114,7 +123,8 @@ pub first_appended : (xs ys : List Ranked) → first_of (xs ++ ys) ≡ option_or
 first_appended [] ys = refl
 first_appended (x ∷ xs) ys = refl
 
-pub last_appended : (xs ys : List Ranked) → first_of (reverse (xs ++ ys)) ≡ option_or (first_of (reverse ys)) (first_of (reverse xs))
+pub last_appended : (xs ys : List Ranked) → first_of (reverse (xs ++ ys)) ≡ option_or (first_of (reverse ys))
+    (first_of (reverse xs))
 last_appended xs ys =
     ap (λ (l : List Ranked). first_of l) (reverse-append xs ys) ∙ first_appended (reverse ys) (reverse xs)
 
@@ -129,37 +139,47 @@ none_pass q (g ∷ gs) h = ap (λ b. cond b (g ∷ filter q gs) (filter q gs)) h
 
 pub whole_before : (xs : List Ranked) (e : Ranked) → Ahead e xs → before_entry xs e ≡ xs
 whole_before xs e h =
-    all_pass (λ (f : Ranked). is_lt (rank_order f e)) xs (each (λ (f : Ranked). rank_order f e ≡ Less) (λ (f : Ranked). is_lt (rank_order f e) ≡ true) (λ f k. ap is_lt k) xs h)
+    all_pass (λ (f : Ranked). is_lt (rank_order f e)) xs (each (λ (f : Ranked). rank_order f e
+    ≡ Less) (λ (f : Ranked). is_lt (rank_order f e) ≡ true) (λ f k. ap is_lt k) xs h)
 
 pub nothing_before : (ys : List Ranked) (e : Ranked) → Behind e ys → before_entry ys e ≡ []
 nothing_before ys e h =
-    none_pass (λ (f : Ranked). is_lt (rank_order f e)) ys (each (λ (f : Ranked). rank_order e f ≡ Less) (λ (f : Ranked). is_lt (rank_order f e) ≡ false) (λ f k. ap is_lt (turned f e Less k)) ys h)
+    none_pass (λ (f : Ranked). is_lt (rank_order f e)) ys (each (λ (f : Ranked). rank_order e f
+    ≡ Less) (λ (f : Ranked). is_lt (rank_order f e) ≡ false) (λ f k. ap is_lt (turned f e Less k)) ys h)
 
 pub whole_after : (ys : List Ranked) (e : Ranked) → Behind e ys → after_entry ys e ≡ ys
 whole_after ys e h =
-    all_pass (λ (f : Ranked). is_lt (rank_order e f)) ys (each (λ (f : Ranked). rank_order e f ≡ Less) (λ (f : Ranked). is_lt (rank_order e f) ≡ true) (λ f k. ap is_lt k) ys h)
+    all_pass (λ (f : Ranked). is_lt (rank_order e f)) ys (each (λ (f : Ranked). rank_order e f
+    ≡ Less) (λ (f : Ranked). is_lt (rank_order e f) ≡ true) (λ f k. ap is_lt k) ys h)
 
 pub nothing_after : (xs : List Ranked) (e : Ranked) → Ahead e xs → after_entry xs e ≡ []
 nothing_after xs e h =
-    none_pass (λ (f : Ranked). is_lt (rank_order e f)) xs (each (λ (f : Ranked). rank_order f e ≡ Less) (λ (f : Ranked). is_lt (rank_order e f) ≡ false) (λ f k. ap is_lt (turned e f Less k)) xs h)
+    none_pass (λ (f : Ranked). is_lt (rank_order e f)) xs (each (λ (f : Ranked). rank_order f e
+    ≡ Less) (λ (f : Ranked). is_lt (rank_order e f) ≡ false) (λ f k. ap is_lt (turned e f Less k)) xs h)
 
-pub before_past : (xs ys : List Ranked) (e : Ranked) → Ahead e xs → entry_before (xs ++ ys) e ≡ option_or (entry_before ys e) (first_of (reverse xs))
+pub before_past : (xs ys : List Ranked) (e : Ranked) → Ahead e xs → entry_before (xs ++ ys) e
+    ≡ option_or (entry_before ys e) (first_of (reverse xs))
 before_past xs ys e h =
-    ap (λ (l : List Ranked). first_of (reverse l)) (filter-append (λ (f : Ranked). is_lt (rank_order f e)) xs ys ∙ ap (λ (l : List Ranked). l ++ before_entry ys e) (whole_before xs e h))
+    ap (λ (l : List Ranked). first_of (reverse l)) (filter-append (λ (f : Ranked). is_lt (rank_order f e)) xs ys
+    ∙ ap (λ (l : List Ranked). l ++ before_entry ys e) (whole_before xs e h))
     ∙ last_appended xs (before_entry ys e)
 
 pub before_ahead : (xs ys : List Ranked) (e : Ranked) → Behind e ys → entry_before (xs ++ ys) e ≡ entry_before xs e
 before_ahead xs ys e h =
-    ap (λ (l : List Ranked). first_of (reverse l)) (filter-append (λ (f : Ranked). is_lt (rank_order f e)) xs ys ∙ ap (λ (l : List Ranked). before_entry xs e ++ l) (nothing_before ys e h))
+    ap (λ (l : List Ranked). first_of (reverse l)) (filter-append (λ (f : Ranked). is_lt (rank_order f e)) xs ys
+    ∙ ap (λ (l : List Ranked). before_entry xs e ++ l) (nothing_before ys e h))
     ∙ last_appended (before_entry xs e) []
 
 pub after_past : (xs ys : List Ranked) (e : Ranked) → Ahead e xs → entry_after (xs ++ ys) e ≡ entry_after ys e
 after_past xs ys e h =
-    ap (λ (l : List Ranked). first_of l) (filter-append (λ (f : Ranked). is_lt (rank_order e f)) xs ys ∙ ap (λ (l : List Ranked). l ++ after_entry ys e) (nothing_after xs e h))
+    ap (λ (l : List Ranked). first_of l) (filter-append (λ (f : Ranked). is_lt (rank_order e f)) xs ys
+    ∙ ap (λ (l : List Ranked). l ++ after_entry ys e) (nothing_after xs e h))
 
-pub after_ahead : (xs ys : List Ranked) (e : Ranked) → Behind e ys → entry_after (xs ++ ys) e ≡ option_or (entry_after xs e) (first_of ys)
+pub after_ahead : (xs ys : List Ranked) (e : Ranked) → Behind e ys → entry_after (xs ++ ys) e
+    ≡ option_or (entry_after xs e) (first_of ys)
 after_ahead xs ys e h =
-    ap (λ (l : List Ranked). first_of l) (filter-append (λ (f : Ranked). is_lt (rank_order e f)) xs ys ∙ ap (λ (l : List Ranked). after_entry xs e ++ l) (whole_after ys e h))
+    ap (λ (l : List Ranked). first_of l) (filter-append (λ (f : Ranked). is_lt (rank_order e f)) xs ys
+    ∙ ap (λ (l : List Ranked). after_entry xs e ++ l) (whole_after ys e h))
     ∙ first_appended (after_entry xs e) ys
 
 -- ---- with an answer

@@ -1,5 +1,5 @@
--- The place of an entry in an ascending list, by number: what stands before it and behind it there, and what the list is once the entry
--- came in there or left.
+-- The place of an entry in an ascending list, by number: what stands before it and behind it there, and what the list
+-- is once the entry came in there or left.
 use Rattle.std.proofs.Common.{◌≡◌, ℕ, ◌<◌, ◌≤◌, suc, zero, Bool, true, false, cond, List, [], ◌∷◌, ◌++◌, length, get_or, take, drop, refl, sym, ap, ◌∙◌, arith, ◌-◌, subst}
 use Rattle.std.proofs.lemmas.List.{take-append-drop}
 use Rattle.std.specs.Prelude.{not, insert, remove}
@@ -26,7 +26,8 @@ last_half [] back h = h
 last_half (a ∷ front) back h = last_half front back h.1
 
 -- what stands before an entry of an ascending list comes before it
-pub before_middle : (front : List Ranked) (f : Ranked) (back : List Ranked) → IsAscending (front ++ (f ∷ back)) → Ahead f front
+pub before_middle : (front : List Ranked) (f : Ranked) (back : List Ranked) → IsAscending (front ++ (f ∷ back))
+    → Ahead f front
 before_middle [] f back h = tt
 before_middle (a ∷ front) f back h = (at front h.0, before_middle front f back h.1) where
   at : (xs : List Ranked) → Behind a (xs ++ (f ∷ back)) → rank_order a f ≡ Less
@@ -41,7 +42,8 @@ before_more (a ∷ front) f e h k = (by (rank_order e f) refl h, before_more fro
   by Equal is c = ap (λ (g : Ranked). rank_order a g) (same_entry e f (ap is_eq is)) ∙ k.0
   by Greater is c = rank_total.trans a f e k.0 (turned f e Greater is)
 
-take_before : (list : List Ranked) (p : ℕ) (e d : Ranked) → IsAscending list → p < length list → is_lt (rank_order (get_or list p d) e) ≡ true → Ahead e (take (suc p) list)
+take_before : (list : List Ranked) (p : ℕ) (e d : Ranked) → IsAscending list → p < length list
+    → is_lt (rank_order (get_or list p d) e) ≡ true → Ahead e (take (suc p) list)
 take_before [] p e d h k lt = absurd (omega arith)
 take_before (f ∷ fs) zero e d h k lt = (is_less (rank_order f e) lt, tt)
 take_before (f ∷ []) (suc p) e d h k lt = absurd (omega arith)
@@ -58,7 +60,9 @@ pub behind_from : (list : List Ranked) (e : Ranked) → Leads e list → IsAscen
 behind_from [] e lead h = tt
 behind_from (b ∷ back) e lead h = (lead, behind_more e b back lead h.0)
 
-leads_drop : (list : List Ranked) (at : ℕ) (e : Ranked) → ((d : Ranked) → at < length list → is_lt (rank_order (get_or list at d) e) ≡ false) → ((d : Ranked) → at < length list → is_eq (rank_order e (get_or list at d)) ≡ false) → Leads e (drop at list)
+leads_drop : (list : List Ranked) (at : ℕ) (e : Ranked) → ((d : Ranked) → at < length list
+    → is_lt (rank_order (get_or list at d) e) ≡ false) → ((d : Ranked) → at < length list
+    → is_eq (rank_order e (get_or list at d)) ≡ false) → Leads e (drop at list)
 leads_drop [] zero e high other = tt
 leads_drop [] (suc at) e high other = tt
 leads_drop (b ∷ back) zero e high other = by (rank_order e b) refl (high e (omega arith)) (other e (omega arith)) where
@@ -81,11 +85,13 @@ module _ (list : List Ranked) (e : Ranked) (at : ℕ) (ascending : IsAscending l
   -- those before the place come before the entry
   pub ahead : Ahead e (take at list)
   ahead = by at place.within place.low where
-    by : (n : ℕ) → n ≤ length list → ((d : Ranked) → 0 < n → is_lt (rank_order (get_or list (n - 1) d) e) ≡ true) → Ahead e (take n list)
+    by : (n : ℕ) → n ≤ length list → ((d : Ranked) → 0 < n → is_lt (rank_order (get_or list (n - 1) d) e) ≡ true)
+        → Ahead e (take n list)
     by zero k low = tt
     by (suc p) k low =
         let q : suc p - 1 ≡ p = omega arith in
-        take_before list p e e ascending (omega arith) (ap (λ n. is_lt (rank_order (get_or list n e) e)) (sym q) ∙ low e (omega arith))
+        take_before list p e e ascending (omega arith) (ap (λ n. is_lt (rank_order (get_or list n e) e)) (sym q)
+        ∙ low e (omega arith))
 
   module _ (other : (d : Ranked) → at < length list → is_eq (rank_order e (get_or list at d)) ≡ false) where
     -- those from the place on come after an entry that isn't there
@@ -112,7 +118,8 @@ module _ (list : List Ranked) (e : Ranked) (at : ℕ) (ascending : IsAscending l
   module _ (there : at < length list) (same : is_eq (rank_order e (get_or list at e)) ≡ true) where
     pub entered_there : list ≡ with_entry list e
     entered_there = sym (by list at ahead there same) where
-      by : (l : List Ranked) (n : ℕ) → Ahead e (take n l) → n < length l → is_eq (rank_order e (get_or l n e)) ≡ true → with_entry l e ≡ l
+      by : (l : List Ranked) (n : ℕ) → Ahead e (take n l) → n < length l → is_eq (rank_order e (get_or l n e)) ≡ true
+          → with_entry l e ≡ l
       by [] n h k is = absurd (omega arith)
       by (f ∷ fs) zero h k is =
           ap (λ o. match_ordering o (e ∷ f ∷ fs) (f ∷ fs) (f ∷ with_entry fs e)) (is_tied (rank_order e f) is)
@@ -122,7 +129,8 @@ module _ (list : List Ranked) (e : Ranked) (at : ℕ) (ascending : IsAscending l
 
     pub left_at : remove list at ≡ without_entry list e
     left_at = sym (by list at ascending ahead there same) where
-      by : (l : List Ranked) (n : ℕ) → IsAscending l → Ahead e (take n l) → n < length l → is_eq (rank_order e (get_or l n e)) ≡ true → without_entry l e ≡ remove l n
+      by : (l : List Ranked) (n : ℕ) → IsAscending l → Ahead e (take n l) → n < length l
+          → is_eq (rank_order e (get_or l n e)) ≡ true → without_entry l e ≡ remove l n
       by [] n h b k is = absurd (omega arith)
       by (f ∷ fs) zero h b k is = left_first f fs e h is
       by (f ∷ fs) (suc n) h b k is =
@@ -130,7 +138,8 @@ module _ (list : List Ranked) (e : Ranked) (at : ℕ) (ascending : IsAscending l
           ∙ ap (λ (l : List Ranked). f ∷ l) (by fs n h.1 b.1 (omega arith) is)
 
 -- what was the first of the rest comes first
-pub first_back : (rest more : List Ranked) (x : Ranked) → (rest ≡ [] → ⊥) → x ≡ get_or rest 0 x → more ≡ remove rest 0 → x ∷ more ≡ rest
+pub first_back : (rest more : List Ranked) (x : Ranked) → (rest ≡ [] → ⊥) → x ≡ get_or rest 0 x → more ≡ remove rest 0
+    → x ∷ more ≡ rest
 first_back [] more x some is left_over = absurd (some refl)
 first_back (r ∷ rs) more x some is left_over =
     ap (λ (y : Ranked). y ∷ more) is ∙ ap (λ (l : List Ranked). r ∷ l) left_over
@@ -140,6 +149,8 @@ first_back (r ∷ rs) more x some is left_over =
 pub place_of : (seen list : List Ranked) (e : Ranked) (at : ℕ) → seen ≡ list → IsPlace seen e at → IsPlace list e at
 place_of seen list e at is place = subst (λ (l : List Ranked). IsPlace l e at) is place
 
-pub is_there : (seen list : List Ranked) (e : Ranked) (at : ℕ) (b : Bool) → seen ≡ list → ((d : Ranked) → at < length seen → is_eq (rank_order e (get_or seen at d)) ≡ b) → (d : Ranked) → at < length list → is_eq (rank_order e (get_or list at d)) ≡ b
+pub is_there : (seen list : List Ranked) (e : Ranked) (at : ℕ) (b : Bool) → seen ≡ list
+    → ((d : Ranked) → at < length seen → is_eq (rank_order e (get_or seen at d)) ≡ b) → (d : Ranked) → at < length list
+    → is_eq (rank_order e (get_or list at d)) ≡ b
 is_there seen list e at b is h =
     subst (λ (l : List Ranked). (d : Ranked) → at < length l → is_eq (rank_order e (get_or l at d)) ≡ b) is h

@@ -35,17 +35,20 @@ last_or first (e ∷ es) = last_or e es
 pub record IsPlace (list : List Ranked) (e : Ranked) (at : ℕ) : Type 0 where
   pub within : at ≤ length list
   pub low : (d : Ranked) → 0 < at → is_lt (rank_order (slice_index_or list (at - 1) d) e) ≡ true
-  pub high : (d : Ranked) → at < length list → is_lt (rank_order (slice_index_or list at d) e) ≡ false
+  pub high : (d : Ranked) → at < length list
+      → is_lt (rank_order (slice_index_or list at d) e) ≡ false
 
--- an entry stands in a chunk or would: the chunk begins before the entry or with it, unless it is the first chunk, and the chunk behind it,
--- if there is one, begins after the entry
+-- an entry stands in a chunk or would: the chunk begins before the entry or with it, unless it is
+-- the first chunk, and the chunk behind it, if there is one, begins after the entry
 pub record BelongsTo (firsts : List Ranked) (e : Ranked) (chunk : ℕ) : Type 0 where
   pub within : chunk < length firsts
   pub low : (d : Ranked) → 0 < chunk → is_lt (rank_order e (slice_index_or firsts chunk d)) ≡ false
-  pub high : (d : Ranked) → chunk + 1 < length firsts → is_lt (rank_order e (slice_index_or firsts (chunk + 1) d)) ≡ true
+  pub high : (d : Ranked) → chunk + 1 < length firsts
+      → is_lt (rank_order e (slice_index_or firsts (chunk + 1) d)) ≡ true
 
 -- an entry belongs to a chunk or to the one behind it
 pub record BelongsToEither (firsts : List Ranked) (e : Ranked) (chunk : ℕ) : Type 0 where
   pub within : chunk + 1 < length firsts
   pub low : (d : Ranked) → 0 < chunk → is_lt (rank_order e (slice_index_or firsts chunk d)) ≡ false
-  pub high : (d : Ranked) → chunk + 2 < length firsts → is_lt (rank_order e (slice_index_or firsts (chunk + 2) d)) ≡ true
+  pub high : (d : Ranked) → chunk + 2 < length firsts
+      → is_lt (rank_order e (slice_index_or firsts (chunk + 2) d)) ≡ true

@@ -18,14 +18,16 @@ pub type Entry = (i64, u32);
 // The most entries of a chunk behind its first.
 const MOST: usize = 63;
 
-// How many of them stay where a chunk is cut in two, and the most of a chunk that two are joined to.
+// How many of them stay where a chunk is cut in two, and the most of a chunk that two are joined
+// to.
 const HALF: usize = 31;
 
 /// Entries in ascending order, by key and then by account. Contracts see the list.
 ///
-/// They stand in chunks of at most 64, each in its own memory. The first of each chunk stands apart: among those a chunk is found, and
-/// they are few enough to stay near the processor. A full chunk is cut in two. Where an entry leaves, chunks beside each other that have
-/// at most 32 together become one, if there is memory for it; a chunk leaves with its last entry.
+/// They stand in chunks of at most 64, each in its own memory. The first of each chunk stands
+/// apart: among those a chunk is found, and they are few enough to stay near the processor. A full
+/// chunk is cut in two. Where an entry leaves, chunks beside each other that have at most 32
+/// together become one, if there is memory for it; a chunk leaves with its last entry.
 #[derive(Drop)]
 pub struct Chunks {
     firsts: Vec<Entry>,
@@ -41,7 +43,8 @@ impl Model for Chunks {
 
     ghost view = { λ p. entries p.firsts p.rests };
 
-    ghost invariant = { λ p. (length p.firsts.items ≡ length p.rests.items) × IsAscending (entries p.firsts p.rests) × AreShort (lists p.rests) };
+    ghost invariant = { λ p. (length p.firsts.items ≡ length p.rests.items)
+        × IsAscending (entries p.firsts p.rests) × AreShort (lists p.rests) };
 }
 
 impl Chunks {
@@ -89,8 +92,8 @@ impl Chunks {
         join(&mut self.firsts, &mut self.rests, chunk);
     }
 
-    /// Puts an entry in another's place, where both belong behind the first of one chunk: that takes no memory. Tells
-    /// whether it did; where it didn't, all is as before.
+    /// Puts an entry in another's place, where both belong behind the first of one chunk: that
+    /// takes no memory. Tells whether it did; where it didn't, all is as before.
     #[tactic(auto, using(crate::proofs::Lists::entered_ascending, crate::proofs::Lists::left_ascending))]
     pub fn shift(&mut self, from: Entry, to: Entry) -> bool
         ensures ascending { IsAscending self.new }
@@ -199,7 +202,8 @@ fn place_in(rest: &[Entry], entry: Entry) -> usize
 // Whether an entry is that at a place of a chunk.
 fn stands_at(rest: &[Entry], at: usize, entry: Entry) -> bool
     ensures within { result ≡ true → at < length rest.now }
-    ensures same { (d : Ranked) → at < length rest.now → is_eq (rank_order entry (slice_index_or rest.now at d)) ≡ result }
+    ensures same { (d : Ranked) → at < length rest.now
+        → is_eq (rank_order entry (slice_index_or rest.now at d)) ≡ result }
 {
     match rest.get(at) {
         Some(found) => is_same(entry, *found),
@@ -236,7 +240,8 @@ fn behind_half(rest: &Vec<Entry>) -> Result<Vec<Entry>, NoMemory>
     Ok(half)
 }
 
-// Cuts a chunk in two. All entries stay, and another that belongs to the chunk then belongs to one of the two.
+// Cuts a chunk in two. All entries stay, and another that belongs to the chunk then belongs to one
+// of the two.
 fn split(
     firsts: &mut Vec<Entry>,
     rests: &mut Vec<Vec<Entry>>,
@@ -251,7 +256,8 @@ fn split(
     ensures len { length firsts.new.items ≡ length rests.new.items }
     ensures either { OnOk result (BelongsToEither firsts.new.items entry chunk) }
     ensures short { AreShort (lists rests.new) }
-    ensures room { OnOk result ((at : ℕ) (d : List Ranked) → chunk ≤ at → at ≤ chunk + 1 → length (slice_index_or (lists rests.new) at d) < MOST) }
+    ensures room { OnOk result ((at : ℕ) (d : List Ranked) → chunk ≤ at → at ≤ chunk + 1
+        → length (slice_index_or (lists rests.new) at d) < MOST) }
 {
     let rest = &rests[chunk];
     let first = rest[HALF];
@@ -267,7 +273,8 @@ fn split(
     Ok(())
 }
 
-// Makes one of a chunk and the one before it, where they have at most 32 entries together and there is memory for it. All entries stay.
+// Makes one of a chunk and the one before it, where they have at most 32 entries together and there
+// is memory for it. All entries stay.
 fn join(firsts: &mut Vec<Entry>, rests: &mut Vec<Vec<Entry>>, chunk: usize)
     requires len { length firsts.old.items ≡ length rests.old.items }
     requires short { AreShort (lists rests.old) }
@@ -318,7 +325,8 @@ fn enter(
     requires room { (d : List Ranked) → length (slice_index_or (lists rests.old) chunk d) < MOST }
     ensures len { length firsts.new.items ≡ length rests.new.items }
     ensures short { AreShort (lists rests.new) }
-    ensures ok { OnOk result (entries firsts.new rests.new ≡ with_entry (entries firsts.old rests.old) entry) }
+    ensures ok { OnOk result (entries firsts.new rests.new
+        ≡ with_entry (entries firsts.old rests.old) entry) }
     ensures err { OnErr result (entries firsts.new rests.new ≡ entries firsts.old rests.old) }
 {
     enter_chunk(&mut firsts[chunk], &mut rests[chunk], entry)
@@ -327,7 +335,8 @@ fn enter(
 fn enter_chunk(first: &mut Entry, rest: &mut Vec<Entry>, entry: Entry) -> Result<(), NoMemory>
     requires { IsAscending (first.old ∷ rest.old.items) }
     ensures more { length rest.new.items ≤ length rest.old.items + 1 }
-    ensures ok { OnOk result ((first.new ∷ rest.new.items) ≡ with_entry (first.old ∷ rest.old.items) entry) }
+    ensures ok { OnOk result ((first.new ∷ rest.new.items)
+        ≡ with_entry (first.old ∷ rest.old.items) entry) }
     ensures err { OnErr result ((first.new ∷ rest.new.items) ≡ (first.old ∷ rest.old.items)) }
 {
     if is_before(entry, *first) {
@@ -368,7 +377,8 @@ fn take_out(firsts: &mut Vec<Entry>, rests: &mut Vec<Vec<Entry>>, chunk: usize, 
     requires short { AreShort (lists rests.old) }
     ensures len { length firsts.new.items ≡ length rests.new.items }
     ensures short { AreShort (lists rests.new) }
-    ensures left { entries firsts.new rests.new ≡ without_entry (entries firsts.old rests.old) entry }
+    ensures left { entries firsts.new rests.new
+        ≡ without_entry (entries firsts.old rests.old) entry }
 {
     if rests[chunk].is_empty() && is_same(entry, firsts[chunk]) {
         firsts.remove(chunk);
@@ -411,15 +421,18 @@ fn take_out_of_rest(rest: &mut Vec<Entry>, entry: Entry) -> bool
 // Whether an entry belongs to a chunk, behind its first.
 fn is_behind_first(firsts: &[Entry], chunk: usize, entry: Entry) -> bool
     requires { chunk < length firsts.now }
-    ensures low { (d : Ranked) → result ≡ true → is_lt (rank_order (slice_index_or firsts.now chunk d) entry) ≡ true }
-    ensures high { (d : Ranked) → result ≡ true → chunk + 1 < length firsts.now → is_lt (rank_order entry (slice_index_or firsts.now (chunk + 1) d)) ≡ true }
+    ensures low { (d : Ranked) → result ≡ true
+        → is_lt (rank_order (slice_index_or firsts.now chunk d) entry) ≡ true }
+    ensures high { (d : Ranked) → result ≡ true → chunk + 1 < length firsts.now
+        → is_lt (rank_order entry (slice_index_or firsts.now (chunk + 1) d)) ≡ true }
 {
     is_before(firsts[chunk], entry) && is_before_chunk(firsts, chunk + 1, entry)
 }
 
 // Whether an entry comes before those of a chunk, if there is that chunk.
 fn is_before_chunk(firsts: &[Entry], chunk: usize, entry: Entry) -> bool
-    ensures { (d : Ranked) → result ≡ true → chunk < length firsts.now → is_lt (rank_order entry (slice_index_or firsts.now chunk d)) ≡ true }
+    ensures { (d : Ranked) → result ≡ true → chunk < length firsts.now
+        → is_lt (rank_order entry (slice_index_or firsts.now chunk d)) ≡ true }
 {
     match firsts.get(chunk) {
         Some(first) => is_before(entry, *first),
@@ -427,7 +440,8 @@ fn is_before_chunk(firsts: &[Entry], chunk: usize, entry: Entry) -> bool
     }
 }
 
-// Puts an entry in another's place in its chunk, if that one is there and both belong behind its first.
+// Puts an entry in another's place in its chunk, if that one is there and both belong behind its
+// first.
 fn shift_in_chunk(
     firsts: &Vec<Entry>,
     rests: &mut Vec<Vec<Entry>>,
@@ -441,7 +455,8 @@ fn shift_in_chunk(
     requires short { AreShort (lists rests.old) }
     ensures len { length firsts.now.items ≡ length rests.new.items }
     ensures short { AreShort (lists rests.new) }
-    ensures shifted { result ≡ true → entries firsts.now rests.new ≡ with_entry (without_entry (entries firsts.now rests.old) from) to }
+    ensures shifted { result ≡ true → entries firsts.now rests.new
+        ≡ with_entry (without_entry (entries firsts.now rests.old) from) to }
     ensures there { result ≡ true → Contains (entries firsts.now rests.old) from }
     ensures stays { result ≡ false → entries firsts.now rests.new ≡ entries firsts.now rests.old }
 {
@@ -455,7 +470,8 @@ fn shift_in_chunk(
 #[tactic(auto, using(crate::proofs::Lists::left_ascending))]
 fn shift_in(rest: &mut Vec<Entry>, from: Entry, to: Entry) -> bool
     requires { IsAscending rest.old.items }
-    ensures shifted { result ≡ true → rest.new.items ≡ with_entry (without_entry rest.old.items from) to }
+    ensures shifted { result ≡ true
+        → rest.new.items ≡ with_entry (without_entry rest.old.items from) to }
     ensures there { result ≡ true → Contains rest.old.items from }
     ensures less { length rest.new.items ≤ length rest.old.items }
     ensures stays { result ≡ false → rest.new.items ≡ rest.old.items }
@@ -469,7 +485,8 @@ fn shift_in(rest: &mut Vec<Entry>, from: Entry, to: Entry) -> bool
     true
 }
 
-// The entries next before and next after a place in its chunk, or at the ends of the chunks beside it.
+// The entries next before and next after a place in its chunk, or at the ends of the chunks beside
+// it.
 fn beside_chunk(
     firsts: &Vec<Entry>,
     rests: &Vec<Vec<Entry>>,
@@ -479,7 +496,10 @@ fn beside_chunk(
     requires len { length firsts.now.items ≡ length rests.now.items }
     requires ascending { IsAscending (entries firsts.now rests.now) }
     requires belongs { BelongsTo firsts.now.items place chunk }
-    ensures { result ≡ (entry_before (entries firsts.now rests.now) place, entry_after (entries firsts.now rests.now) place) }
+    ensures { result ≡ (
+      entry_before (entries firsts.now rests.now) place,
+      entry_after (entries firsts.now rests.now) place,
+    ) }
 {
     let first = firsts[chunk];
     let rest = &rests[chunk];
@@ -538,7 +558,8 @@ fn or_last_before(
 ) -> Option<Entry>
     requires len { length firsts.now.items ≡ length rests.now.items }
     requires within { chunk < length firsts.now.items }
-    ensures { result ≡ option_or found (last_of (joined (take chunk firsts.now.items) (take chunk (lists rests.now)))) }
+    ensures { result ≡ option_or found (last_of (joined (take chunk firsts.now.items)
+        (take chunk (lists rests.now)))) }
 {
     match found {
         Some(entry) => Some(entry),

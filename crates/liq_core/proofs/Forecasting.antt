@@ -33,42 +33,66 @@ use Rattle.liq_core.proofs.Reading.{refused_so, allowed_so, placed_told, set_tol
 abbrev pub put_for : State → ℕ → Plan → ListChange
 put_for s account plan = Put (key_by (set_row (sums_words s) plan.coll plan.debt)) account
 
-module _ (s : State) (account : ℕ) (m : Market) (w : Wallet) (market_is : m ≡ market_of s) (wallet_is : w ≡ wallet_of s account) where
-  module _ (coll borrow bound : ℕ) (hint : HintWords) (exists : Bool) (exists_is : exists ≡ is_some (at s.troves account)) where
-    open_as : open_plan m w exists account coll borrow bound ≡ open_plan (market_of s) (wallet_of s account) (is_some (at s.troves account)) account coll borrow bound
+module _ (s : State) (account : ℕ) (m : Market) (w : Wallet) (market_is : m ≡ market_of s) (wallet_is : w
+    ≡ wallet_of s account) where
+  module _ (coll borrow bound : ℕ) (hint : HintWords) (exists : Bool) (exists_is : exists
+      ≡ is_some (at s.troves account)) where
+    open_as : open_plan m w exists account coll borrow bound ≡ open_plan (market_of s) (wallet_of s account)
+        (is_some (at s.troves account)) account coll borrow bound
     open_as =
         ap (λ (x : Market). open_plan x w exists account coll borrow bound) market_is
         ∙ ap (λ (x : Wallet). open_plan (market_of s) x exists account coll borrow bound) wallet_is
         ∙ ap (λ b. open_plan (market_of s) (wallet_of s account) b account coll borrow bound) exists_is
 
-    pub open_refused : (refusal : Refusal) → open_plan m w exists account coll borrow bound ≡ Err refusal → IsRuled s (Open account coll borrow bound hint) (Err refusal)
+    pub open_refused : (refusal : Refusal) → open_plan m w exists account coll borrow bound ≡ Err refusal
+        → IsRuled s (Open account coll borrow bound hint) (Err refusal)
     open_refused refusal e =
-        refused_so (rules s (Open account coll borrow bound hint)) (opening_terms (market_of s) coll borrow) refusal (sym open_as ∙ e)
+        refused_so (rules s (Open account coll borrow bound hint)) (opening_terms (market_of s) coll borrow) refusal
+        (sym open_as ∙ e)
 
-    pub open_allowed : (plan : Plan) → open_plan m w exists account coll borrow bound ≡ Ok plan → (first_refusal (rules s (Open account coll borrow bound hint)) ≡ None) × (plan ≡ (opening_terms (market_of s) coll borrow))
-    open_allowed plan e = allowed_so (rules s (Open account coll borrow bound hint)) (opening_terms (market_of s) coll borrow) plan (sym open_as ∙ e)
+    pub open_allowed : (plan : Plan) → open_plan m w exists account coll borrow bound ≡ Ok plan
+        → (first_refusal (rules s (Open account coll borrow bound hint)) ≡ None)
+        × (plan ≡ (opening_terms (market_of s) coll borrow))
+    open_allowed plan e = allowed_so (rules s (Open account coll borrow bound hint))
+        (opening_terms (market_of s) coll borrow) plan (sym open_as ∙ e)
 
-  module _ (change : Change) (bound : ℕ) (hint : HintWords) (entire : Option (ℕ × ℕ)) (entire_is : entire ≡ entire_of s account) where
-    adjust_as : adjust_plan m w entire account change bound ≡ adjust_plan (market_of s) (wallet_of s account) (entire_of s account) account change bound
+  module _ (change : Change) (bound : ℕ) (hint : HintWords) (entire : Option (ℕ × ℕ)) (entire_is : entire
+      ≡ entire_of s account) where
+    adjust_as : adjust_plan m w entire account change bound ≡ adjust_plan (market_of s) (wallet_of s account)
+        (entire_of s account) account change bound
     adjust_as =
         ap (λ (x : Market). adjust_plan x w entire account change bound) market_is
         ∙ ap (λ (x : Wallet). adjust_plan (market_of s) x entire account change bound) wallet_is
         ∙ ap (λ (o : Option (ℕ × ℕ)). adjust_plan (market_of s) (wallet_of s account) o account change bound) entire_is
 
-    pub adjust_refused : (refusal : Refusal) → adjust_plan m w entire account change bound ≡ Err refusal → IsRuled s (Adjust account change.coll_in change.coll_out change.borrow change.repay bound hint) (Err refusal)
+    pub adjust_refused : (refusal : Refusal) → adjust_plan m w entire account change bound ≡ Err refusal
+        → IsRuled s (Adjust account change.coll_in change.coll_out change.borrow change.repay bound hint) (Err refusal)
     adjust_refused refusal e =
-        refused_so (rules s (Adjust account change.coll_in change.coll_out change.borrow change.repay bound hint)) (adjusting_terms (market_of s) (or_nothing (entire_of s account)) change) refusal (sym adjust_as ∙ e)
+        refused_so (rules s (Adjust account change.coll_in change.coll_out change.borrow change.repay bound hint))
+        (adjusting_terms (market_of s) (or_nothing (entire_of s account)) change) refusal (sym adjust_as ∙ e)
 
-    pub adjust_allowed : (plan : Plan) → adjust_plan m w entire account change bound ≡ Ok plan → (first_refusal (rules s (Adjust account change.coll_in change.coll_out change.borrow change.repay bound hint)) ≡ None) × (plan ≡ (adjusting_terms (market_of s) (or_nothing (entire_of s account)) change))
-    adjust_allowed plan e = allowed_so (rules s (Adjust account change.coll_in change.coll_out change.borrow change.repay bound hint)) (adjusting_terms (market_of s) (or_nothing (entire_of s account)) change) plan (sym adjust_as ∙ e)
+    pub adjust_allowed : (plan : Plan) → adjust_plan m w entire account change bound ≡ Ok plan
+        → (first_refusal (rules s (Adjust account change.coll_in change.coll_out change.borrow change.repay bound hint))
+        ≡ None) × (plan ≡ (adjusting_terms (market_of s) (or_nothing (entire_of s account)) change))
+    adjust_allowed plan e =
+        allowed_so (rules s (Adjust account change.coll_in change.coll_out change.borrow change.repay bound hint))
+        (adjusting_terms (market_of s) (or_nothing (entire_of s account)) change) plan (sym adjust_as ∙ e)
 
 -- ---- what is planned
 
 abbrev pub trove_forecast : ℕ → List ℕ → Plan → ListChange → Forecast
 trove_forecast kind values plan change =
-    record { done = record { kind = kind; values = values }; terms = terms.Trove plan; events = events.Nothing; changes = changes.One (change ∷ []) }
+    record {
+      done = record { kind = kind; values = values };
+      terms = terms.Trove plan;
+      events = events.Nothing;
+      changes = changes.One (change ∷ []);
+    }
 
-pub open_forecast : (s : State) (account coll borrow bound : ℕ) (hint : HintWords) (plan : Plan) (change : ListChange) → plan ≡ opening_terms (market_of s) coll borrow → change ≡ put_for s account plan → IsForecast s (Open account coll borrow bound hint) (trove_forecast 6 (plan.debt ∷ plan.fee ∷ 0 ∷ 0 ∷ 0 ∷ 0 ∷ []) plan change)
+pub open_forecast : (s : State) (account coll borrow bound : ℕ) (hint : HintWords) (plan : Plan) (change : ListChange)
+    → plan ≡ opening_terms (market_of s) coll borrow → change ≡ put_for s account plan
+    → IsForecast s (Open account coll borrow bound hint) (trove_forecast 6 (plan.debt ∷ plan.fee ∷ 0 ∷ 0 ∷ 0 ∷ 0
+    ∷ []) plan change)
 open_forecast s account coll borrow bound hint plan change is put_is =
     let planned = opening_terms (market_of s) coll borrow in
     let lent = credited (charged (with_fee s planned) account coll 0) account 0 borrow in
@@ -78,16 +102,23 @@ open_forecast s account coll borrow bound hint plan change is put_is =
       events = refl;
       changes =
           ap (λ (c : ListChange). c ∷ [])
-          (put_is ∙ ap (put_for s account) is ∙ placed_told (record lent { reserve = lent.reserve + RESERVE }) account coll planned.debt);
+          (put_is ∙ ap (put_for s account) is ∙ placed_told (record lent { reserve = lent.reserve + RESERVE }) account
+          coll planned.debt);
     }
 
-pub adjust_forecast : (s : State) (account : ℕ) (change : Change) (bound : ℕ) (hint : HintWords) (plan : Plan) (moved : ListChange) → plan ≡ adjusting_terms (market_of s) (or_nothing (entire_of s account)) change → moved ≡ put_for s account plan → IsForecast s (Adjust account change.coll_in change.coll_out change.borrow change.repay bound hint) (trove_forecast 7 (plan.coll ∷ plan.debt ∷ plan.fee ∷ 0 ∷ 0 ∷ 0 ∷ []) plan moved)
+pub adjust_forecast : (s : State) (account : ℕ) (change : Change) (bound : ℕ) (hint : HintWords) (plan : Plan)
+    (moved : ListChange) → plan ≡ adjusting_terms (market_of s) (or_nothing (entire_of s account)) change
+    → moved ≡ put_for s account plan
+    → IsForecast s (Adjust account change.coll_in change.coll_out change.borrow change.repay bound hint)
+    (trove_forecast 7 (plan.coll ∷ plan.debt ∷ plan.fee ∷ 0 ∷ 0 ∷ 0 ∷ []) plan moved)
 adjust_forecast s account change bound hint plan moved is put_is =
     let planned = adjusting_terms (market_of s) (or_nothing (entire_of s account)) change in
-    let paid = credited (charged (with_fee s planned) account change.coll_in change.repay) account change.coll_out change.borrow in
+    let paid = credited (charged (with_fee s planned) account change.coll_in change.repay) account change.coll_out
+    change.borrow in
     record {
       done = ap (λ (p : Plan). record { kind = 7; values = p.coll ∷ p.debt ∷ p.fee ∷ 0 ∷ 0 ∷ 0 ∷ [] }) is;
       terms = is;
       events = refl;
-      changes = ap (λ (c : ListChange). c ∷ []) (put_is ∙ ap (put_for s account) is ∙ set_told paid account planned.coll planned.debt);
+      changes = ap (λ (c : ListChange). c ∷ []) (put_is ∙ ap (put_for s account) is
+          ∙ set_told paid account planned.coll planned.debt);
     }

@@ -44,29 +44,37 @@ module _ {X : Type 0} where
   none_left (x ∷ xs) zero is = absurd (something is)
   none_left (x ∷ xs) (suc k) is = let rest = none_left xs k is in omega (arith, rest)
 
-other : (list : List Ranked) (k b a : ℕ) → IsAbsent b list → first_of (drop k (accounts list)) ≡ Some a → (b == a) ≡ false
+other : (list : List Ranked) (k b a : ℕ) → IsAbsent b list → first_of (drop k (accounts list)) ≡ Some a
+    → (b == a) ≡ false
 other [] zero b a h is = absurd (nothing is)
 other [] (suc k) b a h is = absurd (nothing is)
 other (e ∷ es) zero b a h is = subst (λ x. (b == x) ≡ false) (the is) (ne_eqb b e.1 (λ same. h.0 (sym same)))
 other (e ∷ es) (suc k) b a h is = other es k b a h.1 is
 
-behind : (list : List Ranked) (k a : ℕ) → AreDistinct list → first_of (drop k (accounts list)) ≡ Some a → after_account (accounts list) a ≡ first_of (drop (suc k) (accounts list))
+behind : (list : List Ranked) (k a : ℕ) → AreDistinct list → first_of (drop k (accounts list)) ≡ Some a
+    → after_account (accounts list) a ≡ first_of (drop (suc k) (accounts list))
 behind [] zero a h is = absurd (nothing is)
 behind [] (suc k) a h is = absurd (nothing is)
-behind (e ∷ es) zero a h is = ap (λ b. cond b (first_of (accounts es)) (after_account (accounts es) a)) (eq-eqb e.1 a (the is))
+behind (e ∷ es) zero a h is = ap (λ b. cond b (first_of (accounts es)) (after_account (accounts es) a))
+    (eq-eqb e.1 a (the is))
 behind (e ∷ es) (suc k) a h is =
-    ap (λ b. cond b (first_of (accounts es)) (after_account (accounts es) a)) (other es k e.1 a h.0 is) ∙ behind es k a h.1 is
+    ap (λ b. cond b (first_of (accounts es)) (after_account (accounts es) a)) (other es k e.1 a h.0 is)
+    ∙ behind es k a h.1 is
 
 -- ---- from the list's end on
 
 -- behind the account at a place is the one at the next place
-pub next_behind : (list : List Ranked) (k a : ℕ) → AreDistinct list → first_of (drop k (from_last list)) ≡ Some a → before_in list a ≡ first_of (drop (k + 1) (from_last list))
+pub next_behind : (list : List Ranked) (k a : ℕ) → AreDistinct list → first_of (drop k (from_last list)) ≡ Some a
+    → before_in list a ≡ first_of (drop (k + 1) (from_last list))
 next_behind list k a h is =
     let more : suc k ≡ k + 1 = omega arith in
-    subst (λ m. before_in list a ≡ first_of (drop m (from_last list))) more (behind (reverse list) k a (distinct_turned list h) is)
+    subst (λ m. before_in list a ≡ first_of (drop m (from_last list))) more (behind (reverse list) k a
+    (distinct_turned list h) is)
 
 -- an account behind some is found in the whole list
-pub in_all : (list : List Ranked) (passed at a : ℕ) (next : Option ℕ) → next ≡ first_of (drop at (drop passed (from_last list))) → next ≡ Some a → first_of (drop (passed + at) (from_last list)) ≡ Some a
+pub in_all : (list : List Ranked) (passed at a : ℕ) (next : Option ℕ)
+    → next ≡ first_of (drop at (drop passed (from_last list))) → next ≡ Some a
+    → first_of (drop (passed + at) (from_last list)) ≡ Some a
 in_all list passed at a next is some = ap first_of (sym (drop-drop at passed (from_last list))) ∙ sym is ∙ some
 
 -- the account at a place is in the list
@@ -74,33 +82,39 @@ pub stands_in : (list : List Ranked) (k a : ℕ) → first_of (drop k (from_last
 stands_in list k a is = by (key_in list a) refl where
   by : (o : Option ℤ) → key_in list a ≡ o → is_some o ≡ true
   by (Some key) e = refl
-  by None e = absurd (both (sym (eq-eqb a a refl) ∙ other (reverse list) k a a (absent_reverse list a (absent_from_key list a e)) is)) where
-    both : true ≡ false → ⊥
-    both t = cc
+  by None e = absurd (both (sym (eq-eqb a a refl)
+      ∙ other (reverse list) k a a (absent_reverse list a (absent_from_key list a e)) is)) where
+        both : true ≡ false → ⊥
+        both t = cc
 
 -- ---- all of them written
 
 -- as many as there are places for
-pub laid_full : (numbers places : List ℕ) (n : ℕ) → n ≡ length places → n ≤ length numbers → paste places 0 numbers n ≡ laid numbers places
+pub laid_full : (numbers places : List ℕ) (n : ℕ) → n ≡ length places → n ≤ length numbers → paste places 0 numbers n
+    ≡ laid numbers places
 laid_full numbers places n all few =
     let here = drop_of_length-le places {i = 0 + n} (omega (arith, all)) in
     let there = drop_of_length-le places {i = length numbers} (omega (arith, all, few)) in
-    ap (λ (l : List ℕ). take n numbers ++ l) (here ∙ sym there) ∙ ap (λ m. take m numbers ++ drop (length numbers) places) all
+    ap (λ (l : List ℕ). take n numbers ++ l) (here ∙ sym there)
+    ∙ ap (λ m. take m numbers ++ drop (length numbers) places) all
 
 -- all that there are
-pub laid_all : (numbers places : List ℕ) (n : ℕ) → n ≡ length numbers → n ≤ length places → paste places 0 numbers n ≡ laid numbers places
+pub laid_all : (numbers places : List ℕ) (n : ℕ) → n ≡ length numbers → n ≤ length places → paste places 0 numbers n
+    ≡ laid numbers places
 laid_all numbers places n all few =
     let whole = take_all n numbers (omega (arith, all)) in
     let same = take_all (length places) numbers (omega (arith, all, few)) in
     let from : 0 + n ≡ length numbers = omega (arith, all) in
-    ap (λ (l : List ℕ). l ++ drop (0 + n) places) (whole ∙ sym same) ∙ ap (λ m. take (length places) numbers ++ drop m places) from
+    ap (λ (l : List ℕ). l ++ drop (0 + n) places) (whole ∙ sym same)
+    ∙ ap (λ m. take (length places) numbers ++ drop m places) from
 
 -- ---- how many they are
 
 one_more : (list : List Ranked) (e : Ranked) → length (with_ranked list e) ≡ suc (length list)
 one_more [] e = refl
 one_more (f ∷ fs) e = by (rank_order e f) (one_more fs e) where
-  by : (o : Ordering) → length (with_ranked fs e) ≡ suc (length fs) → length (match_ordering o (e ∷ f ∷ fs) (e ∷ f ∷ fs) (f ∷ with_ranked fs e)) ≡ suc (suc (length fs))
+  by : (o : Ordering) → length (with_ranked fs e) ≡ suc (length fs)
+      → length (match_ordering o (e ∷ f ∷ fs) (e ∷ f ∷ fs) (f ∷ with_ranked fs e)) ≡ suc (suc (length fs))
   by Less h = refl
   by Equal h = refl
   by Greater h = ap suc h

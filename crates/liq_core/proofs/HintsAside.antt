@@ -7,14 +7,18 @@ use Rattle.liq_rules.specs.Rules.{call_events}
 use Rattle.liq_rules.specs.Step.{after, ruling}
 use Rattle.liq_rules.specs.Verbs.{unhinted_call}
 
-pub ruling_same : (s : State) (client number : ℕ) (call : Call) → ruling s (record { client = client; number = number; call = unhinted_call call }) ≡ ruling s (record { client = client; number = number; call = call })
+pub ruling_same : (s : State) (client number : ℕ) (call : Call)
+    → ruling s (record { client = client; number = number; call = unhinted_call call })
+    ≡ ruling s (record { client = client; number = number; call = call })
 ruling_same s client number (Open account coll borrow bound hint) = refl
 ruling_same s client number (Adjust account coll_in coll_out borrow repay bound hint) = refl
 ruling_same s client number (GainToTrove account hint) = refl
 ruling_same s client number (Redeem account lusd bound hint) = refl
 ruling_same s client number _ = refl
 
-pub after_same : (s : State) (client number : ℕ) (call : Call) → after s (record { client = client; number = number; call = unhinted_call call }) ≡ after s (record { client = client; number = number; call = call })
+pub after_same : (s : State) (client number : ℕ) (call : Call)
+    → after s (record { client = client; number = number; call = unhinted_call call })
+    ≡ after s (record { client = client; number = number; call = call })
 after_same s client number (Open account coll borrow bound hint) = refl
 after_same s client number (Adjust account coll_in coll_out borrow repay bound hint) = refl
 after_same s client number (GainToTrove account hint) = refl

@@ -55,7 +55,8 @@ with_pool i words finished deposits =
     }
 
 -- an image with other parts
-abbrev pub made_of : Image → Table Wallet → Table Trove → Sums → PoolWords → List (Place × ℕ) → Table Deposit → Table ℕ → Table Client → Image
+abbrev pub made_of : Image → Table Wallet → Table Trove → Sums → PoolWords → List (Place × ℕ) → Table Deposit → Table ℕ
+    → Table Client → Image
 made_of i wallets troves sums words finished deposits surplus clients =
     record (with_pool (with_sums i sums) words finished deposits) {
       wallets = wallets;
@@ -65,13 +66,19 @@ made_of i wallets troves sums words finished deposits surplus clients =
     }
 
 -- with its own parts it is itself
-pub made_again : (i : Image) (wallets : Table Wallet) (troves : Table Trove) (sums : Sums) (words : PoolWords) (finished : List (Place × ℕ)) (deposits : Table Deposit) (surplus : Table ℕ) (clients : Table Client) → wallets ≡ i.wallets → troves ≡ i.troves → sums ≡ sums_by i → words ≡ words_by i → finished ≡ i.finished → deposits ≡ i.deposits → surplus ≡ i.surplus_rows → clients ≡ i.clients → made_of i wallets troves sums words finished deposits surplus clients ≡ i
+pub made_again : (i : Image) (wallets : Table Wallet) (troves : Table Trove) (sums : Sums) (words : PoolWords)
+    (finished : List (Place × ℕ)) (deposits : Table Deposit) (surplus : Table ℕ) (clients : Table Client)
+    → wallets ≡ i.wallets → troves ≡ i.troves → sums ≡ sums_by i → words ≡ words_by i → finished ≡ i.finished
+    → deposits ≡ i.deposits → surplus ≡ i.surplus_rows → clients ≡ i.clients
+    → made_of i wallets troves sums words finished deposits surplus clients ≡ i
 made_again i wallets troves sums words finished deposits surplus clients w t u p f d s c =
     ap (λ (ws : Table Wallet). made_of i ws troves sums words finished deposits surplus clients) w
     ∙ ap (λ (ts : Table Trove). made_of i i.wallets ts sums words finished deposits surplus clients) t
     ∙ ap (λ (us : Sums). made_of i i.wallets i.troves us words finished deposits surplus clients) u
     ∙ ap (λ (ps : PoolWords). made_of i i.wallets i.troves (sums_by i) ps finished deposits surplus clients) p
-    ∙ ap (λ (fs : List (Place × ℕ)). made_of i i.wallets i.troves (sums_by i) (words_by i) fs deposits surplus clients) f
+    ∙ ap (λ (fs : List (Place × ℕ)). made_of i i.wallets i.troves (sums_by i) (words_by i) fs deposits surplus
+    clients) f
     ∙ ap (λ (ds : Table Deposit). made_of i i.wallets i.troves (sums_by i) (words_by i) i.finished ds surplus clients) d
     ∙ ap (λ (ss : Table ℕ). made_of i i.wallets i.troves (sums_by i) (words_by i) i.finished i.deposits ss clients) s
-    ∙ ap (λ (cs : Table Client). made_of i i.wallets i.troves (sums_by i) (words_by i) i.finished i.deposits i.surplus_rows cs) c
+    ∙ ap (λ (cs : Table Client). made_of i i.wallets i.troves (sums_by i) (words_by i) i.finished i.deposits
+    i.surplus_rows cs) c

@@ -40,7 +40,8 @@ pub six_values : (shown : List ℕ) → length (six shown) ≡ 6
 six_values shown =
     full 6 (shown ++ replicate 6 0) (let all = length-append shown (replicate 6 0) in omega (arith, all))
 
-pub kept_reply : (s : State) (call : Call) (number : ℕ) → first_refusal (rules s call) ≡ None → 1 ≤ number → IsKeptRow (record { last = number; kept = done_of s call })
+pub kept_reply : (s : State) (call : Call) (number : ℕ) → first_refusal (rules s call) ≡ None → 1 ≤ number
+    → IsKeptRow (record { last = number; kept = done_of s call })
 kept_reply s call number h some =
     record {
       form = record { last = some; kind = kind_range call; values = six_values (values s call) };

@@ -63,17 +63,21 @@ with_books i b =
     }
 
 -- a trove that leaves, and one that comes, touch the books alone
-lifted_entry_image : (s : State) (account : ℕ) (o : Option TroveEntry) → image (lifted_entry s account o) ≡ with_books (image s) (books_of (lifted_entry s account o))
+lifted_entry_image : (s : State) (account : ℕ) (o : Option TroveEntry) → image (lifted_entry s account o)
+    ≡ with_books (image s) (books_of (lifted_entry s account o))
 lifted_entry_image s account None = refl
 lifted_entry_image s account (Some t) = refl
 
 lifted_image : (s : State) (account : ℕ) → image (lifted s account) ≡ with_books (image s) (lift (books_of s) account)
-lifted_image s account = lifted_entry_image s account (at s.troves account) ∙ ap (with_books (image s)) (lift_books s account)
+lifted_image s account = lifted_entry_image s account (at s.troves account)
+    ∙ ap (with_books (image s)) (lift_books s account)
 
-placed_image : (s : State) (account coll debt : ℕ) → image (placed s account coll debt) ≡ with_books (image s) (place (books_of s) account coll debt)
+placed_image : (s : State) (account coll debt : ℕ) → image (placed s account coll debt)
+    ≡ with_books (image s) (place (books_of s) account coll debt)
 placed_image s account coll debt = ap (with_books (image s)) (place_books s account coll debt)
 
-pub set_image : (s : State) (account coll debt : ℕ) → image (set_trove s account coll debt) ≡ with_books (image s) (place (lift (books_of s) account) account coll debt)
+pub set_image : (s : State) (account coll debt : ℕ) → image (set_trove s account coll debt)
+    ≡ with_books (image s) (place (lift (books_of s) account) account coll debt)
 set_image s account coll debt =
     let left = lifted s account in
     placed_image left account coll debt
@@ -83,9 +87,19 @@ set_image s account coll debt =
 -- an image with another rate, other pools and wallets beside other books
 abbrev pub with_parts : Image → Rate → ℕ → ℕ → ℕ → ℕ → Table Wallet → Books → Image
 with_parts i rate reserve surplus fee_coll fee_lusd wallets b =
-    with_books (record i { base = rate.base; fee_minute = rate.minute; reserve = reserve; surplus = surplus; fee_coll = fee_coll; fee_lusd = fee_lusd; wallets = wallets }) b
+    with_books (record i {
+      base = rate.base;
+      fee_minute = rate.minute;
+      reserve = reserve;
+      surplus = surplus;
+      fee_coll = fee_coll;
+      fee_lusd = fee_lusd;
+      wallets = wallets;
+    }) b
 
-pub same_others : (i : Image) (rate : Rate) (old new : Pools) (wallets : Table Wallet) (b : Books) → SameOthers old new → with_parts i rate new.reserve new.surplus new.fee_coll new.fee_lusd wallets b ≡ with_parts i rate old.reserve old.surplus old.fee_coll old.fee_lusd wallets b
+pub same_others : (i : Image) (rate : Rate) (old new : Pools) (wallets : Table Wallet) (b : Books) → SameOthers old new
+    → with_parts i rate new.reserve new.surplus new.fee_coll new.fee_lusd wallets b
+    ≡ with_parts i rate old.reserve old.surplus old.fee_coll old.fee_lusd wallets b
 same_others i rate old new wallets b h =
     ap (λ n. with_parts i rate n new.surplus new.fee_coll new.fee_lusd wallets b) h.reserve
     ∙ ap (λ n. with_parts i rate old.reserve n new.fee_coll new.fee_lusd wallets b) h.surplus
@@ -94,9 +108,15 @@ same_others i rate old new wallets b h =
 
 -- ---- what may be paid
 
-pub pay_within : (t : State) → Finds t → (wallets : Table Wallet) (account coll lusd : ℕ) → Ascends wallets → t.wallets ≡ credited_in wallets account coll lusd → ((wallet_in wallets account).coll + coll ≤ LIM) × ((wallet_in wallets account).lusd + lusd ≤ LIM)
+pub pay_within : (t : State) → Finds t → (wallets : Table Wallet) (account coll lusd : ℕ) → Ascends wallets
+    → t.wallets ≡ credited_in wallets account coll lusd → ((wallet_in wallets account).coll + coll ≤ LIM)
+    × ((wallet_in wallets account).lusd + lusd ≤ LIM)
 pay_within t f wallets account coll lusd ascend is =
-    let w : Wallet = record { coll = (wallet_in wallets account).coll + coll; lusd = (wallet_in wallets account).lusd + lusd } in
+    let w : Wallet = record {
+      coll = (wallet_in wallets account).coll + coll;
+      lusd = (wallet_in wallets account).lusd
+          + lusd;
+    } in
     let here = ap (λ (table : Table Wallet). wallet_in table account) is ∙ wallet_here wallets account w ascend in
     let colls = sum_by-remove_entry (λ (x : Wallet). x.coll) (is_at (nat_cmp account)) t.wallets in
     let lusds = sum_by-remove_entry (λ (x : Wallet). x.lusd) (is_at (nat_cmp account)) t.wallets in
@@ -109,8 +129,13 @@ pay_within t f wallets account coll lusd ascend is =
       omega (arith, lusds, had_lusd, lusd_is, homes.lusd, f.balanced.debt_limit),
     )
 
-pub charged-ascends : (wallets : Table Wallet) (account coll lusd : ℕ) → Ascends wallets → Ascends (charged_in wallets account coll lusd)
-charged-ascends wallets account coll lusd h = wallet-ascends wallets account (record { coll = (wallet_in wallets account).coll - coll; lusd = (wallet_in wallets account).lusd - lusd }) h
+pub charged-ascends : (wallets : Table Wallet) (account coll lusd : ℕ) → Ascends wallets
+    → Ascends (charged_in wallets account coll lusd)
+charged-ascends wallets account coll lusd h =
+    wallet-ascends wallets account (record {
+      coll = (wallet_in wallets account).coll - coll;
+      lusd = (wallet_in wallets account).lusd - lusd;
+    }) h
 
 -- ---- the books of a protocol
 
@@ -133,18 +158,28 @@ module _ (p : Inside) (sound : IsSound p) where
   rows_are = ap (λ (i : Image). i.troves) (image_back (core_of p) sound.image)
 
   -- a protocol with a state's image is changed into it
-  changed_into : (call : Call) (rate : Rate) (wallets : WithRoom Wallet) (pools old_pools : Pools) (troves : Kept) (order : Listed) (b : Books) (paid : Table Wallet)
+  changed_into : (call : Call) (rate : Rate) (wallets : WithRoom Wallet) (pools old_pools : Pools) (troves : Kept)
+      (order : Listed) (b : Books) (paid : Table Wallet)
       → wallets.rows ≡ paid → books_kept troves pools ≡ b → SameOthers old_pools pools
-      → image (effect (state_of (core_of p)) call) ≡ with_parts (image (state_of (core_of p))) rate old_pools.reserve old_pools.surplus old_pools.fee_coll old_pools.fee_lusd paid b
-      → Changes (core_of p) call (core_of (record p { rate = rate; wallets = wallets; pools = pools; troves = troves; order = order }))
+      → image (effect (state_of (core_of p)) call) ≡ with_parts (image (state_of (core_of p))) rate old_pools.reserve
+      old_pools.surplus old_pools.fee_coll old_pools.fee_lusd paid b
+      → Changes (core_of p) call (core_of (record p {
+        rate = rate;
+        wallets = wallets;
+        pools = pools;
+        troves = troves;
+        order = order;
+      }))
   changed_into call rate wallets pools old_pools troves order b paid paid_is kept others is =
       let i = (core_of p).image in
       record {
         image =
             same_others i rate old_pools pools wallets.rows (books_kept troves pools) others
-            ∙ ap (λ (t : Table Wallet). with_parts i rate old_pools.reserve old_pools.surplus old_pools.fee_coll old_pools.fee_lusd t (books_kept troves pools)) paid_is
+            ∙ ap (λ (t : Table Wallet). with_parts i rate old_pools.reserve old_pools.surplus old_pools.fee_coll
+            old_pools.fee_lusd t (books_kept troves pools)) paid_is
             ∙ ap (with_parts i rate old_pools.reserve old_pools.surplus old_pools.fee_coll old_pools.fee_lusd paid) kept
-            ∙ ap (λ (x : Image). with_parts x rate old_pools.reserve old_pools.surplus old_pools.fee_coll old_pools.fee_lusd paid b) (sym (image_back (core_of p) sound.image))
+            ∙ ap (λ (x : Image). with_parts x rate old_pools.reserve old_pools.surplus old_pools.fee_coll
+            old_pools.fee_lusd paid b) (sym (image_back (core_of p) sound.image))
             ∙ sym is;
         records = refl;
         clients = refl;
@@ -165,15 +200,21 @@ pub record MayOpen (p : Inside) (account borrow : ℕ) (plan : Plan) : Type 0 wh
   pub active_coll : p.pools.active_coll + plan.coll ≤ LIM
   pub active_debt : p.pools.active_debt + plan.debt ≤ LIM
 
-module _ (p : Inside) (sound : IsSound p) (account borrow bound : ℕ) (words : HintWords) (plan : Plan) (k : account < ACCOUNTS) (is : plan ≡ opening_terms (market_of (state_of (core_of p))) plan.coll borrow) (h : first_refusal (rules (state_of (core_of p)) (Open account plan.coll borrow bound words)) ≡ None) where
-  open_effect : effect (state_of (core_of p)) (Open account plan.coll borrow bound words) ≡ opened (state_of (core_of p)) account borrow plan
+module _ (p : Inside) (sound : IsSound p) (account borrow bound : ℕ) (words : HintWords) (plan : Plan) (k : account
+    < ACCOUNTS) (is : plan ≡ opening_terms (market_of (state_of (core_of p))) plan.coll borrow) (h :
+    first_refusal (rules (state_of (core_of p)) (Open account plan.coll borrow bound words)) ≡ None) where
+  open_effect : effect (state_of (core_of p)) (Open account plan.coll borrow bound words)
+      ≡ opened (state_of (core_of p)) account borrow plan
   open_effect = ap (opened (state_of (core_of p)) account borrow) (sym is)
 
-  open_left : Leaves 0 (state_of (core_of p)) (effect (state_of (core_of p)) (Open account plan.coll borrow bound words))
-  open_left = open_leaves (state_of (core_of p)) (core_finds (core_of p) sound.image) account plan.coll borrow bound words k h
+  open_left : Leaves 0 (state_of (core_of p)) (effect (state_of (core_of p))
+      (Open account plan.coll borrow bound words))
+  open_left = open_leaves (state_of (core_of p)) (core_finds (core_of p) sound.image) account plan.coll borrow bound
+      words k h
 
   open_finds : Finds (opened (state_of (core_of p)) account borrow plan)
-  open_finds = subst Finds open_effect (finds_after (state_of (core_of p)) (effect (state_of (core_of p)) (Open account plan.coll borrow bound words)) open_left)
+  open_finds = subst Finds open_effect (finds_after (state_of (core_of p)) (effect (state_of (core_of p))
+      (Open account plan.coll borrow bound words)) open_left)
 
   may_open : MayOpen p account borrow plan
   may_open =
@@ -181,7 +222,8 @@ module _ (p : Inside) (sound : IsSound p) (account borrow bound : ℕ) (words : 
       let f = core_finds (core_of p) sound.image in
       let a = open_allows s account plan.coll borrow bound h in
       let n = open_finds in
-      let paid = pay_within (opened s account borrow plan) n (charged_in p.wallets.rows account plan.coll 0) account 0 borrow (charged-ascends p.wallets.rows account plan.coll 0 f.stands.wallets.ascend) refl in
+      let paid = pay_within (opened s account borrow plan) n (charged_in p.wallets.rows account plan.coll 0) account 0
+      borrow (charged-ascends p.wallets.rows account plan.coll 0 f.stands.wallets.ascend) refl in
       let coll_homes = n.balanced.homes.coll in
       let lusd_homes = n.balanced.homes.lusd in
       let coll_limit = n.balanced.coll_limit in
@@ -192,7 +234,8 @@ module _ (p : Inside) (sound : IsSound p) (account borrow bound : ℕ) (words : 
         lusd_limit = paid.1;
         fee = omega (arith, lusd_homes, debt_limit);
         reserve = omega (arith, lusd_homes, debt_limit);
-        absent = ap (λ (t : Table Trove). at t account) (sym (rows_are p sound)) ∙ at-map (trove_row s) s.troves account ∙ ap (option_map (trove_row s)) a.absent;
+        absent = ap (λ (t : Table Trove). at t account) (sym (rows_are p sound)) ∙ at-map (trove_row s) s.troves account
+            ∙ ap (option_map (trove_row s)) a.absent;
         some = a.some;
         least = subst (λ (x : Plan). RESERVE + MIN_NET ≤ x.debt) (sym is) a.least;
         active_coll = omega (arith, coll_homes, coll_limit);
@@ -202,23 +245,41 @@ module _ (p : Inside) (sound : IsSound p) (account borrow bound : ℕ) (words : 
   opened_changes : (wallets : WithRoom Wallet) (pools : Pools) (troves : Kept) (order : Listed)
       → wallets.rows ≡ credited_in (charged_in p.wallets.rows account plan.coll 0) account 0 borrow
       → books_kept troves pools ≡ place (books_kept p.troves p.pools) account plan.coll plan.debt
-      → SameOthers (record p.pools { fee_lusd = p.pools.fee_lusd + plan.fee; reserve = p.pools.reserve + RESERVE }) pools
-      → Changes (core_of p) (Open account plan.coll borrow bound words) (core_of (record p { rate = plan.rate; wallets = wallets; pools = pools; troves = troves; order = order }))
+      → SameOthers (record p.pools {
+        fee_lusd = p.pools.fee_lusd + plan.fee;
+        reserve = p.pools.reserve
+            + RESERVE;
+      }) pools
+      → Changes (core_of p) (Open account plan.coll borrow bound words) (core_of (record p {
+        rate = plan.rate;
+        wallets = wallets;
+        pools = pools;
+        troves = troves;
+        order = order;
+      }))
   opened_changes wallets pools troves order paid kept others =
       let s = state_of (core_of p) in
       let lent = credited (charged (with_fee s plan) account plan.coll 0) account 0 borrow in
       let made = placed_image (record lent { reserve = lent.reserve + RESERVE }) account plan.coll plan.debt in
-      changed_into p sound (Open account plan.coll borrow bound words) plan.rate wallets pools (record p.pools { fee_lusd = p.pools.fee_lusd + plan.fee; reserve = p.pools.reserve + RESERVE }) troves order
-      (place (books_kept p.troves p.pools) account plan.coll plan.debt) (credited_in (charged_in p.wallets.rows account plan.coll 0) account 0 borrow) paid kept others
-      (ap image open_effect ∙ made ∙ ap (λ (b : Books). with_books (image (record lent { reserve = lent.reserve + RESERVE })) (place b account plan.coll plan.debt)) (books_are p sound))
+      changed_into p sound (Open account plan.coll borrow bound words) plan.rate wallets pools
+      (record p.pools { fee_lusd = p.pools.fee_lusd + plan.fee; reserve = p.pools.reserve + RESERVE }) troves order
+      (place (books_kept p.troves p.pools) account plan.coll plan.debt)
+      (credited_in (charged_in p.wallets.rows account plan.coll 0) account 0 borrow) paid kept others
+      (ap image open_effect ∙ made
+      ∙ ap (λ (b : Books). with_books (image (record lent { reserve = lent.reserve + RESERVE }))
+      (place b account plan.coll plan.debt)) (books_are p sound))
 
 -- the same of the core that a protocol is seen as
-module _ (p : Inside) (old : Core) (view : core_of p ≡ old) (sound : IsSound p) (account borrow : ℕ) (plan : Plan) (k : account < ACCOUNTS) (is : plan ≡ opening_terms (market_of (state_of old)) plan.coll borrow) (h : (bound : ℕ) × (words : HintWords) × (first_refusal (rules (state_of old) (Open account plan.coll borrow bound words)) ≡ None)) where
+module _ (p : Inside) (old : Core) (view : core_of p ≡ old) (sound : IsSound p) (account borrow : ℕ) (plan : Plan)
+    (k : account < ACCOUNTS) (is : plan ≡ opening_terms (market_of (state_of old)) plan.coll borrow) (h : (bound : ℕ)
+    × (words : HintWords) × (first_refusal (rules (state_of old) (Open account plan.coll borrow bound words))
+    ≡ None)) where
   open_is : plan ≡ opening_terms (market_of (state_of (core_of p))) plan.coll borrow
   open_is = subst (λ (core : Core). plan ≡ opening_terms (market_of (state_of core)) plan.coll borrow) (sym view) is
 
   open_passes : first_refusal (rules (state_of (core_of p)) (Open account plan.coll borrow h.0 h.1)) ≡ None
-  open_passes = subst (λ (core : Core). first_refusal (rules (state_of core) (Open account plan.coll borrow h.0 h.1)) ≡ None) (sym view) h.2
+  open_passes = subst (λ (core : Core). first_refusal (rules (state_of core) (Open account plan.coll borrow h.0 h.1))
+      ≡ None) (sym view) h.2
 
   pub opens_so : MayOpen p account borrow plan
   opens_so = may_open p sound account borrow h.0 h.1 plan k open_is open_passes
@@ -226,28 +287,53 @@ module _ (p : Inside) (old : Core) (view : core_of p ≡ old) (sound : IsSound p
   module _ (wallets : WithRoom Wallet) (pools : Pools) (troves : Kept) (order : Listed)
       (paid : wallets.rows ≡ credited_in (charged_in p.wallets.rows account plan.coll 0) account 0 borrow)
       (kept : books_kept troves pools ≡ place (books_kept p.troves p.pools) account plan.coll plan.debt)
-      (others : SameOthers (record p.pools { fee_lusd = p.pools.fee_lusd + plan.fee; reserve = p.pools.reserve + RESERVE }) pools) where
-    pub open_changes : (bound : ℕ) (words : HintWords) → Changes old (Open account plan.coll borrow bound words) (core_of (record p { rate = plan.rate; wallets = wallets; pools = pools; troves = troves; order = order }))
+      (others : SameOthers (record p.pools {
+        fee_lusd = p.pools.fee_lusd + plan.fee;
+        reserve = p.pools.reserve
+            + RESERVE;
+      }) pools) where
+    pub open_changes : (bound : ℕ) (words : HintWords)
+        → Changes old (Open account plan.coll borrow bound words) (core_of (record p {
+          rate = plan.rate;
+          wallets = wallets;
+          pools = pools;
+          troves = troves;
+          order = order;
+        }))
     open_changes bound words =
-        subst (λ (core : Core). Changes core (Open account plan.coll borrow bound words) (core_of (record p { rate = plan.rate; wallets = wallets; pools = pools; troves = troves; order = order }))) view
-        (let made = opened_changes p sound account borrow h.0 h.1 plan k open_is open_passes wallets pools troves order paid kept others in
+        subst (λ (core : Core). Changes core (Open account plan.coll borrow bound words)
+        (core_of (record p {
+          rate = plan.rate;
+          wallets = wallets;
+          pools = pools;
+          troves = troves;
+          order = order;
+        }))) view
+        (let made = opened_changes p sound account borrow h.0 h.1 plan k open_is open_passes wallets pools troves order
+        paid kept others in
         record { image = made.image; records = made.records; clients = made.clients })
 
-    pub open_sound : order.entries ≡ order_by troves.table.rows → IsSound (record p { rate = plan.rate; wallets = wallets; pools = pools; troves = troves; order = order })
+    pub open_sound : order.entries ≡ order_by troves.table.rows
+        → IsSound (record p { rate = plan.rate; wallets = wallets; pools = pools; troves = troves; order = order })
     open_sound listed =
-        sound_after p (record p { rate = plan.rate; wallets = wallets; pools = pools; troves = troves; order = order }) (core_of p) (Open account plan.coll borrow h.0 h.1) refl sound
+        sound_after p (record p { rate = plan.rate; wallets = wallets; pools = pools; troves = troves; order = order })
+        (core_of p) (Open account plan.coll borrow h.0 h.1) refl sound
         (open_left p sound account borrow h.0 h.1 plan k open_is open_passes)
-        (opened_changes p sound account borrow h.0 h.1 plan k open_is open_passes wallets pools troves order paid kept others) listed
+        (opened_changes p sound account borrow h.0 h.1 plan k open_is open_passes wallets pools troves order paid kept
+        others) listed
 
 -- ---- adjust
 
 -- a trove that is there
-pub there_row : (s : State) → Finds s → (account : ℕ) → entire_of s account ≡ Some (or_nothing (entire_of s account)) → IsSome (at (trove_rows s) account)
+pub there_row : (s : State) → Finds s → (account : ℕ) → entire_of s account ≡ Some (or_nothing (entire_of s account))
+    → IsSome (at (trove_rows s) account)
 there_row s f account e =
     let has = has_trove s account (or_nothing (entire_of s account)) f.stands e in
-    subst (λ (o : Option Trove). IsSome o) (sym (at-map (trove_row s) s.troves account ∙ ap (option_map (trove_row s)) has.there)) refl
+    subst (λ (o : Option Trove). IsSome o) (sym (at-map (trove_row s) s.troves account
+    ∙ ap (option_map (trove_row s)) has.there)) refl
 
-pub no_longer_there : (b : Books) (account : ℕ) (o : Option Trove) → at b.troves account ≡ o → Ascends b.troves → at (lifted_row b account o).troves account ≡ None
+pub no_longer_there : (b : Books) (account : ℕ) (o : Option Trove) → at b.troves account ≡ o → Ascends b.troves
+    → at (lifted_row b account o).troves account ≡ None
 no_longer_there b account None e a = e
 no_longer_there b account (Some t) e a = at-without_same b.troves account a
 
@@ -255,8 +341,10 @@ no_longer_there b account (Some t) e a = at-without_same b.troves account a
 pub record MayAdjust (p : Inside) (account : ℕ) (change : Change) (plan : Plan) : Type 0 where
   pub coll : change.coll_in ≤ (wallet_in p.wallets.rows account).coll
   pub lusd : change.repay ≤ (wallet_in p.wallets.rows account).lusd
-  pub coll_limit : (wallet_in (charged_in p.wallets.rows account change.coll_in change.repay) account).coll + change.coll_out ≤ LIM
-  pub lusd_limit : (wallet_in (charged_in p.wallets.rows account change.coll_in change.repay) account).lusd + change.borrow ≤ LIM
+  pub coll_limit : (wallet_in (charged_in p.wallets.rows account change.coll_in change.repay) account).coll
+      + change.coll_out ≤ LIM
+  pub lusd_limit : (wallet_in (charged_in p.wallets.rows account change.coll_in change.repay) account).lusd
+      + change.borrow ≤ LIM
   pub fee : p.pools.fee_lusd + plan.fee ≤ LIM
   pub there : IsSome (at p.troves.table.rows account)
   pub some : 1 ≤ plan.coll
@@ -273,21 +361,38 @@ pub record IsWithin (i : Image) : Type 0 where
 
 pub within : (t : State) → Finds t → IsWithin (image t)
 within t f =
-    record { coll = f.balanced.homes.coll; lusd = f.balanced.homes.lusd; coll_limit = f.balanced.coll_limit; debt_limit = f.balanced.debt_limit }
+    record {
+      coll = f.balanced.homes.coll;
+      lusd = f.balanced.homes.lusd;
+      coll_limit = f.balanced.coll_limit;
+      debt_limit = f.balanced.debt_limit;
+    }
 
-module _ (p : Inside) (sound : IsSound p) (account : ℕ) (change : Change) (bound : ℕ) (plan : Plan) (k : account < ACCOUNTS) (is : plan ≡ adjusting_terms (market_of (state_of (core_of p))) (or_nothing (entire_of (state_of (core_of p)) account)) change) (h : first_refusal (adjust_rules (market_of (state_of (core_of p))) (wallet_of (state_of (core_of p)) account) (entire_of (state_of (core_of p)) account) account change bound) ≡ None) where
-  adjust_left : Leaves 0 (state_of (core_of p)) (adjusted (state_of (core_of p)) account change (adjusting_terms (market_of (state_of (core_of p))) (or_nothing (entire_of (state_of (core_of p)) account)) change))
+module _ (p : Inside) (sound : IsSound p) (account : ℕ) (change : Change) (bound : ℕ) (plan : Plan) (k : account
+    < ACCOUNTS) (is : plan ≡ adjusting_terms (market_of (state_of (core_of p)))
+    (or_nothing (entire_of (state_of (core_of p)) account)) change) (h :
+    first_refusal (adjust_rules (market_of (state_of (core_of p))) (wallet_of (state_of (core_of p)) account)
+    (entire_of (state_of (core_of p)) account) account change bound) ≡ None) where
+  adjust_left : Leaves 0 (state_of (core_of p)) (adjusted (state_of (core_of p)) account change
+      (adjusting_terms (market_of (state_of (core_of p))) (or_nothing (entire_of (state_of (core_of p)) account))
+      change))
   adjust_left = adjust_leaves (state_of (core_of p)) (core_finds (core_of p) sound.image) account bound change k h
 
   adjust_finds : Finds (adjusted (state_of (core_of p)) account change plan)
   adjust_finds =
-      subst (λ (x : Plan). Finds (adjusted (state_of (core_of p)) account change x)) (sym is) (finds_after (state_of (core_of p)) _ adjust_left)
+      subst (λ (x : Plan). Finds (adjusted (state_of (core_of p)) account change x)) (sym is)
+      (finds_after (state_of (core_of p)) _ adjust_left)
 
-  adjust_image : image (adjusted (state_of (core_of p)) account change plan) ≡ with_books (image (credited (charged (with_fee (state_of (core_of p)) plan) account change.coll_in change.repay) account change.coll_out change.borrow)) (place (lift (books_kept p.troves p.pools) account) account plan.coll plan.debt)
+  adjust_image : image (adjusted (state_of (core_of p)) account change plan)
+      ≡ with_books (image (credited (charged (with_fee (state_of (core_of p)) plan) account change.coll_in change.repay)
+      account change.coll_out change.borrow)) (place (lift (books_kept p.troves p.pools) account) account plan.coll
+      plan.debt)
   adjust_image =
-      let paid = credited (charged (with_fee (state_of (core_of p)) plan) account change.coll_in change.repay) account change.coll_out change.borrow in
+      let paid = credited (charged (with_fee (state_of (core_of p)) plan) account change.coll_in change.repay) account
+      change.coll_out change.borrow in
       set_image paid account plan.coll plan.debt
-      ∙ ap (λ (b : Books). with_books (image paid) (place (lift b account) account plan.coll plan.debt)) (books_are p sound)
+      ∙ ap (λ (b : Books). with_books (image paid) (place (lift b account) account plan.coll plan.debt))
+      (books_are p sound)
 
   may_adjust : MayAdjust p account change plan
   may_adjust =
@@ -295,9 +400,13 @@ module _ (p : Inside) (sound : IsSound p) (account : ℕ) (change : Change) (bou
       let f = core_finds (core_of p) sound.image in
       let own = or_nothing (entire_of s account) in
       let a = adjust_allows_own s f account bound change h in
-      let there = told (entire_of s account) (change_passes (market_of s) (wallet_of s account) (entire_of s account) change account bound h).there in
+      let there = told (entire_of s account) (change_passes (market_of s) (wallet_of s account) (entire_of s account)
+      change account bound h).there in
       let w = subst IsWithin adjust_image (within (adjusted s account change plan) adjust_finds) in
-      let paid = pay_within (adjusted s account change plan) adjust_finds (charged_in p.wallets.rows account change.coll_in change.repay) account change.coll_out change.borrow (charged-ascends p.wallets.rows account change.coll_in change.repay f.stands.wallets.ascend) (ap (λ (i : Image). i.wallets) adjust_image) in
+      let paid = pay_within (adjusted s account change plan) adjust_finds
+      (charged_in p.wallets.rows account change.coll_in change.repay) account change.coll_out change.borrow
+      (charged-ascends p.wallets.rows account change.coll_in change.repay f.stands.wallets.ascend)
+      (ap (λ (i : Image). i.wallets) adjust_image) in
       record {
         coll = a.coll_in;
         lusd = a.repay;
@@ -312,14 +421,19 @@ module _ (p : Inside) (sound : IsSound p) (account : ℕ) (change : Change) (bou
       }
 
   adjusted_changes : (wallets : WithRoom Wallet) (pools : Pools) (troves : Kept) (order : Listed) (words : HintWords)
-      → wallets.rows ≡ credited_in (charged_in p.wallets.rows account change.coll_in change.repay) account change.coll_out change.borrow
+      → wallets.rows ≡ credited_in (charged_in p.wallets.rows account change.coll_in change.repay) account
+      change.coll_out change.borrow
       → books_kept troves pools ≡ place (lift (books_kept p.troves p.pools) account) account plan.coll plan.debt
       → SameOthers (record p.pools { fee_lusd = p.pools.fee_lusd + plan.fee }) pools
-      → Changes (core_of p) (Adjust account change.coll_in change.coll_out change.borrow change.repay bound words) (core_of (record p { rate = plan.rate; wallets = wallets; pools = pools; troves = troves; order = order }))
+      → Changes (core_of p) (Adjust account change.coll_in change.coll_out change.borrow change.repay bound words)
+      (core_of (record p { rate = plan.rate; wallets = wallets; pools = pools; troves = troves; order = order }))
   adjusted_changes wallets pools troves order words paid kept others =
       let s = state_of (core_of p) in
-      changed_into p sound (Adjust account change.coll_in change.coll_out change.borrow change.repay bound words) plan.rate wallets pools (record p.pools { fee_lusd = p.pools.fee_lusd + plan.fee }) troves order
-      (place (lift (books_kept p.troves p.pools) account) account plan.coll plan.debt) (credited_in (charged_in p.wallets.rows account change.coll_in change.repay) account change.coll_out change.borrow) paid kept others
+      changed_into p sound (Adjust account change.coll_in change.coll_out change.borrow change.repay bound words)
+      plan.rate wallets pools (record p.pools { fee_lusd = p.pools.fee_lusd + plan.fee }) troves order
+      (place (lift (books_kept p.troves p.pools) account) account plan.coll plan.debt)
+      (credited_in (charged_in p.wallets.rows account change.coll_in change.repay) account change.coll_out
+      change.borrow) paid kept others
       (ap (λ (x : Plan). image (adjusted s account change x)) (sym is) ∙ adjust_image)
 
 -- ---- close
@@ -332,7 +446,10 @@ pub record MayClose (p : Inside) (account repaid coll : ℕ) : Type 0 where
   pub reserve : RESERVE ≤ p.pools.reserve
   pub there : IsSome (at p.troves.table.rows account)
 
-module _ (p : Inside) (sound : IsSound p) (account repaid coll : ℕ) (k : account < ACCOUNTS) (is : (repaid, coll) ≡ closing_terms (or_nothing (entire_of (state_of (core_of p)) account))) (h : first_refusal (close_rules (market_of (state_of (core_of p))) (wallet_of (state_of (core_of p)) account) (entire_of (state_of (core_of p)) account) account) ≡ None) where
+module _ (p : Inside) (sound : IsSound p) (account repaid coll : ℕ) (k : account < ACCOUNTS) (is : (repaid, coll)
+    ≡ closing_terms (or_nothing (entire_of (state_of (core_of p)) account))) (h :
+    first_refusal (close_rules (market_of (state_of (core_of p))) (wallet_of (state_of (core_of p)) account)
+    (entire_of (state_of (core_of p)) account) account) ≡ None) where
   close_effect : effect (state_of (core_of p)) (Close account) ≡ closed (state_of (core_of p)) account repaid coll
   close_effect = ap (λ (t : ℕ × ℕ). closed (state_of (core_of p)) account t.0 t.1) (sym is)
 
@@ -340,11 +457,18 @@ module _ (p : Inside) (sound : IsSound p) (account repaid coll : ℕ) (k : accou
   close_left = close_leaves (state_of (core_of p)) (core_finds (core_of p) sound.image) account k h
 
   close_finds : Finds (closed (state_of (core_of p)) account repaid coll)
-  close_finds = subst Finds close_effect (finds_after (state_of (core_of p)) (effect (state_of (core_of p)) (Close account)) close_left)
+  close_finds = subst Finds close_effect (finds_after (state_of (core_of p)) (effect (state_of (core_of p))
+      (Close account)) close_left)
 
-  close_image : image (closed (state_of (core_of p)) account repaid coll) ≡ with_books (image (record (credited (charged (state_of (core_of p)) account 0 repaid) account coll 0) { reserve = p.pools.reserve - RESERVE })) (lift (books_kept p.troves p.pools) account)
+  close_image : image (closed (state_of (core_of p)) account repaid coll)
+      ≡ with_books (image (record (credited (charged (state_of (core_of p)) account 0 repaid) account coll 0) {
+        reserve = p.pools.reserve - RESERVE;
+      })) (lift (books_kept p.troves p.pools) account)
   close_image =
-      let settled = record (credited (charged (state_of (core_of p)) account 0 repaid) account coll 0) { reserve = p.pools.reserve - RESERVE } in
+      let settled = record (credited (charged (state_of (core_of p)) account 0 repaid) account coll 0) {
+        reserve =
+            p.pools.reserve - RESERVE;
+      } in
       lifted_image settled account ∙ ap (λ (b : Books). with_books (image settled) (lift b account)) (books_are p sound)
 
   may_close : MayClose p account repaid coll
@@ -358,7 +482,9 @@ module _ (p : Inside) (sound : IsSound p) (account repaid coll : ℕ) (k : accou
       let repaid_is = ap (λ (t : ℕ × ℕ). t.0) is in
       let has = has_trove s account own f.stands there in
       let rows = length-without s.troves account has.entry has.there in
-      let paid = pay_within (closed s account repaid coll) close_finds (charged_in p.wallets.rows account 0 repaid) account coll 0 (charged-ascends p.wallets.rows account 0 repaid f.stands.wallets.ascend) (ap (λ (i : Image). i.wallets) close_image) in
+      let paid = pay_within (closed s account repaid coll) close_finds (charged_in p.wallets.rows account 0 repaid)
+      account coll 0 (charged-ascends p.wallets.rows account 0 repaid f.stands.wallets.ascend)
+      (ap (λ (i : Image). i.wallets) close_image) in
       record {
         lusd = omega (arith, enough, repaid_is);
         coll_limit = paid.0;
@@ -371,48 +497,87 @@ module _ (p : Inside) (sound : IsSound p) (account repaid coll : ℕ) (k : accou
       → wallets.rows ≡ credited_in (charged_in p.wallets.rows account 0 repaid) account coll 0
       → books_kept troves pools ≡ lift (books_kept p.troves p.pools) account
       → SameOthers (record p.pools { reserve = p.pools.reserve - RESERVE }) pools
-      → Changes (core_of p) (Close account) (core_of (record p { wallets = wallets; pools = pools; troves = troves; order = order }))
+      → Changes (core_of p) (Close account) (core_of (record p {
+        wallets = wallets;
+        pools = pools;
+        troves = troves;
+        order = order;
+      }))
   closed_changes wallets pools troves order paid kept others =
-      changed_into p sound (Close account) p.rate wallets pools (record p.pools { reserve = p.pools.reserve - RESERVE }) troves order
-      (lift (books_kept p.troves p.pools) account) (credited_in (charged_in p.wallets.rows account 0 repaid) account coll 0) paid kept others
+      changed_into p sound (Close account) p.rate wallets pools (record p.pools { reserve = p.pools.reserve - RESERVE })
+      troves order
+      (lift (books_kept p.troves p.pools) account) (credited_in (charged_in p.wallets.rows account 0 repaid) account
+      coll 0) paid kept others
       (ap image close_effect ∙ close_image)
 
 -- ---- adjusting and closing, of the core that a protocol is seen as
 
-module _ (p : Inside) (old : Core) (view : core_of p ≡ old) (sound : IsSound p) (account : ℕ) (k : account < ACCOUNTS) where
-  module _ (change : Change) (plan : Plan) (is : plan ≡ adjusting_terms (market_of (state_of old)) (or_nothing (entire_of (state_of old) account)) change) (h : (bound : ℕ) × (words : HintWords) × (first_refusal (rules (state_of old) (Adjust account change.coll_in change.coll_out change.borrow change.repay bound words)) ≡ None)) where
-    adjust_is : plan ≡ adjusting_terms (market_of (state_of (core_of p))) (or_nothing (entire_of (state_of (core_of p)) account)) change
-    adjust_is = subst (λ (core : Core). plan ≡ adjusting_terms (market_of (state_of core)) (or_nothing (entire_of (state_of core) account)) change) (sym view) is
+module _ (p : Inside) (old : Core) (view : core_of p ≡ old) (sound : IsSound p) (account : ℕ) (k : account
+    < ACCOUNTS) where
+  module _ (change : Change) (plan : Plan) (is : plan ≡ adjusting_terms (market_of (state_of old))
+      (or_nothing (entire_of (state_of old) account)) change) (h : (bound : ℕ) × (words : HintWords)
+      × (first_refusal (rules (state_of old) (Adjust account change.coll_in change.coll_out change.borrow change.repay
+      bound words)) ≡ None)) where
+    adjust_is : plan ≡ adjusting_terms (market_of (state_of (core_of p)))
+        (or_nothing (entire_of (state_of (core_of p)) account)) change
+    adjust_is = subst (λ (core : Core). plan ≡ adjusting_terms (market_of (state_of core))
+        (or_nothing (entire_of (state_of core) account)) change) (sym view) is
 
-    adjust_passes : first_refusal (adjust_rules (market_of (state_of (core_of p))) (wallet_of (state_of (core_of p)) account) (entire_of (state_of (core_of p)) account) account change h.0) ≡ None
-    adjust_passes = subst (λ (core : Core). first_refusal (adjust_rules (market_of (state_of core)) (wallet_of (state_of core) account) (entire_of (state_of core) account) account change h.0) ≡ None) (sym view) h.2
+    adjust_passes : first_refusal (adjust_rules (market_of (state_of (core_of p)))
+        (wallet_of (state_of (core_of p)) account) (entire_of (state_of (core_of p)) account) account change h.0) ≡ None
+    adjust_passes = subst (λ (core : Core). first_refusal (adjust_rules (market_of (state_of core))
+        (wallet_of (state_of core) account) (entire_of (state_of core) account) account change h.0) ≡ None) (sym view) h.2
 
     pub adjusts_so : MayAdjust p account change plan
     adjusts_so = may_adjust p sound account change h.0 plan k adjust_is adjust_passes
 
     module _ (wallets : WithRoom Wallet) (pools : Pools) (troves : Kept) (order : Listed)
-        (paid : wallets.rows ≡ credited_in (charged_in p.wallets.rows account change.coll_in change.repay) account change.coll_out change.borrow)
-        (kept : books_kept troves pools ≡ place (lift (books_kept p.troves p.pools) account) account plan.coll plan.debt)
+        (paid : wallets.rows ≡ credited_in (charged_in p.wallets.rows account change.coll_in change.repay) account
+        change.coll_out change.borrow)
+        (kept : books_kept troves pools ≡ place (lift (books_kept p.troves p.pools) account) account plan.coll
+        plan.debt)
         (others : SameOthers (record p.pools { fee_lusd = p.pools.fee_lusd + plan.fee }) pools) where
-      adjust_made : Changes (core_of p) (Adjust account change.coll_in change.coll_out change.borrow change.repay h.0 h.1) (core_of (record p { rate = plan.rate; wallets = wallets; pools = pools; troves = troves; order = order }))
+      adjust_made : Changes (core_of p) (Adjust account change.coll_in change.coll_out change.borrow change.repay h.0
+          h.1) (core_of (record p { rate = plan.rate; wallets = wallets; pools = pools; troves = troves; order = order }))
       adjust_made =
-          adjusted_changes p sound account change h.0 plan k adjust_is adjust_passes wallets pools troves order h.1 paid kept others
+          adjusted_changes p sound account change h.0 plan k adjust_is adjust_passes wallets pools troves order h.1 paid
+          kept others
 
-      pub adjust_changes : (bound : ℕ) (words : HintWords) → Changes old (Adjust account change.coll_in change.coll_out change.borrow change.repay bound words) (core_of (record p { rate = plan.rate; wallets = wallets; pools = pools; troves = troves; order = order }))
+      pub adjust_changes : (bound : ℕ) (words : HintWords)
+          → Changes old (Adjust account change.coll_in change.coll_out change.borrow change.repay bound words)
+          (core_of (record p { rate = plan.rate; wallets = wallets; pools = pools; troves = troves; order = order }))
       adjust_changes bound words =
-          subst (λ (core : Core). Changes core (Adjust account change.coll_in change.coll_out change.borrow change.repay bound words) (core_of (record p { rate = plan.rate; wallets = wallets; pools = pools; troves = troves; order = order }))) view
+          subst (λ (core : Core). Changes core (Adjust account change.coll_in change.coll_out change.borrow change.repay
+          bound words) (core_of (record p {
+            rate = plan.rate;
+            wallets = wallets;
+            pools = pools;
+            troves = troves;
+            order = order;
+          }))) view
           (record { image = adjust_made.image; records = adjust_made.records; clients = adjust_made.clients })
 
-      pub adjust_sound : order.entries ≡ order_by troves.table.rows → IsSound (record p { rate = plan.rate; wallets = wallets; pools = pools; troves = troves; order = order })
+      pub adjust_sound : order.entries ≡ order_by troves.table.rows
+          → IsSound (record p { rate = plan.rate; wallets = wallets; pools = pools; troves = troves; order = order })
       adjust_sound listed =
-          sound_after p (record p { rate = plan.rate; wallets = wallets; pools = pools; troves = troves; order = order }) (core_of p) (Adjust account change.coll_in change.coll_out change.borrow change.repay h.0 h.1) refl sound
+          sound_after p (record p {
+            rate = plan.rate;
+            wallets = wallets;
+            pools = pools;
+            troves = troves;
+            order = order;
+          }) (core_of p) (Adjust account change.coll_in change.coll_out change.borrow change.repay h.0
+          h.1) refl sound
           (adjust_left p sound account change h.0 plan k adjust_is adjust_passes) adjust_made listed
 
-  module _ (repaid coll : ℕ) (is : (repaid, coll) ≡ closing_terms (or_nothing (entire_of (state_of old) account))) (h : first_refusal (rules (state_of old) (Close account)) ≡ None) where
+  module _ (repaid coll : ℕ) (is : (repaid, coll) ≡ closing_terms (or_nothing (entire_of (state_of old) account)))
+      (h : first_refusal (rules (state_of old) (Close account)) ≡ None) where
     close_is : (repaid, coll) ≡ closing_terms (or_nothing (entire_of (state_of (core_of p)) account))
-    close_is = subst (λ (core : Core). (repaid, coll) ≡ closing_terms (or_nothing (entire_of (state_of core) account))) (sym view) is
+    close_is = subst (λ (core : Core). (repaid, coll) ≡ closing_terms (or_nothing (entire_of (state_of core) account)))
+        (sym view) is
 
-    close_passes : first_refusal (close_rules (market_of (state_of (core_of p))) (wallet_of (state_of (core_of p)) account) (entire_of (state_of (core_of p)) account) account) ≡ None
+    close_passes : first_refusal (close_rules (market_of (state_of (core_of p)))
+        (wallet_of (state_of (core_of p)) account) (entire_of (state_of (core_of p)) account) account) ≡ None
     close_passes = subst (λ (core : Core). first_refusal (rules (state_of core) (Close account)) ≡ None) (sym view) h
 
     pub closes_so : MayClose p account repaid coll
@@ -422,23 +587,43 @@ module _ (p : Inside) (old : Core) (view : core_of p ≡ old) (sound : IsSound p
         (paid : wallets.rows ≡ credited_in (charged_in p.wallets.rows account 0 repaid) account coll 0)
         (kept : books_kept troves pools ≡ lift (books_kept p.troves p.pools) account)
         (others : SameOthers (record p.pools { reserve = p.pools.reserve - RESERVE }) pools) where
-      close_made : Changes (core_of p) (Close account) (core_of (record p { wallets = wallets; pools = pools; troves = troves; order = order }))
-      close_made = closed_changes p sound account repaid coll k close_is close_passes wallets pools troves order paid kept others
+      close_made : Changes (core_of p) (Close account) (core_of (record p {
+        wallets = wallets;
+        pools = pools;
+        troves = troves;
+        order = order;
+      }))
+      close_made = closed_changes p sound account repaid coll k close_is close_passes wallets pools troves order paid
+          kept others
 
-      pub close_changes : Changes old (Close account) (core_of (record p { wallets = wallets; pools = pools; troves = troves; order = order }))
+      pub close_changes : Changes old (Close account) (core_of (record p {
+        wallets = wallets;
+        pools = pools;
+        troves = troves;
+        order = order;
+      }))
       close_changes =
-          subst (λ (core : Core). Changes core (Close account) (core_of (record p { wallets = wallets; pools = pools; troves = troves; order = order }))) view close_made
+          subst (λ (core : Core). Changes core (Close account) (core_of (record p {
+            wallets = wallets;
+            pools = pools;
+            troves = troves;
+            order = order;
+          }))) view close_made
 
-      pub close_sound : order.entries ≡ order_by troves.table.rows → IsSound (record p { wallets = wallets; pools = pools; troves = troves; order = order })
+      pub close_sound : order.entries ≡ order_by troves.table.rows
+          → IsSound (record p { wallets = wallets; pools = pools; troves = troves; order = order })
       close_sound listed =
-          sound_after p (record p { wallets = wallets; pools = pools; troves = troves; order = order }) (core_of p) (Close account) refl sound
+          sound_after p (record p { wallets = wallets; pools = pools; troves = troves; order = order }) (core_of p)
+          (Close account) refl sound
           (close_left p sound account repaid coll k close_is close_passes) close_made listed
 
 -- ---- between the two halves of an adjustment
 
-module _ (b : Books) (stand : TrovesStand b) (account : ℕ) (pools : Pools) (troves : Kept) (left : books_kept troves pools ≡ lift b account) where
+module _ (b : Books) (stand : TrovesStand b) (account : ℕ) (pools : Pools) (troves : Kept)
+    (left : books_kept troves pools ≡ lift b account) where
   pub left_absent : at troves.table.rows account ≡ None
-  left_absent = ap (λ (x : Books). at x.troves account) left ∙ no_longer_there b account (at b.troves account) refl stand.ascend
+  left_absent = ap (λ (x : Books). at x.troves account) left
+      ∙ no_longer_there b account (at b.troves account) refl stand.ascend
 
   pub left_stand : TrovesStand (books_kept troves pools)
   left_stand = subst TrovesStand (sym left) (lift_stands b account stand)

@@ -1,28 +1,28 @@
-pub mod AccountsFirst
+mod AccountsFirst
 pub mod Alike
-pub mod Beginning
-pub mod Cutting
-pub mod Depositing
-pub mod Forecasting
-pub mod FromNothing
-pub mod FromTheEnd
+mod Beginning
+mod Cutting
+mod Depositing
+mod Forecasting
+mod FromNothing
+mod FromTheEnd
 pub mod HintsAside
-pub mod Images
-pub mod KeptReplies
-pub mod Lending
-pub mod Liquidating
-pub mod Noting
-pub mod Numbering
-pub mod Paying
-pub mod Placing
-pub mod Planning
-pub mod Pooling
-pub mod Reading
-pub mod Redeeming
-pub mod Rooms
-pub mod Rotating
+mod Images
+mod KeptReplies
+mod Lending
+mod Liquidating
+mod Noting
+mod Numbering
+mod Paying
+mod Placing
+mod Planning
+mod Pooling
+mod Reading
+mod Redeeming
+mod Rooms
+mod Rotating
 pub mod SameContents
 pub mod SoundCores
-pub mod Stands
-pub mod Stepping
-pub mod Telling
+mod Stands
+mod Stepping
+mod Telling

@@ -72,18 +72,23 @@ pub record IsStrike (s : State) (call : Call) (liquidator : ℕ) (vs : List Vict
   pub range : liquidator < ACCOUNTS
   pub stays : rotates call ≡ false
 
-listed_victims : (s : State) (liquidator account : ℕ) (made : Result One Refusal) → one s account ≡ made → AreVictims s liquidator (listed (victim_by account made))
+listed_victims : (s : State) (liquidator account : ℕ) (made : Result One Refusal) → one s account ≡ made
+    → AreVictims s liquidator (listed (victim_by account made))
 listed_victims s liquidator account (Ok made) is = (is, tt)
 listed_victims s liquidator account (Err refusal) is = tt
 
 -- the calls of a liquidator
 abbrev pub LiquidatesBy : Call → ℕ → Type 0
-LiquidatesBy call liquidator = ((account : ℕ) × (call ≡ Liquidate liquidator account)) ⊎ ((count : ℕ) × (call ≡ LiquidateLowest liquidator count))
+LiquidatesBy call liquidator = ((account : ℕ) × (call ≡ Liquidate liquidator account))
+    ⊎ ((count : ℕ) × (call ≡ LiquidateLowest liquidator count))
 
-pub strike_planned : (s : State) → IsSoundState s → (call : Call) (terms : Terms) (liquidator : ℕ) → LiquidatesBy call liquidator → AllByRecursion (λ a. a < ACCOUNTS) (accounts call) → first_refusal (rules s call) ≡ None → AreTerms s call terms → IsStrike s call liquidator (victims_in terms)
+pub strike_planned : (s : State) → IsSoundState s → (call : Call) (terms : Terms) (liquidator : ℕ)
+    → LiquidatesBy call liquidator → AllByRecursion (λ a. a < ACCOUNTS) (accounts call) → first_refusal (rules s call)
+    ≡ None → AreTerms s call terms → IsStrike s call liquidator (victims_in terms)
 strike_planned s h call terms liquidator (inl q) range passed are =
     subst (λ (k : Call). IsStrike s k liquidator (victims_in terms)) (sym q.1)
-    (subst (λ (vs : List Victim). IsStrike s (Liquidate liquidator q.0) liquidator vs) (sym (subst (λ (k : Call). AreTerms s k terms) q.1 are))
+    (subst (λ (vs : List Victim). IsStrike s (Liquidate liquidator q.0) liquidator vs)
+    (sym (subst (λ (k : Call). AreTerms s k terms) q.1 are))
     (let few = listed_count q.0 (one s q.0) in
     record {
       effect_is = refl;
@@ -97,7 +102,8 @@ strike_planned s h call terms liquidator (inr q) range passed are =
     let most = lowest_within s liquidator q.0 (subst (λ (k : Call). first_refusal (rules s k) ≡ None) q.1 passed) in
     let few = lowest_count q.0 s in
     subst (λ (k : Call). IsStrike s k liquidator (victims_in terms)) (sym q.1)
-    (subst (λ (vs : List Victim). IsStrike s (LiquidateLowest liquidator q.0) liquidator vs) (sym (subst (λ (k : Call). AreTerms s k terms) q.1 are))
+    (subst (λ (vs : List Victim). IsStrike s (LiquidateLowest liquidator q.0) liquidator vs)
+    (sym (subst (λ (k : Call). AreTerms s k terms) q.1 are))
     (record {
       effect_is = refl;
       victims = lowest_victims q.0 s (finds s (sound_facts s h)) liquidator within;
@@ -109,14 +115,24 @@ strike_planned s h call terms liquidator (inr q) range passed are =
 -- room for what liquidations write
 abbrev pub room_of_victims : ℕ → List Victim → Room
 room_of_victims liquidator vs =
-    record { wallets = liquidator ∷ []; troves = []; surplus = map (λ (v : Victim). v.account) vs; deposits = []; clients = []; list = 0; finished = length vs }
+    record {
+      wallets = liquidator ∷ [];
+      troves = [];
+      surplus = map (λ (v : Victim). v.account) vs;
+      deposits = [];
+      clients = [];
+      list = 0;
+      finished = length vs;
+    }
 
-pub room_liquidating : (call : Call) (liquidator : ℕ) (terms : Terms) → LiquidatesBy call liquidator → room_of_call call terms ≡ room_of_victims liquidator (victims_in terms)
+pub room_liquidating : (call : Call) (liquidator : ℕ) (terms : Terms) → LiquidatesBy call liquidator
+    → room_of_call call terms ≡ room_of_victims liquidator (victims_in terms)
 room_liquidating call liquidator terms (inl q) = ap (λ (k : Call). room_of_call k terms) q.1
 room_liquidating call liquidator terms (inr q) = ap (λ (k : Call). room_of_call k terms) q.1
 
 -- what a planned command liquidates
-pub record IsLiquidation (old : Core) (command : Command) (done : Done) (liquidator : ℕ) (vs : List Victim) : Type 0 where
+pub record IsLiquidation (old : Core) (command : Command) (done : Done) (liquidator : ℕ) (vs : List Victim) :
+    Type 0 where
   pub allowed : ruling (state_of old) command ≡ Allowed
   pub done_is : done ≡ done_of (state_of old) command.call
   pub strike : IsStrike (state_of old) command.call liquidator vs
@@ -124,15 +140,19 @@ pub record IsLiquidation (old : Core) (command : Command) (done : Done) (liquida
   pub owners : AllByRecursion (λ (v : Victim). Contains old.room.surplus v.account) vs
   pub finished : length vs ≤ old.room.finished
 
-pub liquidation_planned : (old : Core) → IsSoundImage old.image old.records → (plan : Plan) → IsPlannedOn old plan → IsSoundPlan plan → HasRoom old plan → (liquidator : ℕ) → LiquidatesBy plan.command.call liquidator → IsLiquidation old plan.command plan.done liquidator (victims_in plan.terms)
+pub liquidation_planned : (old : Core) → IsSoundImage old.image old.records → (plan : Plan) → IsPlannedOn old plan
+    → IsSoundPlan plan → HasRoom old plan → (liquidator : ℕ) → LiquidatesBy plan.command.call liquidator
+    → IsLiquidation old plan.command plan.done liquidator (victims_in plan.terms)
 liquidation_planned old sound plan planned fit room liquidator is =
     let s = state_of old in
     let p = planned s (sound_stands old sound) in
-    let needs = subst (λ (needed : Room). IsWithin (record needed { clients = plan.command.client ∷ [] }) old.room) (room_liquidating plan.command.call liquidator plan.terms is) room in
+    let needs = subst (λ (needed : Room). IsWithin (record needed { clients = plan.command.client ∷ [] }) old.room)
+    (room_liquidating plan.command.call liquidator plan.terms is) room in
     record {
       allowed = p.allowed;
       done_is = p.done;
-      strike = strike_planned s (started_with old.image old.records sound) plan.command.call plan.terms liquidator is fit.accounts (allowed_rules s plan.command p.allowed) p.terms;
+      strike = strike_planned s (started_with old.image old.records sound) plan.command.call plan.terms liquidator is
+          fit.accounts (allowed_rules s plan.command p.allowed) p.terms;
       wallet = needs.wallets.0;
       owners = among_owners old.room.surplus (victims_in plan.terms) needs.surplus;
       finished = needs.finished;
@@ -140,7 +160,8 @@ liquidation_planned old sound plan planned fit room liquidator is =
 
 -- ---- images by the parts that liquidations change
 
-abbrev with_kept : Image → Table Wallet → Pools → Sums → Table Trove → Table ℕ → PoolWords → List (Place × ℕ) → Table Deposit → Image
+abbrev with_kept : Image → Table Wallet → Pools → Sums → Table Trove → Table ℕ → PoolWords → List (Place × ℕ)
+    → Table Deposit → Image
 with_kept i wallets pools sums rows owners words finished deposits =
     record (with_pool (with_sums (with_pools i pools) sums) words finished deposits) {
       wallets = wallets;
@@ -149,27 +170,35 @@ with_kept i wallets pools sums rows owners words finished deposits =
     }
 
 abbrev kept_by : Image → State → Image
-kept_by i t = with_kept i t.wallets (pools_of t) (sums_words t) (trove_rows t) t.surplus_rows (pool_words t) (finished_sums t.start t.offsets) (deposit_rows t)
+kept_by i t = with_kept i t.wallets (pools_of t) (sums_words t) (trove_rows t) t.surplus_rows (pool_words t)
+    (finished_sums t.start t.offsets) (deposit_rows t)
 
 -- by whether there is such a trove, and whether the Stability Pool takes over nothing
 abbrev left_by : State → ℕ → Victim → Option TroveEntry → Bool → State
 left_by s liquidator v o b =
-    rewarded (surplus_added (snapped (redistributed (cond b (lifted_entry s v.account o) (offset (lifted_entry s v.account o) v.one.offset_debt v.one.offset_coll)) v.one.spread_coll v.one.spread_debt)) v.account v.one.surplus) liquidator v.one.gas
+    rewarded (surplus_added
+    (snapped (redistributed (cond b (lifted_entry s v.account o)
+    (offset (lifted_entry s v.account o) v.one.offset_debt v.one.offset_coll)) v.one.spread_coll v.one.spread_debt))
+    v.account v.one.surplus) liquidator v.one.gas
 
 -- a liquidation touches these parts alone
-liquidated_image : (s : State) (liquidator : ℕ) (v : Victim) → image (liquidated s liquidator v) ≡ kept_by (image s) (liquidated s liquidator v)
+liquidated_image : (s : State) (liquidator : ℕ) (v : Victim) → image (liquidated s liquidator v)
+    ≡ kept_by (image s) (liquidated s liquidator v)
 liquidated_image s liquidator v = by (at s.troves v.account) (v.one.offset_debt == 0) where
-  by : (o : Option TroveEntry) (b : Bool) → image (left_by s liquidator v o b) ≡ kept_by (image s) (left_by s liquidator v o b)
+  by : (o : Option TroveEntry) (b : Bool) → image (left_by s liquidator v o b)
+      ≡ kept_by (image s) (left_by s liquidator v o b)
   by None true = refl
   by (Some t) true = refl
   by None false = refl
   by (Some t) false = refl
 
-pub all_image : (vs : List Victim) (s : State) (liquidator : ℕ) → image (all_liquidated s liquidator vs) ≡ kept_by (image s) (all_liquidated s liquidator vs)
+pub all_image : (vs : List Victim) (s : State) (liquidator : ℕ) → image (all_liquidated s liquidator vs)
+    ≡ kept_by (image s) (all_liquidated s liquidator vs)
 all_image [] s liquidator = refl
 all_image (v ∷ vs) s liquidator =
     let next = liquidated s liquidator v in
-    all_image vs next liquidator ∙ ap (λ (i : Image). kept_by i (all_liquidated next liquidator vs)) (liquidated_image s liquidator v)
+    all_image vs next liquidator ∙ ap (λ (i : Image). kept_by i (all_liquidated next liquidator vs))
+    (liquidated_image s liquidator v)
 
 -- ---- what is kept
 
@@ -184,30 +213,54 @@ module _ (p : Inside) (sound : IsSound p) where
         sums_are = its_sums p sound;
         troves_are = its_rows p sound;
         order_is = sound.order ∙ ap (λ (t : Table Trove). order_by t) (its_rows p sound);
-        pool_is = record { words = its_words p sound; finished = ap (λ (i : Image). i.finished) same; deposits = ap (λ (i : Image). i.deposits) same };
+        pool_is = record {
+          words = its_words p sound;
+          finished = ap (λ (i : Image). i.finished) same;
+          deposits = ap (λ (i : Image). i.deposits) same;
+        };
       }
 
-module _ (t : State) (i : Image) (wallets : WithRoom Wallet) (pools : Pools) (surplus : WithRoom ℕ) (kept : troves.Kept) (order : Listed) (pool : stability.Kept)
+module _ (t : State) (i : Image) (wallets : WithRoom Wallet) (pools : Pools) (surplus : WithRoom ℕ) (kept : troves.Kept)
+    (order : Listed) (pool : stability.Kept)
     (h : AreKept t wallets pools surplus kept order pool) where
-  kept_image : with_kept i wallets.rows pools kept.sums kept.table.rows surplus.rows pool.words pool.finished pool.deposits.rows ≡ kept_by i t
+  kept_image : with_kept i wallets.rows pools kept.sums kept.table.rows surplus.rows pool.words pool.finished
+      pool.deposits.rows ≡ kept_by i t
   kept_image =
-      ap (λ (x : Table Wallet). with_kept i x pools kept.sums kept.table.rows surplus.rows pool.words pool.finished pool.deposits.rows) h.wallets_are
-      ∙ ap (λ (x : Pools). with_kept i t.wallets x kept.sums kept.table.rows surplus.rows pool.words pool.finished pool.deposits.rows) h.pools_are
-      ∙ ap (λ (x : Sums). with_kept i t.wallets (pools_of t) x kept.table.rows surplus.rows pool.words pool.finished pool.deposits.rows) h.sums_are
-      ∙ ap (λ (x : Table Trove). with_kept i t.wallets (pools_of t) (sums_words t) x surplus.rows pool.words pool.finished pool.deposits.rows) h.troves_are
-      ∙ ap (λ (x : Table ℕ). with_kept i t.wallets (pools_of t) (sums_words t) (trove_rows t) x pool.words pool.finished pool.deposits.rows) h.owners_are
-      ∙ ap (λ (x : PoolWords). with_kept i t.wallets (pools_of t) (sums_words t) (trove_rows t) t.surplus_rows x pool.finished pool.deposits.rows) h.pool_is.words
-      ∙ ap (λ (x : List (Place × ℕ)). with_kept i t.wallets (pools_of t) (sums_words t) (trove_rows t) t.surplus_rows (pool_words t) x pool.deposits.rows) h.pool_is.finished
-      ∙ ap (λ (x : Table Deposit). with_kept i t.wallets (pools_of t) (sums_words t) (trove_rows t) t.surplus_rows (pool_words t) (finished_sums t.start t.offsets) x) h.pool_is.deposits
+      ap (λ (x : Table Wallet). with_kept i x pools kept.sums kept.table.rows surplus.rows pool.words pool.finished
+      pool.deposits.rows) h.wallets_are
+      ∙ ap (λ (x : Pools). with_kept i t.wallets x kept.sums kept.table.rows surplus.rows pool.words pool.finished
+      pool.deposits.rows) h.pools_are
+      ∙ ap (λ (x : Sums). with_kept i t.wallets (pools_of t) x kept.table.rows surplus.rows pool.words pool.finished
+      pool.deposits.rows) h.sums_are
+      ∙ ap (λ (x : Table Trove). with_kept i t.wallets (pools_of t) (sums_words t) x surplus.rows pool.words
+      pool.finished pool.deposits.rows) h.troves_are
+      ∙ ap (λ (x : Table ℕ). with_kept i t.wallets (pools_of t) (sums_words t) (trove_rows t) x pool.words pool.finished
+      pool.deposits.rows) h.owners_are
+      ∙ ap (λ (x : PoolWords). with_kept i t.wallets (pools_of t) (sums_words t) (trove_rows t) t.surplus_rows x
+      pool.finished pool.deposits.rows) h.pool_is.words
+      ∙ ap (λ (x : List (Place × ℕ)). with_kept i t.wallets (pools_of t) (sums_words t) (trove_rows t) t.surplus_rows
+      (pool_words t) x pool.deposits.rows) h.pool_is.finished
+      ∙ ap (λ (x : Table Deposit). with_kept i t.wallets (pools_of t) (sums_words t) (trove_rows t) t.surplus_rows
+      (pool_words t) (finished_sums t.start t.offsets) x) h.pool_is.deposits
 
   kept_listed : order.entries ≡ order_by kept.table.rows
   kept_listed = h.order_is ∙ sym (ap (λ (x : Table Trove). order_by x) h.troves_are)
 
 -- ---- the command is counted
 
-abbrev counted : Inside → WithRoom Wallet → Pools → WithRoom ℕ → troves.Kept → Listed → stability.Kept → WithRoom Client → Inside
+abbrev counted : Inside → WithRoom Wallet → Pools → WithRoom ℕ → troves.Kept → Listed → stability.Kept → WithRoom Client
+    → Inside
 counted p wallets pools surplus kept order pool clients =
-    record p { records = p.records + 1; wallets = wallets; pools = pools; surplus = surplus; troves = kept; order = order; pool = pool; clients = clients }
+    record p {
+      records = p.records + 1;
+      wallets = wallets;
+      pools = pools;
+      surplus = surplus;
+      troves = kept;
+      order = order;
+      pool = pool;
+      clients = clients;
+    }
 
 -- the command is allowed, makes just these liquidations and has this reply
 pub record IsAsked (core : Core) (command : Command) (done : Done) (liquidator : ℕ) (vs : List Victim) : Type 0 where
@@ -217,11 +270,17 @@ pub record IsAsked (core : Core) (command : Command) (done : Done) (liquidator :
   pub is : effect (state_of core) command.call ≡ all_liquidated (state_of core) liquidator vs
   pub victims : AreVictims (state_of core) liquidator vs
 
-module _ (p : Inside) (sound : IsSound p) (command : Command) (done : Done) (liquidator : ℕ) (vs : List Victim) (q : IsAsked (core_of p) command done liquidator vs)
-    (wallets : WithRoom Wallet) (pools : Pools) (surplus : WithRoom ℕ) (kept : troves.Kept) (order : Listed) (pool : stability.Kept) (clients : WithRoom Client)
+module _ (p : Inside) (sound : IsSound p) (command : Command) (done : Done) (liquidator : ℕ) (vs : List Victim)
+    (q : IsAsked (core_of p) command done liquidator vs)
+    (wallets : WithRoom Wallet) (pools : Pools) (surplus : WithRoom ℕ) (kept : troves.Kept) (order : Listed)
+    (pool : stability.Kept) (clients : WithRoom Client)
     (h : AreKept (all_liquidated (state_of (core_of p)) liquidator vs) wallets pools surplus kept order pool)
-    (wrote : clients.rows ≡ written is_used_client p.clients.rows command.client (record { last = command.number; kept = done })) where
-  next_image : (core_of (counted p wallets pools surplus kept order pool clients)).image ≡ image (after (state_of (core_of p)) command)
+    (wrote : clients.rows ≡ written is_used_client p.clients.rows command.client (record {
+      last = command.number;
+      kept = done;
+    })) where
+  next_image : (core_of (counted p wallets pools surplus kept order pool clients)).image
+      ≡ image (after (state_of (core_of p)) command)
   next_image =
       let row : Client = record { last = command.number; kept = done } in
       let begin = state_of (core_of p) in
@@ -231,10 +290,15 @@ module _ (p : Inside) (sound : IsSound p) (command : Command) (done : Done) (liq
       let i = (core_of p).image in
       kept_image t (record i { clients = clients.rows }) wallets pools surplus kept order pool h
       ∙ ap (λ (x : Table Client). kept_by (record i { clients = x }) t) rows
-      ∙ ap (λ (j : Image). kept_by (record j { clients = put j.clients command.client row }) t) (sym (image_back (core_of p) sound.image))
-      ∙ ap (λ (j : Image). record j { clients = put j.clients command.client row }) (sym (all_image vs begin liquidator))
+      ∙ ap (λ (j : Image). kept_by (record j { clients = put j.clients command.client row }) t)
+      (sym (image_back (core_of p) sound.image))
+      ∙ ap (λ (j : Image). record j { clients = put j.clients command.client row })
+      (sym (all_image vs begin liquidator))
       ∙ ap (λ (u : State). record (image u) { clients = put u.clients command.client row }) (sym q.is)
-      ∙ ap (λ (d : Done). record (image (effect begin command.call)) { clients = put (effect begin command.call).clients command.client (record { last = command.number; kept = d }) }) q.made
+      ∙ ap (λ (d : Done). record (image (effect begin command.call)) {
+        clients = put (effect begin command.call).clients
+            command.client (record { last = command.number; kept = d });
+      }) q.made
 
   next_records : (after (state_of (core_of p)) command).records ≡ p.records + 1
   next_records =
@@ -243,10 +307,14 @@ module _ (p : Inside) (sound : IsSound p) (command : Command) (done : Done) (liq
       ∙ ap (λ (u : State). u.records + 1) q.is
       ∙ ap (λ n. n + 1) (all-records vs begin liquidator)
 
-  pub counted_stands : (old : Core) → core_of p ≡ old → StandsFor (core_of (counted p wallets pools surplus kept order pool clients)) (after (state_of old) command)
-  counted_stands = made_stands p (counted p wallets pools surplus kept order pool clients) sound command q.allowed next_image next_records
+  pub counted_stands : (old : Core) → core_of p ≡ old
+      → StandsFor (core_of (counted p wallets pools surplus kept order pool clients)) (after (state_of old) command)
+  counted_stands = made_stands p (counted p wallets pools surplus kept order pool clients) sound command q.allowed
+      next_image next_records
 
   pub counted_sound : IsSound (counted p wallets pools surplus kept order pool clients)
   counted_sound =
-      made_sound p (counted p wallets pools surplus kept order pool clients) sound command q.allowed next_image next_records
-      (kept_listed (all_liquidated (state_of (core_of p)) liquidator vs) (core_of p).image wallets pools surplus kept order pool h)
+      made_sound p (counted p wallets pools surplus kept order pool clients) sound command q.allowed next_image
+      next_records
+      (kept_listed (all_liquidated (state_of (core_of p)) liquidator vs) (core_of p).image wallets pools surplus kept
+      order pool h)

@@ -24,25 +24,35 @@ use Rattle.liq_soundness.proofs.SoundStart.{started_with}
 use Rattle.liq_soundness.proofs.SoundStep.{after_sound}
 use Rattle.std.proofs.Common.{false}
 
-pub kept_rows : (table : Table Client) (key : ℕ) (row : Client) → 0 < row.last → written is_used_client table key row ≡ put table key row
+pub kept_rows : (table : Table Client) (key : ℕ) (row : Client) → 0 < row.last → written is_used_client table key row
+    ≡ put table key row
 kept_rows table key row h =
     let used : is_used_client row ≡ true = grind (arith, nat_tests, h) in
     ap (λ b. cond b (put table key row) (without table key)) used
 
-module _ (p : Inside) (c : Command) (done : Done) (clients : WithRoom Client) (number : 0 < c.number) (wrote : clients.rows ≡ written is_used_client p.clients.rows c.client (record { last = c.number; kept = done })) where
+module _ (p : Inside) (c : Command) (done : Done) (clients : WithRoom Client) (number : 0 < c.number)
+    (wrote : clients.rows ≡ written is_used_client p.clients.rows c.client (record {
+      last = c.number;
+      kept = done;
+    })) where
   rows_are : clients.rows ≡ put p.clients.rows c.client (record { last = c.number; kept = done })
   rows_are = wrote ∙ kept_rows p.clients.rows c.client (record { last = c.number; kept = done }) number
 
-  pub noted_keeps : IsSound p → c.client < ACCOUNTS → p.records < RECORDS_MOST → IsKeptRow (record { last = c.number; kept = done }) → IsSound (record p { records = p.records + 1; clients = clients })
+  pub noted_keeps : IsSound p → c.client < ACCOUNTS → p.records < RECORDS_MOST
+      → IsKeptRow (record { last = c.number; kept = done })
+      → IsSound (record p { records = p.records + 1; clients = clients })
   noted_keeps sound within few kept =
       record {
         image =
-            subst (λ (t : Table Client). IsSoundImage (record (core_of p).image { clients = t }) (p.records + 1)) (sym rows_are)
-            (noted_sound (core_of p).image p.records c.client (record { last = c.number; kept = done }) sound.image within few kept.form kept.shown);
+            subst (λ (t : Table Client). IsSoundImage (record (core_of p).image { clients = t }) (p.records + 1))
+            (sym rows_are)
+            (noted_sound (core_of p).image p.records c.client (record { last = c.number; kept = done }) sound.image
+            within few kept.form kept.shown);
         order = sound.order;
       }
 
-  pub noted_stands : (old : Core) → core_of p ≡ old → rotates c.call ≡ false → (s : State) → StandsFor old s → StandsFor (core_of (record p { records = p.records + 1; clients = clients })) (noted s c done)
+  pub noted_stands : (old : Core) → core_of p ≡ old → rotates c.call ≡ false → (s : State) → StandsFor old s
+      → StandsFor (core_of (record p { records = p.records + 1; clients = clients })) (noted s c done)
   noted_stands old view stays s h =
       let row : Client = record { last = c.number; kept = done } in
       record {
@@ -57,9 +67,11 @@ module _ (p : Inside) (c : Command) (done : Done) (clients : WithRoom Client) (n
         formed = h.formed;
       }
 
--- a protocol with the image and the records that an allowed command leaves is a sound one, and stands for what it leaves
+-- a protocol with the image and the records that an allowed command leaves is a sound one, and stands for what it
+-- leaves
 module _ (p q : Inside) (sound : IsSound p) (c : Command) (allowed : ruling (state_of (core_of p)) c ≡ Allowed)
-    (image_is : (core_of q).image ≡ image (after (state_of (core_of p)) c)) (records_is : (after (state_of (core_of p)) c).records ≡ q.records) where
+    (image_is : (core_of q).image ≡ image (after (state_of (core_of p)) c))
+    (records_is : (after (state_of (core_of p)) c).records ≡ q.records) where
   good : IsSoundState (after (state_of (core_of p)) c)
   good = after_sound (state_of (core_of p)) (started_with (core_of p).image p.records sound.image) c allowed
 

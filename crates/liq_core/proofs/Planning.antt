@@ -57,7 +57,10 @@ moment_sound s f =
     let r = f.ranges in
     let coll = f.balanced.homes.coll in
     let limit = f.balanced.coll_limit in
-    sound_from (market_of s) (books_of s) (pool_total s) (record { price_some = omega (arith, r.price_least); price_most = r.price_most }) (sym (map-length (trove_row s) s.troves))
+    sound_from (market_of s) (books_of s) (pool_total s) (record {
+      price_some = omega (arith, r.price_least);
+      price_most = r.price_most;
+    }) (sym (map-length (trove_row s) s.troves))
     (omega (arith, coll, limit)) f.balanced.debt_limit (record { stands = f.stands.troves; coll = refl; debt = refl })
 
 pub troves_sound : (s : State) → Finds s → TrovesAreSound s
@@ -66,7 +69,12 @@ troves_sound s f = record { troves = f.stands.troves; marked = f.stands.formed.1
 -- ---- of a protocol
 
 abbrev pub course_by : Image → Course
-course_by i = record { words = words_by i; stakes = i.stakes; coll = i.active_coll + i.default_coll; sum_debt = i.sum_debt }
+course_by i = record {
+  words = words_by i;
+  stakes = i.stakes;
+  coll = i.active_coll + i.default_coll;
+  sum_debt = i.sum_debt;
+}
 
 module _ (p : Inside) (sound : IsSound p) where
   abbrev pub its : State
@@ -90,11 +98,20 @@ module _ (p : Inside) (sound : IsSound p) where
   pub its_course : course_by (core_of p).image ≡ course_of its
   its_course = ap course_by same
 
-  pub its_parts : (m : Market) → m ≡ market_of its → AreParts its m p.troves.sums p.troves.table.rows p.order.entries p.pool.words
+  pub its_parts : (m : Market) → m ≡ market_of its
+      → AreParts its m p.troves.sums p.troves.table.rows p.order.entries p.pool.words
   its_parts m is =
-      record { market = is; sums_are = its_sums; troves_are = its_rows; order_is = sound.order ∙ ap (λ (t : Table Trove). order_by t) its_rows; words_are = its_words }
+      record {
+        market = is;
+        sums_are = its_sums;
+        troves_are = its_rows;
+        order_is = sound.order
+            ∙ ap (λ (t : Table Trove). order_by t) its_rows;
+        words_are = its_words;
+      }
 
-  pub its_moment : (m : Market) → m ≡ market_of its → IsSoundMoment (moment_by m p.troves.sums p.troves.table.rows p.pool.words)
+  pub its_moment : (m : Market) → m ≡ market_of its
+      → IsSoundMoment (moment_by m p.troves.sums p.troves.table.rows p.pool.words)
   its_moment m is =
       subst (λ (w : PoolWords). IsSoundMoment (moment_by m p.troves.sums p.troves.table.rows w)) (sym its_words)
       (subst (λ (t : Table Trove). IsSoundMoment (moment_by m p.troves.sums t (pool_words its))) (sym its_rows)
@@ -102,27 +119,38 @@ module _ (p : Inside) (sound : IsSound p) where
       (subst (λ (k : Market). IsSoundMoment (moment_by k (sums_words its) (trove_rows its) (pool_words its))) (sym is)
       (moment_sound its (core_finds (core_of p) sound.image)))))
 
-  pub its_trove : (m : Market) → m ≡ market_of its → (account : ℕ) (t : Trove) → at p.troves.table.rows account ≡ Some t → IsTroveOf m p.troves.sums t
+  pub its_trove : (m : Market) → m ≡ market_of its → (account : ℕ) (t : Trove) → at p.troves.table.rows account ≡ Some t
+      → IsTroveOf m p.troves.sums t
   its_trove m is account t there =
       let struck = row_struck (moment_by m p.troves.sums p.troves.table.rows p.pool.words) account (its_moment m is) in
-      (subst (λ (o : Option Trove). IfSome o (IsStruckOf (moment_by m p.troves.sums p.troves.table.rows p.pool.words).figures)) there struck).trove
+      (subst (λ (o : Option Trove). IfSome o
+      (IsStruckOf (moment_by m p.troves.sums p.troves.table.rows p.pool.words).figures)) there struck).trove
 
-  pub its_one : (m : Market) → m ≡ market_of its → (account : ℕ) → one_in m p.troves.sums p.pool.words.total account (at p.troves.table.rows account) ≡ one its account
+  pub its_one : (m : Market) → m ≡ market_of its → (account : ℕ)
+      → one_in m p.troves.sums p.pool.words.total account (at p.troves.table.rows account) ≡ one its account
   its_one m is account =
       ap (λ (k : Market). one_in k p.troves.sums p.pool.words.total account (at p.troves.table.rows account)) is
       ∙ ap (λ (x : Sums). one_in (market_of its) x p.pool.words.total account (at p.troves.table.rows account)) its_sums
-      ∙ ap (λ (w : PoolWords). one_in (market_of its) (sums_words its) w.total account (at p.troves.table.rows account)) its_words
-      ∙ ap (λ (t : Table Trove). one_in (market_of its) (sums_words its) (pool_total its) account (at t account)) its_rows
+      ∙ ap (λ (w : PoolWords). one_in (market_of its) (sums_words its) w.total account (at p.troves.table.rows account))
+      its_words
+      ∙ ap (λ (t : Table Trove). one_in (market_of its) (sums_words its) (pool_total its) account (at t account))
+      its_rows
 
 -- ---- what is ruled
 
 -- the reply to a liquidation
 abbrev pub one_done : One → Done
-one_done made = record { kind = 12; values = made.gas ∷ made.offset_debt ∷ made.offset_coll ∷ made.spread_debt ∷ made.spread_coll ∷ made.surplus ∷ [] }
+one_done made = record {
+  kind = 12;
+  values = made.gas ∷ made.offset_debt ∷ made.offset_coll ∷ made.spread_debt
+      ∷ made.spread_coll ∷ made.surplus ∷ [];
+}
 
-pub liquidate_ruled : (s : State) (liquidator account : ℕ) (made : One) → one s account ≡ Ok made → (forecast : Forecast)
+pub liquidate_ruled : (s : State) (liquidator account : ℕ) (made : One) → one s account ≡ Ok made
+    → (forecast : Forecast)
     → forecast.done ≡ one_done made → victims_in forecast.terms ≡ record { account = account; one = made } ∷ []
-    → events_in forecast.events ≡ offset_events s (record { account = account; one = made } ∷ []) → changes_in forecast.changes ≡ victim_changes s (record { account = account; one = made } ∷ [])
+    → events_in forecast.events ≡ offset_events s (record { account = account; one = made } ∷ [])
+    → changes_in forecast.changes ≡ victim_changes s (record { account = account; one = made } ∷ [])
     → IsRuled s (Liquidate liquidator account) (Ok forecast)
 liquidate_ruled s liquidator account made is forecast done terms events changes = (
   ap (λ (r : Result One Refusal). first_refusal (refusal_of r)) is,

@@ -49,14 +49,16 @@ no_deposit_by (Some d) true h = cc
 no_deposit_by (Some d) false h = refl
 
 -- what a depositor has in the pool is within the limit, with the wallet's LUSD and with the trove's collateral
-pub position_within : (s : State) → Finds s → (account : ℕ) → (balance_of s account + (wallet_of s account).lusd ≤ LIM) × ((or_nothing (entire_of s account)).0 + gain_of s account ≤ LIM)
+pub position_within : (s : State) → Finds s → (account : ℕ) → (balance_of s account + (wallet_of s account).lusd ≤ LIM)
+    × ((or_nothing (entire_of s account)).0 + gain_of s account ≤ LIM)
 position_within s f account =
     let fits = pool_and_wallet s f account (wallet_of s account).lusd (omega arith) in
     let balance = balance_within s (at s.deposits account) in
     let gain = gain_within s (at s.deposits account) in
     (omega (arith, fits, balance), by (entire_of s account) refl gain)
   where
-    by : (o : Option (ℕ × ℕ)) → entire_of s account ≡ o → gain_of s account ≤ pool_coll s → (or_nothing o).0 + gain_of s account ≤ LIM
+    by : (o : Option (ℕ × ℕ)) → entire_of s account ≡ o → gain_of s account ≤ pool_coll s
+        → (or_nothing o).0 + gain_of s account ≤ LIM
     by None e gain =
         let homes = f.balanced.homes.coll in
         let limit = f.balanced.coll_limit in
@@ -69,17 +71,23 @@ position_within s f account =
         omega (arith, homes, limit, gain, has.coll_is, w.coll, w.pending_coll)
 
 pub last_is : (p : Inside) → IsSound p → last_trove (state_of (core_of p)) ≡ last_account p.order.entries
-last_is p sound = ap (λ (t : Table Trove). last_account (order_by t)) (rows_are p sound) ∙ ap last_account (sym sound.order)
+last_is p sound = ap (λ (t : Table Trove). last_account (order_by t)) (rows_are p sound)
+    ∙ ap last_account (sym sound.order)
 
 -- ---- the last trove
 
 abbrev told_of : Option Refusal → Result (Unit {0}) Refusal
 told_of o = outcome o tt
 
-module _ (s : State) (account left right : ℕ) (left_is : left ≡ worth (or_nothing (entire_of s account)).0 s.price) (right_is : right ≡ asked MCR (or_nothing (entire_of s account)).1) where
-  under_as : (b : Bool) → nat_lt left right ≡ b → ruled (trove_under s (Some account)) ≡ told_of (cond b (Some (TroveUnder account left right)) None)
+module _ (s : State) (account left right : ℕ) (left_is : left ≡ worth (or_nothing (entire_of s account)).0 s.price)
+    (right_is : right ≡ asked MCR (or_nothing (entire_of s account)).1) where
+  under_as : (b : Bool) → nat_lt left right ≡ b → ruled (trove_under s (Some account))
+      ≡ told_of (cond b (Some (TroveUnder account left right)) None)
   under_as b e =
-      ap (λ n. ruled ((nat_lt n (asked MCR (or_nothing (entire_of s account)).1), TroveUnder account n (asked MCR (or_nothing (entire_of s account)).1)) ∷ [])) (sym left_is)
+      ap (λ n. ruled ((
+        nat_lt n (asked MCR (or_nothing (entire_of s account)).1),
+        TroveUnder account n (asked MCR (or_nothing (entire_of s account)).1),
+      ) ∷ [])) (sym left_is)
       ∙ ap (λ n. ruled ((nat_lt left n, TroveUnder account left n) ∷ [])) (sym right_is)
       ∙ ap (λ c. told_of (cond c (Some (TroveUnder account left right)) None)) e
 
@@ -92,12 +100,18 @@ module _ (s : State) (account left right : ℕ) (left_is : left ≡ worth (or_no
 -- ---- a gain that moves into the trove
 
 module _ (s : State) (account : ℕ) (hint : HintWords) where
-  gain_as : (b : Bool) → is_none (at s.deposits account) ≡ b → first_refusal (rules s (GainToTrove account hint)) ≡ cond b (Some (NoDeposit account)) (first_refusal (gain_rules (market_of s) (entire_of s account) account (gain_of s account)))
+  gain_as : (b : Bool) → is_none (at s.deposits account) ≡ b → first_refusal (rules s (GainToTrove account hint))
+      ≡ cond b (Some (NoDeposit account)) (first_refusal (gain_rules (market_of s) (entire_of s account) account
+      (gain_of s account)))
   gain_as b e =
-      ap (λ c. cond c (Some (NoDeposit account)) (first_refusal (gain_rules (market_of s) (entire_of s account) account (gain_of s account)))) e
+      ap (λ c. cond c (Some (NoDeposit account)) (first_refusal (gain_rules (market_of s) (entire_of s account) account
+      (gain_of s account)))) e
 
-  module _ (there : is_none (at s.deposits account) ≡ false) (m : Market) (entire : Option (ℕ × ℕ)) (gain : ℕ) (market_is : m ≡ market_of s) (entire_is : entire ≡ entire_of s account) (gain_is : gain ≡ gain_of s account) where
-    planned_as : gain_plan m entire account gain ≡ gain_plan (market_of s) (entire_of s account) account (gain_of s account)
+  module _ (there : is_none (at s.deposits account) ≡ false) (m : Market) (entire : Option (ℕ × ℕ)) (gain : ℕ)
+      (market_is : m ≡ market_of s) (entire_is : entire ≡ entire_of s account) (gain_is : gain
+      ≡ gain_of s account) where
+    planned_as : gain_plan m entire account gain ≡ gain_plan (market_of s) (entire_of s account) account
+        (gain_of s account)
     planned_as =
         ap (λ (x : Market). gain_plan x entire account gain) market_is
         ∙ ap (λ (o : Option (ℕ × ℕ)). gain_plan (market_of s) o account gain) entire_is
@@ -107,14 +121,27 @@ module _ (s : State) (account : ℕ) (hint : HintWords) where
     planned_by None terms plan h = (refl, cc)
     planned_by (Some r) terms plan h = cc
 
-    pub gain_passed : (plan : Plan) → gain_plan m entire account gain ≡ Ok plan → first_refusal (rules s (GainToTrove account hint)) ≡ None
+    pub gain_passed : (plan : Plan) → gain_plan m entire account gain ≡ Ok plan
+        → first_refusal (rules s (GainToTrove account hint)) ≡ None
     gain_passed plan e = gain_as false there ∙ (planned_by _ _ plan (sym planned_as ∙ e)).0
 
-    pub gain_terms : (plan : Plan) → gain_plan m entire account gain ≡ Ok plan → plan ≡ gaining_terms (market_of s) (or_nothing (entire_of s account)) (gain_of s account)
+    pub gain_terms : (plan : Plan) → gain_plan m entire account gain ≡ Ok plan
+        → plan ≡ gaining_terms (market_of s) (or_nothing (entire_of s account)) (gain_of s account)
     gain_terms plan e = (planned_by _ _ plan (sym planned_as ∙ e)).1
 
-  pub gain_forecast : (balance gain : ℕ) (plan : Plan) (change : ListChange) → balance ≡ balance_of s account → gain ≡ gain_of s account → plan ≡ gaining_terms (market_of s) (or_nothing (entire_of s account)) (gain_of s account) → change ≡ put_for s account plan
-      → IsForecast s (GainToTrove account hint) (record { done = record { kind = 11; values = gain ∷ plan.coll ∷ 0 ∷ 0 ∷ 0 ∷ 0 ∷ [] }; terms = terms.Trove plan; events = events.One (Own account 0 0 gain balance ∷ []); changes = changes.One (change ∷ []) })
+  pub gain_forecast : (balance gain : ℕ) (plan : Plan) (change : ListChange) → balance ≡ balance_of s account
+      → gain ≡ gain_of s account → plan ≡ gaining_terms (market_of s) (or_nothing (entire_of s account))
+      (gain_of s account) → change ≡ put_for s account plan
+      → IsForecast s (GainToTrove account hint) (record {
+        done = record {
+          kind = 11;
+          values = gain ∷ plan.coll ∷ 0 ∷ 0
+              ∷ 0 ∷ 0 ∷ [];
+        };
+        terms = terms.Trove plan;
+        events = events.One (Own account 0 0 gain balance ∷ []);
+        changes = changes.One (change ∷ []);
+      })
   gain_forecast balance gain plan change balance_is gain_is is put_is =
       let planned = gaining_terms (market_of s) (or_nothing (entire_of s account)) (gain_of s account) in
       let left : balance ≡ amount_after s account 0 0 = omega (arith, balance_is) in
@@ -126,5 +153,6 @@ module _ (s : State) (account : ℕ) (hint : HintWords) where
         events =
             ap (λ n. Own account 0 0 n balance ∷ []) gain_is
             ∙ ap (λ n. Own account 0 0 (gain_of s account) n ∷ []) left;
-        changes = ap (λ (c : ListChange). c ∷ []) (put_is ∙ ap (put_for s account) is ∙ set_told (owned s account 0 0) account planned.coll planned.debt);
+        changes = ap (λ (c : ListChange). c ∷ []) (put_is ∙ ap (put_for s account) is
+            ∙ set_told (owned s account 0 0) account planned.coll planned.debt);
       }

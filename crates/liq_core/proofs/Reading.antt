@@ -32,7 +32,8 @@ use Rattle.liq_soundness.proofs.SoundFacts.{Finds}
 -- ---- what is read
 
 module _ (core : Core) (h : IsSoundImage core.image core.records) where
-  pub entire_read : (account : ℕ) → entire_of (state_of core) account ≡ entire_in (sums_by core.image) core.image.troves account
+  pub entire_read : (account : ℕ) → entire_of (state_of core) account
+      ≡ entire_in (sums_by core.image) core.image.troves account
   entire_read account = ap (λ (i : Image). entire_in (sums_by i) i.troves account) (image_back core h)
 
   pub sums_read : sums_words (state_of core) ≡ sums_by core.image
@@ -45,13 +46,15 @@ module _ (core : Core) (h : IsSoundImage core.image core.records) where
       ∙ ap (λ (i : Image). is_some (at i.troves account)) (image_back core h)
 
 -- an owner's wallet and trove are together within what is inside, and the trove's debt within all debt
-pub owned_within : (s : State) → Finds s → (account : ℕ) (own : Option (ℕ × ℕ)) → entire_of s account ≡ own → ((or_nothing own).0 + (wallet_of s account).coll ≤ LIM) × ((or_nothing own).1 ≤ total_debt s)
+pub owned_within : (s : State) → Finds s → (account : ℕ) (own : Option (ℕ × ℕ)) → entire_of s account ≡ own
+    → ((or_nothing own).0 + (wallet_of s account).coll ≤ LIM) × ((or_nothing own).1 ≤ total_debt s)
 owned_within s f account own e =
     let part = sum_by-remove_entry (λ (w : Wallet). w.coll) (is_at (nat_cmp account)) s.wallets in
     let had = read_or (λ (w : Wallet). w.coll) refl (at s.wallets account) in
     by own e (omega (arith, part, had))
   where
-    by : (o : Option (ℕ × ℕ)) → entire_of s account ≡ o → (wallet_of s account).coll ≤ sum_by (λ (w : Wallet). w.coll) (values_of s.wallets) → ((or_nothing o).0 + (wallet_of s account).coll ≤ LIM) × ((or_nothing o).1 ≤ total_debt s)
+    by : (o : Option (ℕ × ℕ)) → entire_of s account ≡ o → (wallet_of s account).coll ≤ sum_by (λ (w : Wallet). w.coll)
+        (values_of s.wallets) → ((or_nothing o).0 + (wallet_of s account).coll ≤ LIM) × ((or_nothing o).1 ≤ total_debt s)
     by None there within =
         let homes = f.balanced.homes.coll in
         let limit = f.balanced.coll_limit in
@@ -60,13 +63,21 @@ owned_within s f account own e =
         let homes = f.balanced.homes.coll in
         let limit = f.balanced.coll_limit in
         let has = has_trove s account o f.stands there in
-        let w = has.within in
-        (omega (arith, within, homes, limit, has.coll_is, w.coll, w.pending_coll), omega (arith, has.debt_is, w.debt, w.pending_debt))
+        let w = has.within in (
+          omega (arith, within, homes, limit, has.coll_is, w.coll, w.pending_coll),
+          omega (
+            arith,
+            has.debt_is,
+            w.debt,
+            w.pending_debt,
+          ),
+        )
 
 -- ---- what an outcome says of its rules
 
 module _ {X : Type 0} (rules : List Rule) (terms : X) where
-  pub refused_so : (refusal : Refusal) → outcome (first_refusal rules) terms ≡ Err refusal → first_refusal rules ≡ Some refusal
+  pub refused_so : (refusal : Refusal) → outcome (first_refusal rules) terms ≡ Err refusal
+      → first_refusal rules ≡ Some refusal
   refused_so refusal e = by (first_refusal rules) e where
     by : (o : Option Refusal) → outcome o terms ≡ Err refusal → o ≡ Some refusal
     by None h = cc
@@ -80,16 +91,25 @@ module _ {X : Type 0} (rules : List Rule) (terms : X) where
 
 -- ---- where a trove will stand
 
-pub placed_told : (s : State) (account coll debt : ℕ) → Put (key_by (set_row (sums_words s) coll debt)) account ≡ stands (placed s account coll debt) account
+pub placed_told : (s : State) (account coll debt : ℕ) → Put (key_by (set_row (sums_words s) coll debt)) account
+    ≡ stands (placed s account coll debt) account
 placed_told s account coll debt =
     let next = placed s account coll debt in
     ap (standing next account)
-    (sym (at-put_same s.troves account (record { coll = coll; debt = debt; stake = stake_for s coll; mark = After (length s.redistributions) })))
+    (sym (at-put_same s.troves account (record {
+      coll = coll;
+      debt = debt;
+      stake = stake_for s coll;
+      mark = After (length s.redistributions);
+    })))
 
-set_row_lifted : (s : State) (account : ℕ) (o : Option TroveEntry) (coll debt : ℕ) → set_row (sums_words s) coll debt ≡ set_row (sums_words (lifted_entry s account o)) coll debt
+set_row_lifted : (s : State) (account : ℕ) (o : Option TroveEntry) (coll debt : ℕ) → set_row (sums_words s) coll debt
+    ≡ set_row (sums_words (lifted_entry s account o)) coll debt
 set_row_lifted s account None coll debt = refl
 set_row_lifted s account (Some t) coll debt = refl
 
-pub set_told : (s : State) (account coll debt : ℕ) → Put (key_by (set_row (sums_words s) coll debt)) account ≡ stands (placed (lifted s account) account coll debt) account
+pub set_told : (s : State) (account coll debt : ℕ) → Put (key_by (set_row (sums_words s) coll debt)) account
+    ≡ stands (placed (lifted s account) account coll debt) account
 set_told s account coll debt =
-    ap (λ (row : Trove). Put (key_by row) account) (set_row_lifted s account (at s.troves account) coll debt) ∙ placed_told (lifted s account) account coll debt
+    ap (λ (row : Trove). Put (key_by row) account) (set_row_lifted s account (at s.troves account) coll debt)
+    ∙ placed_told (lifted s account) account coll debt

@@ -19,8 +19,11 @@ on_ok (Err y) f h = tt
 
 pub all_among : (xs ys : List ℕ) → ((key : ℕ) → Contains xs key → Contains ys key) → AreAmong xs ys
 all_among [] ys h = tt
-all_among (x ∷ xs) ys h =
-    (h x (0, omega arith, refl), all_among xs ys (λ key at. let within = at.1 in h key (suc at.0, omega (arith, within), at.2)))
+all_among (x ∷ xs) ys h = (
+  h x (0, omega arith, refl),
+  all_among xs ys (λ key at. let within = at.1
+      in h key (suc at.0, omega (arith, within), at.2)),
+)
 
 pub among_key : (xs ys : List ℕ) → AreAmong xs ys → (key : ℕ) → Contains xs key → Contains ys key
 among_key xs ys all key at = by xs at.0 all at.1 at.2 where
@@ -36,32 +39,39 @@ among_then [] ys zs h g = tt
 among_then (x ∷ xs) ys zs h g = (among_key ys zs g x h.0, among_then xs ys zs h.1 g)
 
 -- the accounts of victims
-pub owners_among : (keys : List ℕ) (vs : List Victim) → AllByRecursion (λ (v : Victim). Contains keys v.account) vs → AreAmong (map (λ (v : Victim). v.account) vs) keys
+pub owners_among : (keys : List ℕ) (vs : List Victim) → AllByRecursion (λ (v : Victim). Contains keys v.account) vs
+    → AreAmong (map (λ (v : Victim). v.account) vs) keys
 owners_among keys [] h = tt
 owners_among keys (v ∷ vs) h = (h.0, owners_among keys vs h.1)
 
-pub among_owners : (keys : List ℕ) (vs : List Victim) → AreAmong (map (λ (v : Victim). v.account) vs) keys → AllByRecursion (λ (v : Victim). Contains keys v.account) vs
+pub among_owners : (keys : List ℕ) (vs : List Victim) → AreAmong (map (λ (v : Victim). v.account) vs) keys
+    → AllByRecursion (λ (v : Victim). Contains keys v.account) vs
 among_owners keys [] h = tt
 among_owners keys (v ∷ vs) h = (h.0, among_owners keys vs h.1)
 
 -- and those of troves that are closed
 abbrev closed_with : Cut → List Cut → Bool → List ℕ
-closed_with cut cuts b = map (λ (c : Cut). c.account) (cond b (cut ∷ filter (λ (c : Cut). c.full) cuts) (filter (λ (c : Cut). c.full) cuts))
+closed_with cut cuts b = map (λ (c : Cut). c.account) (cond b (cut ∷ filter (λ (c : Cut). c.full) cuts)
+    (filter (λ (c : Cut). c.full) cuts))
 
-pub closed_among : (surplus : WithRoom ℕ) (cuts : List Cut) → AllByRecursion (HasRoomToClose surplus) cuts → AreAmong (closed cuts) surplus.room
+pub closed_among : (surplus : WithRoom ℕ) (cuts : List Cut) → AllByRecursion (HasRoomToClose surplus) cuts
+    → AreAmong (closed cuts) surplus.room
 closed_among surplus [] h = tt
 closed_among surplus (cut ∷ cuts) h = by cut.full h.0 (closed_among surplus cuts h.1) where
-  by : (b : Bool) → (IsTrue b → Contains surplus.room cut.account) → AreAmong (closed cuts) surplus.room → AreAmong (closed_with cut cuts b) surplus.room
+  by : (b : Bool) → (IsTrue b → Contains surplus.room cut.account) → AreAmong (closed cuts) surplus.room
+      → AreAmong (closed_with cut cuts b) surplus.room
   by true here later = (here refl, later)
   by false here later = later
 
-pub among_closed : (surplus : WithRoom ℕ) (cuts : List Cut) → AreAmong (closed cuts) surplus.room → AllByRecursion (HasRoomToClose surplus) cuts
+pub among_closed : (surplus : WithRoom ℕ) (cuts : List Cut) → AreAmong (closed cuts) surplus.room
+    → AllByRecursion (HasRoomToClose surplus) cuts
 among_closed surplus [] h = tt
 among_closed surplus (cut ∷ cuts) h =
     let both = by cut.full h in
     (both.0, among_closed surplus cuts both.1)
   where
-    by : (b : Bool) → AreAmong (closed_with cut cuts b) surplus.room → (IsTrue b → Contains surplus.room cut.account) × AreAmong (closed cuts) surplus.room
+    by : (b : Bool) → AreAmong (closed_with cut cuts b) surplus.room → (IsTrue b → Contains surplus.room cut.account)
+        × AreAmong (closed cuts) surplus.room
     by true h = (λ _. h.0, h.1)
     by false h = (λ e. cc, h)
 
@@ -94,7 +104,9 @@ within_then a b c h g =
     }
 
 -- of a protocol whose tables, list and Stability Pool keep their room
-pub room_kept : (old : Core) (p q : Inside) → core_of p ≡ old → KeepsRoom p.wallets q.wallets → KeepsRoom p.troves.table q.troves.table → KeepsRoom p.surplus q.surplus → KeepsRoom p.pool.deposits q.pool.deposits → KeepsRoom p.clients q.clients
+pub room_kept : (old : Core) (p q : Inside) → core_of p ≡ old → KeepsRoom p.wallets q.wallets
+    → KeepsRoom p.troves.table q.troves.table → KeepsRoom p.surplus q.surplus
+    → KeepsRoom p.pool.deposits q.pool.deposits → KeepsRoom p.clients q.clients
     → p.order.room ≤ q.order.room → p.pool.spare ≤ q.pool.spare → IsWithin old.room (core_of q).room
 room_kept old p q view wallets troves surplus deposits clients list finished =
     subst (λ (core : Core). IsWithin core.room (core_of q).room) view
@@ -109,10 +121,28 @@ room_kept old p q view wallets troves surplus deposits clients list finished =
     })
 
 -- with a client's, and without it
-pub with_client : (needed room : Room) (client : ℕ) → IsWithin needed room → Contains room.clients client → IsWithin (record needed { clients = client ∷ [] }) room
+pub with_client : (needed room : Room) (client : ℕ) → IsWithin needed room → Contains room.clients client
+    → IsWithin (record needed { clients = client ∷ [] }) room
 with_client needed room client h there =
-    record { wallets = h.wallets; troves = h.troves; surplus = h.surplus; deposits = h.deposits; clients = (there, tt); list = h.list; finished = h.finished }
+    record {
+      wallets = h.wallets;
+      troves = h.troves;
+      surplus = h.surplus;
+      deposits = h.deposits;
+      clients = (there, tt);
+      list = h.list;
+      finished = h.finished;
+    }
 
-pub without_client : (needed room : Room) (client : ℕ) → IsWithin (record needed { clients = client ∷ [] }) room → IsWithin (record needed { clients = [] }) room
+pub without_client : (needed room : Room) (client : ℕ) → IsWithin (record needed { clients = client ∷ [] }) room
+    → IsWithin (record needed { clients = [] }) room
 without_client needed room client h =
-    record { wallets = h.wallets; troves = h.troves; surplus = h.surplus; deposits = h.deposits; clients = tt; list = h.list; finished = h.finished }
+    record {
+      wallets = h.wallets;
+      troves = h.troves;
+      surplus = h.surplus;
+      deposits = h.deposits;
+      clients = tt;
+      list = h.list;
+      finished = h.finished;
+    }

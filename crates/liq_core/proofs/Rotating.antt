@@ -59,21 +59,29 @@ module _ (s : State) (c : Command) (is : c.call ≡ Rotate) where
   turned_records = ap (λ b. cond b 0 ((effect s c.call).records + 1)) (ap rotates is)
 
 -- of the state that begins with a core's image
-pub turned_core : (core : Core) → IsSoundImage core.image core.records → (c : Command) → c.call ≡ Rotate → image (after (state_of core) c) ≡ turned core.image c.client (reply_row (state_of core) c)
+pub turned_core : (core : Core) → IsSoundImage core.image core.records → (c : Command) → c.call ≡ Rotate
+    → image (after (state_of core) c) ≡ turned core.image c.client (reply_row (state_of core) c)
 turned_core core sound c is =
-    turned_image (state_of core) c is ∙ ap (λ (i : Image). turned i c.client (reply_row (state_of core) c)) (image_back core sound)
+    turned_image (state_of core) c is ∙ ap (λ (i : Image). turned i c.client (reply_row (state_of core) c))
+    (image_back core sound)
 
 -- and the length of its checkpoint, by a protocol's own tables
-pub checkpoint_is : (p : Inside) (core : Core) → core_of p ≡ core → IsSound p → (c : Command) → c.call ≡ Rotate → checkpoint_length (image (after (state_of core) c)) ≡ checkpoint_length (turned (core_of p).image c.client (reply_row (state_of core) c))
+pub checkpoint_is : (p : Inside) (core : Core) → core_of p ≡ core → IsSound p → (c : Command) → c.call ≡ Rotate
+    → checkpoint_length (image (after (state_of core) c)) ≡ checkpoint_length (turned (core_of p).image c.client
+    (reply_row (state_of core) c))
 checkpoint_is p core view sound c is =
-    subst (λ (k : Core). checkpoint_length (image (after (state_of k) c)) ≡ checkpoint_length (turned (core_of p).image c.client (reply_row (state_of k) c))) view
+    subst (λ (k : Core). checkpoint_length (image (after (state_of k) c))
+    ≡ checkpoint_length (turned (core_of p).image c.client (reply_row (state_of k) c))) view
     (ap checkpoint_length (turned_core (core_of p) sound.image c is))
 
 -- ---- what is planned
 
 -- the image that a planned rotation leaves, made of the core's
-module _ (core : Core) (sound : IsSoundImage core.image core.records) (plan : Plan) (planned : IsPlannedOn core plan) (is : plan.command.call ≡ Rotate) where
-  pub planned_image : (s : State) → StandsFor core s → turned core.image plan.command.client (record { last = plan.command.number; kept = plan.done }) ≡ image (after s plan.command)
+module _ (core : Core) (sound : IsSoundImage core.image core.records) (plan : Plan) (planned : IsPlannedOn core plan)
+    (is : plan.command.call ≡ Rotate) where
+  pub planned_image : (s : State) → StandsFor core s
+      → turned core.image plan.command.client (record { last = plan.command.number; kept = plan.done })
+      ≡ image (after s plan.command)
   planned_image s h =
       let c = plan.command in
       ap (λ (i : Image). turned i c.client (record { last = c.number; kept = plan.done })) h.image
@@ -82,10 +90,14 @@ module _ (core : Core) (sound : IsSoundImage core.image core.records) (plan : Pl
 
   pub planned_number : 0 < plan.command.number
   planned_number =
-      let number = allowed_number (state_of core) plan.command (planned (state_of core) (sound_stands core sound)).allowed in
+      let number = allowed_number (state_of core) plan.command (planned (state_of core)
+      (sound_stands core sound)).allowed in
       omega (arith, number)
 
-  pub planned_sound : IsSoundImage (turned core.image plan.command.client (record { last = plan.command.number; kept = plan.done })) 0
+  pub planned_sound : IsSoundImage (turned core.image plan.command.client (record {
+    last = plan.command.number;
+    kept = plan.done;
+  })) 0
   planned_sound =
       let s = state_of core in
       let stands = sound_stands core sound in
@@ -99,7 +111,8 @@ generation_within p sound = (core_facts (core_of p) sound.image).ranges.last_gen
 -- ---- how many clients there are
 
 -- ascending numbers below a bound are no more than it
-module _ (keys : List ℕ) (bound : ℕ) (ascend : IsStrictlySortedBy nat_cmp keys) (below : AllByRecursion (λ key. key < bound) keys) where
+module _ (keys : List ℕ) (bound : ℕ) (ascend : IsStrictlySortedBy nat_cmp keys) (below : AllByRecursion (λ key. key
+    < bound) keys) where
   at_least : (j : ℕ) → j < length keys → j ≤ get_or keys j 0
   at_least zero h = omega arith
   at_least (suc j) h =
@@ -109,7 +122,8 @@ module _ (keys : List ℕ) (bound : ℕ) (ascend : IsStrictlySortedBy nat_cmp ke
 
   keys_few : length keys ≤ bound
   keys_few = by (length keys) refl where
-    one_below : (all : List ℕ) (j : ℕ) → AllByRecursion (λ key. key < bound) all → j < length all → get_or all j 0 < bound
+    one_below : (all : List ℕ) (j : ℕ) → AllByRecursion (λ key. key < bound) all → j < length all
+        → get_or all j 0 < bound
     one_below [] j h k = absurd (omega (arith, k))
     one_below (key ∷ all) zero h k = h.0
     one_below (key ∷ all) (suc j) h k = one_below all j h.1 (omega (arith, k))
@@ -134,20 +148,27 @@ abbrev limits : ℕ → ℕ → List Rule
 limits generation bytes =
     where_above generation GENERATIONS_MOST AmountLimit ∷ where_above bytes CHECKPOINT_BYTES_MOST AmountLimit ∷ []
 
-rotation_rules : (s : State) (c : Command) → c.call ≡ Rotate → first_refusal (room_rules s c) ≡ first_refusal (limits (s.generation + 1) (checkpoint_length (image (after s c))))
+rotation_rules : (s : State) (c : Command) → c.call ≡ Rotate → first_refusal (room_rules s c)
+    ≡ first_refusal (limits (s.generation + 1) (checkpoint_length (image (after s c))))
 rotation_rules s c is =
-    ap (λ b. first_refusal (cond b (limits (s.generation + 1) (checkpoint_length (image (after s c)))) ((nat_le RECORDS_MOST s.records, JournalFull RECORDS_MOST) ∷ []))) (ap rotates is)
+    ap (λ b. first_refusal (cond b (limits (s.generation + 1) (checkpoint_length (image (after s c))))
+    ((nat_le RECORDS_MOST s.records, JournalFull RECORDS_MOST) ∷ []))) (ap rotates is)
 
-pub other_rules : (s : State) (c : Command) → rotates c.call ≡ false → first_refusal (room_rules s c) ≡ first_refusal ((nat_le RECORDS_MOST s.records, JournalFull RECORDS_MOST) ∷ [])
+pub other_rules : (s : State) (c : Command) → rotates c.call ≡ false → first_refusal (room_rules s c)
+    ≡ first_refusal ((nat_le RECORDS_MOST s.records, JournalFull RECORDS_MOST) ∷ [])
 other_rules s c stays =
-    ap (λ b. first_refusal (cond b (limits (s.generation + 1) (checkpoint_length (image (after s c)))) ((nat_le RECORDS_MOST s.records, JournalFull RECORDS_MOST) ∷ []))) stays
+    ap (λ b. first_refusal (cond b (limits (s.generation + 1) (checkpoint_length (image (after s c))))
+    ((nat_le RECORDS_MOST s.records, JournalFull RECORDS_MOST) ∷ []))) stays
 
-module _ (s : State) (c : Command) (is : c.call ≡ Rotate) (generation bytes : ℕ) (next : generation ≡ s.generation + 1) where
-  pub past_generations : GENERATIONS_MOST < generation → Some (AmountLimit generation GENERATIONS_MOST) ≡ first_refusal (room_rules s c)
+module _ (s : State) (c : Command) (is : c.call ≡ Rotate) (generation bytes : ℕ) (next : generation
+    ≡ s.generation + 1) where
+  pub past_generations : GENERATIONS_MOST < generation → Some (AmountLimit generation GENERATIONS_MOST)
+      ≡ first_refusal (room_rules s c)
   past_generations late =
       let length_is = checkpoint_length (image (after s c)) in
       let over : nat_lt GENERATIONS_MOST generation ≡ true = grind (arith, nat_tests, late) in
-      sym (ap (λ b. cond b (Some (AmountLimit generation GENERATIONS_MOST)) (first_refusal (where_above length_is CHECKPOINT_BYTES_MOST AmountLimit ∷ []))) over)
+      sym (ap (λ b. cond b (Some (AmountLimit generation GENERATIONS_MOST))
+      (first_refusal (where_above length_is CHECKPOINT_BYTES_MOST AmountLimit ∷ []))) over)
       ∙ ap (λ n. first_refusal (limits n length_is)) next
       ∙ sym (rotation_rules s c is)
 
@@ -155,12 +176,14 @@ module _ (s : State) (c : Command) (is : c.call ≡ Rotate) (generation bytes : 
     second : first_refusal (where_above bytes CHECKPOINT_BYTES_MOST AmountLimit ∷ []) ≡ first_refusal (room_rules s c)
     second =
         let within : nat_lt GENERATIONS_MOST generation ≡ false = grind (arith, nat_tests, soon) in
-        sym (ap (λ b. cond b (Some (AmountLimit generation GENERATIONS_MOST)) (first_refusal (where_above bytes CHECKPOINT_BYTES_MOST AmountLimit ∷ []))) within)
+        sym (ap (λ b. cond b (Some (AmountLimit generation GENERATIONS_MOST))
+        (first_refusal (where_above bytes CHECKPOINT_BYTES_MOST AmountLimit ∷ []))) within)
         ∙ ap (λ n. first_refusal (limits generation n)) long
         ∙ ap (λ n. first_refusal (limits n (checkpoint_length (image (after s c))))) next
         ∙ sym (rotation_rules s c is)
 
-    pub past_bytes : CHECKPOINT_BYTES_MOST < bytes → Some (AmountLimit bytes CHECKPOINT_BYTES_MOST) ≡ first_refusal (room_rules s c)
+    pub past_bytes : CHECKPOINT_BYTES_MOST < bytes → Some (AmountLimit bytes CHECKPOINT_BYTES_MOST)
+        ≡ first_refusal (room_rules s c)
     past_bytes large =
         let over : nat_lt CHECKPOINT_BYTES_MOST bytes ≡ true = grind (arith, nat_tests, large) in
         sym (ap (λ b. cond b (Some (AmountLimit bytes CHECKPOINT_BYTES_MOST)) None) over) ∙ second
@@ -173,25 +196,44 @@ module _ (s : State) (c : Command) (is : c.call ≡ Rotate) (generation bytes : 
 -- ---- the rotation is made
 
 abbrev turned_inside : Inside → Generation → WithRoom Client → Inside
-turned_inside p next clients = record p { generation = next.number; limit = next.limit; records = next.records; clients = clients }
+turned_inside p next clients = record p {
+  generation = next.number;
+  limit = next.limit;
+  records = next.records;
+  clients = clients;
+}
 
-module _ (p : Inside) (sound : IsSound p) (c : Command) (done : Done) (is : c.call ≡ Rotate) (allowed : ruling (state_of (core_of p)) c ≡ Allowed)
-    (made : done ≡ done_of (state_of (core_of p)) c.call) (next : Generation) (follows : next ≡ next_generation (current (core_of p))) (clients : WithRoom Client)
-    (wrote : clients.rows ≡ written is_used_client p.clients.rows c.client (record { last = c.number; kept = done })) where
+module _ (p : Inside) (sound : IsSound p) (c : Command) (done : Done) (is : c.call
+    ≡ Rotate) (allowed : ruling (state_of (core_of p)) c ≡ Allowed)
+    (made : done ≡ done_of (state_of (core_of p)) c.call) (next : Generation) (follows : next
+    ≡ next_generation (current (core_of p))) (clients : WithRoom Client)
+    (wrote : clients.rows ≡ written is_used_client p.clients.rows c.client (record {
+      last = c.number;
+      kept = done;
+    })) where
   next_image : (core_of (turned_inside p next clients)).image ≡ image (after (state_of (core_of p)) c)
   next_image =
       let row : Client = record { last = c.number; kept = done } in
       let number = allowed_number (state_of (core_of p)) c allowed in
       let rows = wrote ∙ kept_rows p.clients.rows c.client row (omega (arith, number)) in
-      ap (λ (g : Generation). record (core_of p).image { generation = g.number; limit = g.limit; clients = clients.rows }) follows
-      ∙ ap (λ (t : Table Client). record (core_of p).image { generation = p.generation + 1; limit = LIM; clients = t }) rows
+      ap (λ (g : Generation). record (core_of p).image {
+        generation = g.number;
+        limit = g.limit;
+        clients = clients.rows;
+      }) follows
+      ∙ ap (λ (t : Table Client). record (core_of p).image {
+        generation = p.generation + 1;
+        limit = LIM;
+        clients = t;
+      }) rows
       ∙ ap (λ (d : Done). turned (core_of p).image c.client (record { last = c.number; kept = d })) made
       ∙ sym (turned_core (core_of p) sound.image c is)
 
   next_records : (after (state_of (core_of p)) c).records ≡ next.records
   next_records = turned_records (state_of (core_of p)) c is ∙ sym (ap (λ (g : Generation). g.records) follows)
 
-  pub turned_stands : (old : Core) → core_of p ≡ old → StandsFor (core_of (turned_inside p next clients)) (after (state_of old) c)
+  pub turned_stands : (old : Core) → core_of p ≡ old
+      → StandsFor (core_of (turned_inside p next clients)) (after (state_of old) c)
   turned_stands = made_stands p (turned_inside p next clients) sound c allowed next_image next_records
 
   pub turned_sound : IsSound (turned_inside p next clients)

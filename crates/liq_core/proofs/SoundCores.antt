@@ -35,13 +35,23 @@ module _ (core : Core) (h : IsSoundImage core.image core.records) where
   -- whatever the core keeps, its sound image makes it stand for the state that begins with it
   pub sound_stands : StandsFor core (state_of core)
   sound_stands =
-      record { image = sym image_back; records = refl; formed = started_formed core.image (finished_before core.image core.records h) }
+      record {
+        image = sym image_back;
+        records = refl;
+        formed = started_formed core.image
+            (finished_before core.image core.records h);
+      }
 
   pub core_facts : SoundFacts (state_of core)
   core_facts = sound_facts (state_of core) (started_with core.image core.records h)
 
   pub core_finds : Finds (state_of core)
-  core_finds = record { stands = core_facts.stands; balanced = core_facts.balanced; limited = core_facts.limited; ranges = core_facts.ranges }
+  core_finds = record {
+    stands = core_facts.stands;
+    balanced = core_facts.balanced;
+    limited = core_facts.limited;
+    ranges = core_facts.ranges;
+  }
 
   -- ---- what is read
 
@@ -70,14 +80,16 @@ module _ (core : Core) (h : IsSoundImage core.image core.records) where
       let part = lusd_within core.image.wallets account in
       omega (arith, part, wallets_within)
     where
-      lusd_within : (table : Table Wallet) (account : ℕ) → (wallet_in table account).lusd ≤ sum_by (λ (w : Wallet). w.lusd) (values_of table)
+      lusd_within : (table : Table Wallet) (account : ℕ) → (wallet_in table account).lusd
+          ≤ sum_by (λ (w : Wallet). w.lusd) (values_of table)
       lusd_within table account =
           let part = sum_by-remove_entry (λ (w : Wallet). w.lusd) (is_at (nat_cmp account)) table in
           let had = read_or (λ (w : Wallet). w.lusd) refl (at table account) in
           omega (arith, part, had)
 
   -- a wallet that is paid what another one was charged stays within the limit
-  pub sent_within : (from to lusd : ℕ) → lusd ≤ (wallet_in core.image.wallets from).lusd → (wallet_in (charged_in core.image.wallets from 0 lusd) to).lusd + lusd ≤ LIM
+  pub sent_within : (from to lusd : ℕ) → lusd ≤ (wallet_in core.image.wallets from).lusd
+      → (wallet_in (charged_in core.image.wallets from 0 lusd) to).lusd + lusd ≤ LIM
   sent_within from to lusd enough =
       let table = charged_in core.image.wallets from 0 lusd in
       let part = sum_by-remove_entry (λ (w : Wallet). w.lusd) (is_at (nat_cmp to)) table in
@@ -104,15 +116,21 @@ module _ (core : Core) (h : IsSoundImage core.image core.records) where
       subst (λ n. IsSoundImage (image t) n) r.records made.sound
 
   -- price, time, what is inside and wallets are the only words of an image that payments write
-  pub plain_image : (price minute brought : ℕ) (wallets : Table Wallet) → record core.image { price = price; minute = minute; brought = brought; wallets = wallets } ≡ image (record (state_of core) { price = price; minute = minute; brought = brought; wallets = wallets })
+  pub plain_image : (price minute brought : ℕ) (wallets : Table Wallet)
+      → record core.image { price = price; minute = minute; brought = brought; wallets = wallets }
+      ≡ image (record (state_of core) { price = price; minute = minute; brought = brought; wallets = wallets })
   plain_image price minute brought wallets =
-      ap (λ (i : Image). record i { price = price; minute = minute; brought = brought; wallets = wallets }) (sym image_back)
+      ap (λ (i : Image). record i { price = price; minute = minute; brought = brought; wallets = wallets })
+      (sym image_back)
 
-pub sound_after : (p q : Inside) (old : Core) (call : Call) → core_of p ≡ old → IsSound p → Leaves 0 (state_of old) (effect (state_of old) call) → Changes old call (core_of q) → q.order.entries ≡ order_by q.troves.table.rows → IsSound q
+pub sound_after : (p q : Inside) (old : Core) (call : Call) → core_of p ≡ old → IsSound p
+    → Leaves 0 (state_of old) (effect (state_of old) call) → Changes old call (core_of q)
+    → q.order.entries ≡ order_by q.troves.table.rows → IsSound q
 sound_after p q old call view sound left made order =
     let h = subst (λ (core : Core). IsSoundImage core.image core.records) view sound.image in
     let kept = left_sound old h (effect (state_of old) call) left in
     record {
-      image = subst (λ (i : Image). IsSoundImage i q.records) (sym made.image) (subst (λ n. IsSoundImage (image (effect (state_of old) call)) n) (sym made.records) kept);
+      image = subst (λ (i : Image). IsSoundImage i q.records) (sym made.image)
+          (subst (λ n. IsSoundImage (image (effect (state_of old) call)) n) (sym made.records) kept);
       order = order;
     }

@@ -36,35 +36,52 @@ use Rattle.liq_rules.proofs.Allowed.{effect-records}
 use Rattle.liq_core.proofs.SoundCores.{sound_stands}
 
 -- a state for which a core stands is the same as the one that begins with the core's image
-pub standing_alike : (core : Core) (s : State) → IsSoundImage core.image core.records → StandsFor core s → Alike s (state_of core)
+pub standing_alike : (core : Core) (s : State) → IsSoundImage core.image core.records → StandsFor core s
+    → Alike s (state_of core)
 standing_alike core s sound h =
     let itself = sound_stands core sound in
-    record { image = sym h.image ∙ itself.image; records = sym h.records ∙ itself.records; left = h.formed; right = itself.formed }
+    record {
+      image = sym h.image ∙ itself.image;
+      records = sym h.records ∙ itself.records;
+      left = h.formed;
+      right = itself.formed;
+    }
 
-pub standing_ruling : (core : Core) (s : State) (c : Command) → IsSoundImage core.image core.records → StandsFor core s → ruling s c ≡ ruling (state_of core) c
+pub standing_ruling : (core : Core) (s : State) (c : Command) → IsSoundImage core.image core.records → StandsFor core s
+    → ruling s c ≡ ruling (state_of core) c
 standing_ruling core s c sound h = ruling_alike (standing_alike core s sound h) c
 
 -- a core that stands for a state stands for what the call makes of it, once it is changed
-pub changed_stands : (old new : Core) (call : Call) → IsSoundImage old.image old.records → Changes old call new → (s : State) → StandsFor old s → StandsFor new (effect s call)
+pub changed_stands : (old new : Core) (call : Call) → IsSoundImage old.image old.records → Changes old call new
+    → (s : State) → StandsFor old s → StandsFor new (effect s call)
 changed_stands old new call sound made s h =
     let e = effect_alike (standing_alike old s sound h) call in
-    record { image = made.image ∙ sym e.image; records = made.records ∙ h.records ∙ sym (effect-records s call); formed = e.left }
+    record {
+      image = made.image ∙ sym e.image;
+      records = made.records ∙ h.records ∙ sym (effect-records s call);
+      formed = e.left;
+    }
 
 -- and once the whole command is made, for the step
-pub stepped_stands : (old new : Core) (c : Command) → IsSoundImage old.image old.records → ruling (state_of old) c ≡ Allowed → StandsFor new (after (state_of old) c) → (s : State) → StandsFor old s → StandsFor new (step s (Do c)).0
+pub stepped_stands : (old new : Core) (c : Command) → IsSoundImage old.image old.records
+    → ruling (state_of old) c ≡ Allowed → StandsFor new (after (state_of old) c) → (s : State) → StandsFor old s
+    → StandsFor new (step s (Do c)).0
 stepped_stands old new c sound allowed made s h =
     let its = subst (λ (r : Ruling). StandsFor new (after_ruling (state_of old) c r).0) (sym allowed) made in
     let e = step_alike (standing_alike old s sound h) (Do c) in
     record { image = its.image ∙ sym e.image; records = its.records ∙ sym e.records; formed = e.left }
 
 -- what is planned for one state holds for each that is the same
-pub terms_alike : {s t : State} → Alike s t → (call : Call) (terms : Terms) → AreTerms t call terms → AreTerms s call terms
+pub terms_alike : {s t : State} → Alike s t → (call : Call) (terms : Terms) → AreTerms t call terms
+    → AreTerms s call terms
 terms_alike {s} {t} h (Open account coll borrow bound hint) terms are =
     subst (λ (m : Market). IsTrove (opening_terms m coll borrow) terms) (sym (market_alike h)) are
 terms_alike {s} {t} h (Adjust account coll_in coll_out borrow repay bound hint) terms are =
     let change : Change = record { coll_in = coll_in; coll_out = coll_out; borrow = borrow; repay = repay } in
-    subst (λ (m : Market). IsTrove (adjusting_terms m (or_nothing (entire_of s account)) change) terms) (sym (market_alike h))
-    (subst (λ (o : Option (ℕ × ℕ)). IsTrove (adjusting_terms (market_of t) (or_nothing o) change) terms) (sym (entire_alike h account)) are)
+    subst (λ (m : Market). IsTrove (adjusting_terms m (or_nothing (entire_of s account)) change) terms)
+    (sym (market_alike h))
+    (subst (λ (o : Option (ℕ × ℕ)). IsTrove (adjusting_terms (market_of t) (or_nothing o) change) terms)
+    (sym (entire_alike h account)) are)
 terms_alike {s} {t} h (Close account) terms are =
     subst (λ (o : Option (ℕ × ℕ)). IsClosing (closing_terms (or_nothing o)) terms) (sym (entire_alike h account)) are
 terms_alike h (Price price) terms are = are
@@ -75,17 +92,22 @@ terms_alike h (Send from to lusd) terms are = are
 terms_alike h (Provide account lusd) terms are = are
 terms_alike h (Withdraw account lusd) terms are = are
 terms_alike {s} {t} h (GainToTrove account hint) terms are =
-    subst (λ (m : Market). IsTrove (gaining_terms m (or_nothing (entire_of s account)) (gain_of s account)) terms) (sym (market_alike h))
-    (subst (λ (o : Option (ℕ × ℕ)). IsTrove (gaining_terms (market_of t) (or_nothing o) (gain_of s account)) terms) (sym (entire_alike h account))
-    (subst (λ n. IsTrove (gaining_terms (market_of t) (or_nothing (entire_of t account)) n) terms) (sym (gain_alike h account)) are))
-terms_alike h (Liquidate liquidator account) terms are = are ∙ sym (ap (λ (made : Result One Refusal). listed (victim_by account made)) (one_alike h account))
+    subst (λ (m : Market). IsTrove (gaining_terms m (or_nothing (entire_of s account)) (gain_of s account)) terms)
+    (sym (market_alike h))
+    (subst (λ (o : Option (ℕ × ℕ)). IsTrove (gaining_terms (market_of t) (or_nothing o) (gain_of s account)) terms)
+    (sym (entire_alike h account))
+    (subst (λ n. IsTrove (gaining_terms (market_of t) (or_nothing (entire_of t account)) n) terms)
+    (sym (gain_alike h account)) are))
+terms_alike h (Liquidate liquidator account) terms are = are
+    ∙ sym (ap (λ (made : Result One Refusal). listed (victim_by account made)) (one_alike h account))
 terms_alike h (LiquidateLowest liquidator count) terms are = are ∙ sym (lowest_alike count h)
 terms_alike {s} {t} h (Redeem account lusd bound hint) terms are =
     subst (λ (taken : RedeemTerms). IsRedeeming taken terms) (sym (redeeming_alike h lusd)) are
 terms_alike h (Claim account) terms are = are
 terms_alike h Rotate terms are = are
 
-pub planned_alike : {s t : State} → Alike s t → (c : Command) (forecast : Forecast) → ruling s c ≡ Allowed → IsForecast t c.call forecast → IsPlan s (plan_of c forecast)
+pub planned_alike : {s t : State} → Alike s t → (c : Command) (forecast : Forecast) → ruling s c ≡ Allowed
+    → IsForecast t c.call forecast → IsPlan s (plan_of c forecast)
 planned_alike h c forecast allowed f =
     record {
       allowed = allowed;

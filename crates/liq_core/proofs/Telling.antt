@@ -31,18 +31,24 @@ books_by i =
     }
 
 module _ (core : Core) (h : IsSoundImage core.image core.records) (account : ℕ) where
-  told_at : trove_info (state_of core) (at (state_of core).troves account) ≡ trove_told core.image (at core.image.troves account)
-  told_at = trove_told_at (state_of core) account ∙ ap (λ (i : Image). trove_told i (at i.troves account)) (image_back core h)
+  told_at : trove_info (state_of core) (at (state_of core).troves account)
+      ≡ trove_told core.image (at core.image.troves account)
+  told_at = trove_told_at (state_of core) account ∙ ap (λ (i : Image). trove_told i (at i.troves account))
+      (image_back core h)
 
-  pub told_none : at core.image.troves account ≡ None → info.NoTrove ≡ trove_info (state_of core) (at (state_of core).troves account)
+  pub told_none : at core.image.troves account ≡ None
+      → info.NoTrove ≡ trove_info (state_of core) (at (state_of core).troves account)
   unfolding trove_told
   told_none none = sym (told_at ∙ ap (trove_told core.image) none)
 
-  pub told_some : (t : Trove) → at core.image.troves account ≡ Some t → info.Trove (entire_by (sums_by core.image) t).0 (entire_by (sums_by core.image) t).1 t.stake ≡ trove_info (state_of core) (at (state_of core).troves account)
+  pub told_some : (t : Trove) → at core.image.troves account ≡ Some t
+      → info.Trove (entire_by (sums_by core.image) t).0 (entire_by (sums_by core.image) t).1 t.stake
+      ≡ trove_info (state_of core) (at (state_of core).troves account)
   unfolding trove_told
   told_some t there = sym (told_at ∙ ap (trove_told core.image) there)
 
-  pub entire_fits : (t : Trove) → at core.image.troves account ≡ Some t → ((entire_by (sums_by core.image) t).0 < 2 ^ 64) × ((entire_by (sums_by core.image) t).1 < 2 ^ 64)
+  pub entire_fits : (t : Trove) → at core.image.troves account ≡ Some t
+      → ((entire_by (sums_by core.image) t).0 < 2 ^ 64) × ((entire_by (sums_by core.image) t).1 < 2 ^ 64)
   entire_fits t there =
       let stand = subst TrovesStand (ap books_by (image_back core h)) core_facts_stand in
       let e = entire_within (books_by core.image) account t there stand in
@@ -55,11 +61,17 @@ module _ (core : Core) (h : IsSoundImage core.image core.records) (account : ℕ
       core_facts_stand = (core_facts core h).stands.troves
 
 abbrev system_by : Market → ℕ → ℕ → Info
-system_by k n r = info.System (k.price ∷ k.minute ∷ k.base ∷ k.fee_minute ∷ (if is_recovery k then 1 else 0) ∷ k.troves ∷ n ∷ k.total_coll ∷ k.total_debt ∷ r ∷ [])
+system_by k n r = info.System (k.price ∷ k.minute ∷ k.base ∷ k.fee_minute ∷ (if is_recovery k then 1 else 0) ∷ k.troves
+    ∷ n ∷ k.total_coll ∷ k.total_debt ∷ r ∷ [])
 
-pub system_told : (core : Core) → IsSoundImage core.image core.records → (m : Market) (mode stakes records : ℕ) → m ≡ market_of (state_of core) → mode ≡ (if is_recovery m then 1 else 0) → stakes ≡ core.image.stakes → records ≡ core.records → info.System (m.price ∷ m.minute ∷ m.base ∷ m.fee_minute ∷ mode ∷ m.troves ∷ stakes ∷ m.total_coll ∷ m.total_debt ∷ records ∷ []) ≡ info.System (system (state_of core))
+pub system_told : (core : Core) → IsSoundImage core.image core.records → (m : Market) (mode stakes records : ℕ)
+    → m ≡ market_of (state_of core) → mode ≡ (if is_recovery m then 1 else 0) → stakes ≡ core.image.stakes
+    → records ≡ core.records → info.System (m.price ∷ m.minute ∷ m.base ∷ m.fee_minute ∷ mode ∷ m.troves ∷ stakes
+    ∷ m.total_coll ∷ m.total_debt ∷ records ∷ []) ≡ info.System (system (state_of core))
 system_told core h m mode stakes records is moded staked counted =
-    ap (λ n. info.System (m.price ∷ m.minute ∷ m.base ∷ m.fee_minute ∷ n ∷ m.troves ∷ stakes ∷ m.total_coll ∷ m.total_debt ∷ records ∷ [])) moded
+    ap (λ n. info.System (m.price ∷ m.minute ∷ m.base ∷ m.fee_minute ∷ n ∷ m.troves ∷ stakes ∷ m.total_coll
+    ∷ m.total_debt ∷ records ∷ [])) moded
     ∙ ap (λ (k : Market). system_by k stakes records) is
-    ∙ ap (λ n. system_by (market_of (state_of core)) n records) (staked ∙ sym (ap (λ (i : Image). i.stakes) (image_back core h)))
+    ∙ ap (λ n. system_by (market_of (state_of core)) n records) (staked
+    ∙ sym (ap (λ (i : Image). i.stakes) (image_back core h)))
     ∙ ap (λ n. system_by (market_of (state_of core)) (image (state_of core)).stakes n) counted

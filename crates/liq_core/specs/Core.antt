@@ -10,8 +10,8 @@ use Rattle.liq_turns.specs.declared.generation.Generation.{Generation}
 use Rattle.liq_rules.specs.Image.{image}
 use Rattle.liq_rules.specs.Rules.{effect}
 
--- the keys of each table at which a row can be written without memory, and for how many more troves the list has room
--- and for how many more finished sums the Stability Pool
+-- the keys of each table at which a row can be written without memory, and for how many more troves
+-- the list has room and for how many more finished sums the Stability Pool
 pub record Room : Type 0 where
   pub wallets : List ℕ
   pub troves : List ℕ
@@ -48,7 +48,11 @@ state_of core = record (started core.image) { records = core.records }
 
 -- the generation of its journal, as far as it has come
 abbrev pub current : Core → Generation
-current core = record { number = core.image.generation; limit = core.image.limit; records = core.records }
+current core = record {
+  number = core.image.generation;
+  limit = core.image.limit;
+  records = core.records;
+}
 
 -- the core has the state's image and its records, and the state is one that the rules can reach
 pub record StandsFor (core : Core) (s : State) : Type 0 where

@@ -7,7 +7,14 @@ use Rattle.liq_stability.specs.declared.words.PoolWords.{PoolWords}
 
 -- the words of the Stability Pool
 abbrev pub words_by : Image → PoolWords
-words_by i = record { p = i.p; scale = i.scale; epoch = i.epoch; sum = i.sum; total = i.total; coll = i.pool_coll }
+words_by i = record {
+  p = i.p;
+  scale = i.scale;
+  epoch = i.epoch;
+  sum = i.sum;
+  total = i.total;
+  coll = i.pool_coll;
+}
 
 -- a trove whose key fits the ordered list
 pub record HasKey (t : Trove) : Type 0 where

@@ -54,7 +54,8 @@ pub record IsPlan (s : State) (plan : Plan) : Type 0 where
 abbrev pub IsPlannedOn : Core → Plan → Type 0
 IsPlannedOn core plan = (s : State) → StandsFor core s → IsPlan s plan
 
--- room for what a call writes: for each trove that is liquidated also a sum of the Stability Pool that it may finish
+-- room for what a call writes: for each trove that is liquidated also a sum of the Stability Pool
+-- that it may finish
 abbrev pub room_of_call : Call → Terms → Room
 room_of_call call terms =
     record {
@@ -69,13 +70,15 @@ room_of_call call terms =
 
 -- room for all that a planned command writes
 abbrev pub room_for : Plan → Room
-room_for plan = record (room_of_call plan.command.call plan.terms) { clients = plan.command.client ∷ [] }
+room_for plan =
+    record (room_of_call plan.command.call plan.terms) { clients = plan.command.client ∷ [] }
 
 -- there is a row for all that the planned command writes
 abbrev pub HasRoom : Core → Plan → Type 0
 HasRoom core plan = IsWithin (room_for plan) core.room
 
--- what holds of every planned command: its client and its accounts are in range, and its terms are those of its verb
+-- what holds of every planned command: its client and its accounts are in range, and its terms are
+-- those of its verb
 pub record IsSoundPlan (plan : Plan) : Type 0 where
   pub client : plan.command.client < ACCOUNTS
   pub accounts : AllByRecursion (λ account. account < ACCOUNTS) (accounts plan.command.call)

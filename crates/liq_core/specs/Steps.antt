@@ -51,7 +51,8 @@ cuts_in _ = []
 -- the entry that a call puts last, as it is found in the list
 abbrev pub entry_put : Call → Terms → List Ranked → Option Ranked
 entry_put (Open account coll borrow bound words) made list = entry_in list account
-entry_put (Adjust account coll_in coll_out borrow repay bound words) made list = entry_in list account
+entry_put (Adjust account coll_in coll_out borrow repay bound words) made list =
+    entry_in list account
 entry_put (GainToTrove account words) made list = entry_in list account
 entry_put (Redeem account lusd bound words) made list = last_entry list (cuts_in made)
 entry_put call made list = None

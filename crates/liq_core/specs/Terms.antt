@@ -54,16 +54,26 @@ victims_in (terms.Victims victims) = victims.items
 victims_in _ = []
 
 abbrev pub AreTerms : State → Call → Terms → Type 0
-AreTerms s (Open account coll borrow bound hint) terms = IsTrove (opening_terms (market_of s) coll borrow) terms
+AreTerms s (Open account coll borrow bound hint) terms =
+    IsTrove (opening_terms (market_of s) coll borrow) terms
 AreTerms s (Adjust account coll_in coll_out borrow repay bound hint) terms =
-    let change : Change = record { coll_in = coll_in; coll_out = coll_out; borrow = borrow; repay = repay } in
+    let change : Change = record {
+      coll_in = coll_in;
+      coll_out = coll_out;
+      borrow = borrow;
+      repay = repay;
+    } in
     IsTrove (adjusting_terms (market_of s) (or_nothing (entire_of s account)) change) terms
 AreTerms s (GainToTrove account hint) terms =
-    IsTrove (gaining_terms (market_of s) (or_nothing (entire_of s account)) (gain_of s account)) terms
-AreTerms s (Close account) terms = IsClosing (closing_terms (or_nothing (entire_of s account))) terms
-AreTerms s (Liquidate liquidator account) terms = victims_in terms ≡ listed (victim_by account (one s account))
+    IsTrove (gaining_terms (market_of s) (or_nothing (entire_of s account))
+    (gain_of s account)) terms
+AreTerms s (Close account) terms =
+    IsClosing (closing_terms (or_nothing (entire_of s account))) terms
+AreTerms s (Liquidate liquidator account) terms = victims_in terms
+    ≡ listed (victim_by account (one s account))
 AreTerms s (LiquidateLowest liquidator count) terms = victims_in terms ≡ lowest s count
-AreTerms s (Redeem account lusd bound hint) terms = IsRedeeming (redeeming_terms (market_of s) (visited s) lusd) terms
+AreTerms s (Redeem account lusd bound hint) terms =
+    IsRedeeming (redeeming_terms (market_of s) (visited s) lusd) terms
 AreTerms s call terms = terms ≡ Words
 
 -- the terms of a redemption are what it takes

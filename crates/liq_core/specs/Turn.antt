@@ -15,7 +15,8 @@ use Rattle.liq_core.specs.Plan.{IsPlan, IsForecast}
 use Rattle.liq_rules.specs.Lists.{CallPlansList, PlansList, VerbPlansList}
 use Rattle.liq_rules.specs.Step.{Refused, Repeated, ruling, first_refusal, in_range, accounts, rules}
 
--- Planning gives the ruling. Only where a list is planned, all else being passed, may there be no memory for it.
+-- Planning gives the ruling. Only where a list is planned, all else being passed, may there be no
+-- memory for it.
 abbrev pub Plans : State → Command → Result Turn PlanFault → Type 0
 Plans s c (Ok (Again kept)) = ruling s c ≡ Repeated kept
 Plans s c (Ok (New plan)) = (plan.command ≡ c) × IsPlan s plan
@@ -36,12 +37,14 @@ Forecasts s call (Err NoMemory) = VerbPlansList s call
 -- the same of a call whose accounts may be out of range, which is refused first
 abbrev pub ForecastsCall : State → Call → Result Forecast PlanFault → Type 0
 ForecastsCall s call (Ok forecast) =
-    (first_refusal (map in_range (accounts call) ++ rules s call) ≡ None) × IsForecast s call forecast
-ForecastsCall s call (Err (No refusal)) = first_refusal (map in_range (accounts call) ++ rules s call) ≡ Some refusal
+    (first_refusal (map in_range (accounts call) ++ rules s call) ≡ None)
+    × IsForecast s call forecast
+ForecastsCall s call (Err (No refusal)) = first_refusal (map in_range (accounts call)
+    ++ rules s call) ≡ Some refusal
 ForecastsCall s call (Err NoMemory) = CallPlansList s call
 
--- The reply that was kept of a command that comes again; nothing, where it is its client's next one. Any other is
--- refused.
+-- The reply that was kept of a command that comes again; nothing, where it is its client's next
+-- one. Any other is refused.
 abbrev pub IsKept : State → Command → Result (Option Done) Refusal → Type 0
 IsKept s c (Ok None) = (c.client < ACCOUNTS) × (c.number ≡ (client_of s c.client).last + 1)
 IsKept s c (Ok (Some kept)) = ruling s c ≡ Repeated kept

@@ -1,4 +1,5 @@
-//! Which accounts have a trove, a deposit or a wallet, a client's next number, and how long a checkpoint is.
+//! Which accounts have a trove, a deposit or a wallet, a client's next number, and how long a
+//! checkpoint is.
 
 ghost use Rattle.std.specs.Prelude.{◌≡◌, ◌<◌, ◌^◌, IfOk, drop, length};
 ghost use Rattle.liq_types.specs.Length.{checkpoint_length};
@@ -14,8 +15,9 @@ use liq_order::Order;
 use liq_types::{DepositRows, NoMemory, RowCounts, WalletRows};
 
 impl Protocol {
-    /// Writes the accounts of the troves into places, from the lowest ratio on: those behind the first `passed`, as many as there
-    /// are places for. The other places stay. Tells how many troves there are.
+    /// Writes the accounts of the troves into places, from the lowest ratio on: those behind the
+    /// first `passed`, as many as there are places for. The other places stay. Tells how many
+    /// troves there are.
     pub fn trove_accounts(&self, passed: usize, places: &mut [u32]) -> u64
         ensures count { result ≡ length self.now.list }
         ensures written { places.new ≡ laid (drop passed (from_last self.now.list)) places.old }

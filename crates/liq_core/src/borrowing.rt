@@ -40,7 +40,8 @@ impl Protocol {
     /// Where a trove with these amounts will stand in the list.
     pub(crate) fn standing(&self, account: u32, coll: u64, debt: u64) -> ListChange
         requires { 1 ≤ coll }
-        ensures { result ≡ Put (key_by (set_row (sums_words (state_of self.now)) coll debt)) account }
+        ensures { result ≡ Put (key_by (set_row (sums_words (state_of self.now)) coll debt))
+            account }
     {
         let row = self.troves.row_for(coll, debt);
         ListChange::Put {
@@ -56,7 +57,8 @@ impl Protocol {
         borrow: u64,
         bound: u64,
     ) -> Result<Forecast, Refusal>
-        ensures { (hint : HintWords) → IsRuled (state_of self.now) (call.Open account coll borrow bound hint) result }
+        ensures { (hint : HintWords)
+            → IsRuled (state_of self.now) (call.Open account coll borrow bound hint) result }
     {
         let exists = self.troves.get(account).is_some();
         let wallet = self.wallet(account);
@@ -86,7 +88,9 @@ impl Protocol {
         change: &Change,
         bound: u64,
     ) -> Result<Forecast, Refusal>
-        ensures { (hint : HintWords) → IsRuled (state_of self.now) (call.Adjust account change.now.coll_in change.now.coll_out change.now.borrow change.now.repay bound hint) result }
+        ensures { (hint : HintWords)
+            → IsRuled (state_of self.now) (call.Adjust account change.now.coll_in
+            change.now.coll_out change.now.borrow change.now.repay bound hint) result }
     {
         // Where no field is used, nothing is known of the protocol.
         let _ = &self.records;
@@ -121,7 +125,8 @@ impl Protocol {
         })
     }
 
-    /// Opens the account's trove as it is planned: its collateral leaves the wallet, and what is borrowed comes into it.
+    /// Opens the account's trove as it is planned: its collateral leaves the wallet, and what is
+    /// borrowed comes into it.
     pub(crate) fn open_trove<L: Ledger>(
         &mut self,
         account: u32,
@@ -130,14 +135,19 @@ impl Protocol {
         hint: &Hint,
         steps: &mut Steps<L>,
     )
-        requires allowed { (bound : ℕ) × (words : HintWords) × (first_refusal (rules (state_of self.old) (call.Open account plan.now.coll borrow bound words)) ≡ None) }
-        requires terms { plan.now ≡ opening_terms (market_of (state_of self.old)) plan.now.coll borrow }
+        requires allowed { (bound : ℕ) × (words : HintWords)
+            × (first_refusal (rules (state_of self.old) (call.Open account plan.now.coll borrow
+            bound words)) ≡ None) }
+        requires terms { plan.now ≡ opening_terms (market_of (state_of self.old)) plan.now.coll
+            borrow }
         requires range { account < ACCOUNTS }
         requires wallet { Contains self.old.room.wallets account }
         requires trove { Contains self.old.room.troves account }
         requires list { 1 ≤ self.old.room.list }
-        ensures made { (bound : ℕ) → (words : HintWords) → Changes self.old (call.Open account plan.now.coll borrow bound words) self.new }
-        ensures few { TakesFew self.new.list hint.now (entry_in self.new.list account) steps.old steps.new }
+        ensures made { (bound : ℕ) → (words : HintWords)
+            → Changes self.old (call.Open account plan.now.coll borrow bound words) self.new }
+        ensures few { TakesFew self.new.list hint.now (entry_in self.new.list account) steps.old
+            steps.new }
         ensures any { steps.new ≤ steps.old + (length self.old.list + 4) }
     {
         let coll = plan.coll;
@@ -166,12 +176,18 @@ impl Protocol {
         hint: &Hint,
         steps: &mut Steps<L>,
     )
-        requires allowed { (bound : ℕ) × (words : HintWords) × (first_refusal (rules (state_of self.old) (call.Adjust account change.now.coll_in change.now.coll_out change.now.borrow change.now.repay bound words)) ≡ None) }
-        requires terms { plan.now ≡ adjusting_terms (market_of (state_of self.old)) (or_nothing (entire_of (state_of self.old) account)) change.now }
+        requires allowed { (bound : ℕ) × (words : HintWords)
+            × (first_refusal (rules (state_of self.old) (call.Adjust account change.now.coll_in
+            change.now.coll_out change.now.borrow change.now.repay bound words)) ≡ None) }
+        requires terms { plan.now ≡ adjusting_terms (market_of (state_of self.old))
+            (or_nothing (entire_of (state_of self.old) account)) change.now }
         requires range { account < ACCOUNTS }
         requires room { Contains self.old.room.wallets account }
-        ensures made { (bound : ℕ) → (words : HintWords) → Changes self.old (call.Adjust account change.now.coll_in change.now.coll_out change.now.borrow change.now.repay bound words) self.new }
-        ensures few { TakesFew self.new.list hint.now (entry_in self.new.list account) steps.old steps.new }
+        ensures made { (bound : ℕ) → (words : HintWords)
+            → Changes self.old (call.Adjust account change.now.coll_in change.now.coll_out
+            change.now.borrow change.now.repay bound words) self.new }
+        ensures few { TakesFew self.new.list hint.now (entry_in self.new.list account) steps.old
+            steps.new }
         ensures any { steps.new ≤ steps.old + (length self.old.list + 4) }
     {
         self.wallets.exchange(
@@ -191,10 +207,12 @@ impl Protocol {
         change_trove(pools, troves, &mut self.order, account, plan, hint, steps);
     }
 
-    /// Closes the account's trove: its debt beside the reserve is repaid, the reserve is burned, and its collateral returns.
+    /// Closes the account's trove: its debt beside the reserve is repaid, the reserve is burned,
+    /// and its collateral returns.
     pub(crate) fn close_trove(&mut self, account: u32, repaid: u64, coll: u64)
         requires allowed { first_refusal (rules (state_of self.old) (call.Close account)) ≡ None }
-        requires terms { (repaid, coll) ≡ closing_terms (or_nothing (entire_of (state_of self.old) account)) }
+        requires terms { (repaid, coll)
+            ≡ closing_terms (or_nothing (entire_of (state_of self.old) account)) }
         requires range { account < ACCOUNTS }
         requires room { Contains self.old.room.wallets account }
         ensures { Changes self.old (call.Close account) self.new }

@@ -1,4 +1,5 @@
-//! The Stability Pool's depositors: LUSD is provided and withdrawn, and a gain moves into its owner's trove.
+//! The Stability Pool's depositors: LUSD is provided and withdrawn, and a gain moves into its
+//! owner's trove.
 
 ghost use Rattle.std.specs.Prelude.{◌≡◌, ◌≤◌, ◌<◌, ◌+◌, is_none, None, length};
 ghost use Rattle.std.specs.List.{Contains};
@@ -31,7 +32,10 @@ use std::sync::ledger::Ledger;
 impl Protocol {
     /// Balance (micro-LUSD) and gain (gwei) of an account, which has nothing without a deposit.
     pub(crate) fn position(&self, account: u32) -> (u64, u64)
-        ensures position { result ≡ (balance_of (state_of self.now) account, gain_of (state_of self.now) account) }
+        ensures position { result ≡ (
+          balance_of (state_of self.now) account,
+          gain_of (state_of self.now) account,
+        ) }
         ensures lusd { result.0 + (wallet_of (state_of self.now) account).lusd ≤ LIM }
         ensures coll { (or_nothing (entire_of (state_of self.now) account)).0 + result.1 ≤ LIM }
     {
@@ -103,7 +107,8 @@ impl Protocol {
 
     /// `TroveUnder`: the last trove of the list is below the least ratio.
     fn no_trove_under(&self) -> Result<(), Refusal>
-        ensures { result ≡ ruled (trove_under (state_of self.now) (last_trove (state_of self.now))) }
+        ensures { result
+            ≡ ruled (trove_under (state_of self.now) (last_trove (state_of self.now))) }
     {
         let Some(account) = self.order.last() else {
             return Ok(());
@@ -123,7 +128,8 @@ impl Protocol {
     }
 
     pub(crate) fn plan_gain_to_trove(&self, account: u32) -> Result<Forecast, Refusal>
-        ensures { (hint : HintWords) → IsRuled (state_of self.now) (call.GainToTrove account hint) result }
+        ensures { (hint : HintWords) → IsRuled (state_of self.now) (call.GainToTrove account hint)
+            result }
     {
         if self.no_deposit(account) {
             return Err(Refusal::NoDeposit { account });
@@ -150,7 +156,8 @@ impl Protocol {
 
     /// LUSD from the account's wallet into its deposit; its gain comes into the wallet.
     pub(crate) fn provide(&mut self, account: u32, lusd: u64)
-        requires allowed { first_refusal (rules (state_of self.old) (call.Provide account lusd)) ≡ None }
+        requires allowed { first_refusal (rules (state_of self.old) (call.Provide account lusd))
+            ≡ None }
         requires range { account < ACCOUNTS }
         requires wallet { Contains self.old.room.wallets account }
         requires deposit { Contains self.old.room.deposits account }
@@ -169,7 +176,8 @@ impl Protocol {
 
     /// LUSD, no more than there is, and the gain from the account's deposit into its wallet.
     pub(crate) fn withdraw(&mut self, account: u32, lusd: u64)
-        requires allowed { first_refusal (rules (state_of self.old) (call.Withdraw account lusd)) ≡ None }
+        requires allowed { first_refusal (rules (state_of self.old) (call.Withdraw account lusd))
+            ≡ None }
         requires range { account < ACCOUNTS }
         requires room { Contains self.old.room.wallets account }
         ensures { Changes self.old (call.Withdraw account lusd) self.new }
@@ -188,11 +196,16 @@ impl Protocol {
         hint: &Hint,
         steps: &mut Steps<L>,
     )
-        requires allowed { (words : HintWords) × (first_refusal (rules (state_of self.old) (call.GainToTrove account words)) ≡ None) }
-        requires terms { plan.now ≡ gaining_terms (market_of (state_of self.old)) (or_nothing (entire_of (state_of self.old) account)) (gain_of (state_of self.old) account) }
+        requires allowed { (words : HintWords)
+            × (first_refusal (rules (state_of self.old) (call.GainToTrove account words)) ≡ None) }
+        requires terms { plan.now ≡ gaining_terms (market_of (state_of self.old))
+            (or_nothing (entire_of (state_of self.old) account))
+            (gain_of (state_of self.old) account) }
         requires range { account < ACCOUNTS }
-        ensures made { (words : HintWords) → Changes self.old (call.GainToTrove account words) self.new }
-        ensures few { TakesFew self.new.list hint.now (entry_in self.new.list account) steps.old steps.new }
+        ensures made { (words : HintWords)
+            → Changes self.old (call.GainToTrove account words) self.new }
+        ensures few { TakesFew self.new.list hint.now (entry_in self.new.list account) steps.old
+            steps.new }
         ensures any { steps.new ≤ steps.old + (length self.old.list + 4) }
     {
         match self.pool.withdraw(account, 0) {

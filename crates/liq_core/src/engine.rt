@@ -34,8 +34,8 @@ use std::alloc::Global;
 use std::marker::Model;
 use std::sync::ledger::Ledger;
 
-/// The protocol: wallets, troves and their order, the Stability Pool, what owners may claim, pools and fees, time and price, and
-/// the clients.
+/// The protocol: wallets, troves and their order, the Stability Pool, what owners may claim, pools
+/// and fees, time and price, and the clients.
 pub struct Protocol {
     pub(crate) alloc: Global,
     pub(crate) price: u64,
@@ -122,8 +122,8 @@ impl Protocol {
         Protocol::with_limit(alloc, LIM)
     }
 
-    /// The protocol as it opens under one of the two limits. One whose journal is of version 1 opens under the lesser, as
-    /// the program that made the journal has it.
+    /// The protocol as it opens under one of the two limits. One whose journal is of version 1
+    /// opens under the lesser, as the program that made the journal has it.
     pub fn with_limit(alloc: Global, limit: u64) -> Protocol
         requires { IsLimit limit }
         ensures { StandsFor result (opening_with limit) }
@@ -161,8 +161,8 @@ impl Protocol {
         self.generation
     }
 
-    /// The most collateral that may be inside (gwei), and the most LUSD in circulation (micro-LUSD): one of two numbers. A
-    /// rotation makes it the greater.
+    /// The most collateral that may be inside (gwei), and the most LUSD in circulation
+    /// (micro-LUSD): one of two numbers. A rotation makes it the greater.
     pub fn limit(&self) -> u64
         ensures { result ≡ self.now.image.limit }
     {
@@ -197,9 +197,9 @@ impl Protocol {
         }
     }
 
-    /// Rules on a command, and plans it where it is allowed. A refusal is the first whose condition holds, in the order
-    /// of the rules; the last are the journal's limits. Only a list of troves may find no memory, and only where all
-    /// that needs no list is passed.
+    /// Rules on a command, and plans it where it is allowed. A refusal is the first whose condition
+    /// holds, in the order of the rules; the last are the journal's limits. Only a list of troves
+    /// may find no memory, and only where all that needs no list is passed.
     pub fn plan(&self, command: &Command) -> Result<Turn, PlanFault>
         ensures { (s : State) → StandsFor self.now s → Plans s command.now result }
     {
@@ -224,7 +224,8 @@ impl Protocol {
         }))
     }
 
-    /// The reply that was kept of a command that comes again; nothing, where the command is its client's next one.
+    /// The reply that was kept of a command that comes again; nothing, where the command is its
+    /// client's next one.
     fn kept(&self, command: &Command) -> Result<Option<Done>, Refusal>
         ensures { IsKept (state_of self.now) command.now result }
     {
@@ -295,18 +296,23 @@ impl Protocol {
         }
     }
 
-    /// Makes the planned command's step. It takes no memory and cannot fail: the command was planned on this state, and
-    /// its room was reserved. A hint changes neither the reply nor the image nor the list. The command's own one is
-    /// used, where a word of it is there, else the given one. Where an account is put into the list, it takes at most
-    /// four steps with a hint that is tight for it there, and with any other one as many more as there are troves;
-    /// where none is put it takes no steps.
+    /// Makes the planned command's step. It takes no memory and cannot fail: the command was
+    /// planned on this state, and its room was reserved. A hint changes neither the reply nor the
+    /// image nor the list. The command's own one is used, where a word of it is there, else the
+    /// given one. Where an account is put into the list, it takes at most four steps with a hint
+    /// that is tight for it there, and with any other one as many more as there are troves; where
+    /// none is put it takes no steps.
     pub fn apply<L: Ledger>(&mut self, planned: Planned, hint: &Hint, steps: &mut Steps<L>) -> Done
         requires planned { IsPlannedOn self.old planned }
         requires room { HasRoom self.old planned }
-        ensures state { (s : State) → StandsFor self.old s → StandsFor self.new (step s (Do planned.command)).0 }
-        ensures reply { (s : State) → StandsFor self.old s → (step s (Do planned.command)).1 ≡ Said result }
-        ensures list { (s : State) → StandsFor self.old s → self.new.list ≡ trove_order (step s (Do planned.command)).0 }
-        ensures few { TakesFew self.new.list (used_hint (words_of planned.command.call) hint.now) (last_put planned.changes) steps.old steps.new }
+        ensures state { (s : State) → StandsFor self.old s
+            → StandsFor self.new (step s (Do planned.command)).0 }
+        ensures reply { (s : State) → StandsFor self.old s → (step s (Do planned.command)).1
+            ≡ Said result }
+        ensures list { (s : State) → StandsFor self.old s
+            → self.new.list ≡ trove_order (step s (Do planned.command)).0 }
+        ensures few { TakesFew self.new.list (used_hint (words_of planned.command.call) hint.now)
+            (last_put planned.changes) steps.old steps.new }
         ensures any { steps.new ≤ steps.old + (length self.old.list + 4) }
     {
         // Where no field is used, nothing is known of the protocol.
@@ -334,13 +340,17 @@ impl Protocol {
         requires range { AllByRecursion (λ account. account < ACCOUNTS) (accounts call.now) }
         requires allowed { first_refusal (rules (state_of self.old) call.now) ≡ None }
         requires terms { AreTerms (state_of self.old) call.now terms.now }
-        requires wallets { AllByRecursion (λ account. Contains self.old.room.wallets account) (pays call.now) }
-        requires troves { AllByRecursion (λ account. Contains self.old.room.troves account) (opens call.now) }
-        requires deposits { AllByRecursion (λ account. Contains self.old.room.deposits account) (provides call.now) }
+        requires wallets { AllByRecursion (λ account. Contains self.old.room.wallets account)
+            (pays call.now) }
+        requires troves { AllByRecursion (λ account. Contains self.old.room.troves account)
+            (opens call.now) }
+        requires deposits { AllByRecursion (λ account. Contains self.old.room.deposits account)
+            (provides call.now) }
         requires claims { AreAmong (claimants call.now terms.now) self.old.room.surplus }
         requires list { length (opens call.now) ≤ self.old.room.list }
         ensures made { Changes self.old call.now self.new }
-        ensures few { TakesFew self.new.list (used_hint (words_of call.now) hint.now) (entry_put call.now terms.now self.new.list) steps.old steps.new }
+        ensures few { TakesFew self.new.list (used_hint (words_of call.now) hint.now)
+            (entry_put call.now terms.now self.new.list) steps.old steps.new }
         ensures any { steps.new ≤ steps.old + (length self.old.list + 4) }
     {
         match *call {
@@ -390,7 +400,8 @@ impl Protocol {
         requires few { self.old.records < RECORDS_MOST }
         requires range { command.now.client < ACCOUNTS }
         requires kept { IsKeptRow (record { last = command.now.number; kept = done }) }
-        ensures state { (s : State) → StandsFor self.old s → StandsFor self.new (noted s command.now done) }
+        ensures state { (s : State) → StandsFor self.old s
+            → StandsFor self.new (noted s command.now done) }
         ensures list { self.new.list ≡ self.old.list }
     {
         self.records += 1;
@@ -409,7 +420,8 @@ impl Protocol {
     }
 }
 
-/// The place at which to look first: that of the command's own words, where at least one of them is there, else the given one.
+/// The place at which to look first: that of the command's own words, where at least one of them is
+/// there, else the given one.
 fn hint_of(words: &HintWords, given: &Hint) -> Hint
     ensures { result ≡ used_hint words.now given.now }
 {

@@ -8,8 +8,9 @@ ghost use Rattle.liq_rules.specs.Verbs.{unhinted, unhinted_call};
 
 use liq_types::{Call, Command, HintWords};
 
-/// The command without its own hint words. The rules say the same of it. Whoever makes commands again that were made long ago
-/// leaves their words out: a place that they no longer name costs a walk along the list.
+/// The command without its own hint words. The rules say the same of it. Whoever makes commands
+/// again that were made long ago leaves their words out: a place that they no longer name costs a
+/// walk along the list.
 pub fn unhinted(command: &Command) -> Command
     ensures same { result ≡ unhinted command.now }
     ensures ruling { (s : State) → ruling s result ≡ ruling s command.now }

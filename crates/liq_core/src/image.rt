@@ -35,9 +35,10 @@ pub enum ImageFault {
 }
 
 impl Protocol {
-    /// The image: all on which the protocol's future rests, but for the count of its records. A checkpoint holds the
-    /// image with which a generation begins, and [`Protocol::from_image`] always takes that one. One that is taken amid a
-    /// generation goes on with [`Protocol::from_image_at`], which takes it beside its records.
+    /// The image: all on which the protocol's future rests, but for the count of its records. A
+    /// checkpoint holds the image with which a generation begins, and [`Protocol::from_image`]
+    /// always takes that one. One that is taken amid a generation goes on with
+    /// [`Protocol::from_image_at`], which takes it beside its records.
     pub fn image(&self) -> Result<Image, NoMemory>
         ensures image { IfOk result (λ image. image ≡ self.now.image) }
         ensures limit { IfOk result (λ image. IsLimit image.limit) }
@@ -88,26 +89,29 @@ impl Protocol {
         })
     }
 
-    /// The protocol that begins with an image whose tables are in form, as a checkpoint holds it. No record is counted
-    /// yet. `Unsound` comes exactly where the image breaks a rule.
+    /// The protocol that begins with an image whose tables are in form, as a checkpoint holds it.
+    /// No record is counted yet. `Unsound` comes exactly where the image breaks a rule.
     pub fn from_image(alloc: Global, image: Image) -> Result<Protocol, ImageFault>
         requires tables { HasTables image }
         ensures image { IfOk result (λ protocol. protocol.image ≡ image) }
         ensures stands { IfOk result (λ protocol. StandsFor protocol (started image)) }
-        ensures unsound { (rule : ℕ) → (result ≡ Err (fault.Unsound rule)) ↔ (first_unsound image 0 ≡ Some rule) }
+        ensures unsound { (rule : ℕ) → (result ≡ Err (fault.Unsound rule))
+            ↔ (first_unsound image 0 ≡ Some rule) }
     {
         Protocol::from_image_at(alloc, image, 0)
     }
 
-    /// The protocol that goes on from an image amid a generation, of which so many records are counted. `Unsound` comes
-    /// exactly where the image breaks a rule beside these records: one that [`Protocol::image`] and [`Protocol::records`]
-    /// tell of a protocol breaks none.
+    /// The protocol that goes on from an image amid a generation, of which so many records are
+    /// counted. `Unsound` comes exactly where the image breaks a rule beside these records: one
+    /// that [`Protocol::image`] and [`Protocol::records`] tell of a protocol breaks none.
     pub fn from_image_at(alloc: Global, image: Image, records: u64) -> Result<Protocol, ImageFault>
         requires tables { HasTables image }
         ensures image { IfOk result (λ protocol. protocol.image ≡ image) }
         ensures records { IfOk result (λ protocol. protocol.records ≡ records) }
-        ensures stands { IfOk result (λ protocol. StandsFor protocol (record (started image) { records = records })) }
-        ensures unsound { (rule : ℕ) → (result ≡ Err (fault.Unsound rule)) ↔ (first_unsound image records ≡ Some rule) }
+        ensures stands { IfOk result (λ protocol. StandsFor protocol
+            (record (started image) { records = records })) }
+        ensures unsound { (rule : ℕ) → (result ≡ Err (fault.Unsound rule))
+            ↔ (first_unsound image records ≡ Some rule) }
     {
         if let Some(rule) = first_unsound(&image, records) {
             return Err(ImageFault::Unsound { rule });

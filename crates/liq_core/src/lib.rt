@@ -1,7 +1,7 @@
 //! The protocol for one thread: what a command or a query does, by the rules, and what it answers.
 //!
-//! A command is planned, room is reserved for it, and then it is applied, which cannot fail. So whoever keeps a journal
-//! can write the command down between the two.
+//! A command is planned, room is reserved for it, and then it is applied, which cannot fail. So
+//! whoever keeps a journal can write the command down between the two.
 #![tactic(auto)]
 
 mod accounts;

@@ -53,7 +53,8 @@ impl Protocol {
         })
     }
 
-    /// Rules on the liquidation of the last troves of the list. There may be no memory for what is planned.
+    /// Rules on the liquidation of the last troves of the list. There may be no memory for what is
+    /// planned.
     pub(crate) fn plan_liquidate_lowest(
         &self,
         liquidator: u32,
@@ -94,7 +95,8 @@ impl Protocol {
     }
 
     fn lowest(&self, count: u64) -> Result<Vec<Victim>, LowestFault>
-        ensures { MatchResult result (λ victims. AreLowest (state_of self.now) count victims.items) (IsNoPlan (state_of self.now) count) }
+        ensures { MatchResult result (λ victims. AreLowest (state_of self.now) count victims.items)
+            (IsNoPlan (state_of self.now) count) }
     {
         plan_victims(
             self.alloc,
@@ -108,7 +110,8 @@ impl Protocol {
 
     /// The stake of an account's trove.
     fn stake(&self, account: u32) -> u64
-        ensures { result ≡ unwrap_or (option_map (λ t. t.stake) (at (trove_rows (state_of self.now)) account)) 0 }
+        ensures { result ≡ unwrap_or (option_map (λ t. t.stake) (at (trove_rows (state_of self.now))
+            account)) 0 }
     {
         // Where no field is used, nothing is known of the protocol.
         let _ = &self.records;
@@ -134,8 +137,10 @@ impl Protocol {
     fn told(&self, victims: &[Victim]) -> Result<Told, NoMemory>
         requires few { length victims.now ≤ LOWEST_MOST }
         requires victims { AreVictims (state_of self.now) 0 victims.now }
-        ensures events { IfOk result (λ told. told.events.items ≡ offset_events (state_of self.now) victims.now) }
-        ensures changes { IfOk result (λ told. told.changes.items ≡ victim_changes (state_of self.now) victims.now) }
+        ensures events { IfOk result (λ told. told.events.items
+            ≡ offset_events (state_of self.now) victims.now) }
+        ensures changes { IfOk result (λ told. told.changes.items
+            ≡ victim_changes (state_of self.now) victims.now) }
     {
         let mut course = self.course();
         let mut told = Told {
@@ -150,25 +155,29 @@ impl Protocol {
         Ok(told)
     }
 
-    /// Room for what liquidations write: the liquidator's wallet, what the owners of the troves may claim, and the sums of the
-    /// Stability Pool that they may finish.
+    /// Room for what liquidations write: the liquidator's wallet, what the owners of the troves may
+    /// claim, and the sums of the Stability Pool that they may finish.
     pub(crate) fn reserve_liquidation(
         &mut self,
         liquidator: u32,
         victims: &[Victim],
     ) -> Result<(), NoMemory>
         ensures same { SameContent self.old self.new }
-        ensures room { OnOk result (Contains self.new.room.wallets liquidator × AreAmong (map (λ v. v.account) victims.now) self.new.room.surplus × (length victims.now ≤ self.new.room.finished)) }
+        ensures room { OnOk result (Contains self.new.room.wallets liquidator
+            × AreAmong (map (λ v. v.account) victims.now) self.new.room.surplus
+            × (length victims.now ≤ self.new.room.finished)) }
         ensures kept { IsWithin self.old.room self.new.room }
-        ensures had { Contains self.old.room.wallets liquidator → AreAmong (map (λ v. v.account) victims.now) self.old.room.surplus → length victims.now ≤ self.old.room.finished → IsOk result }
+        ensures had { Contains self.old.room.wallets liquidator
+            → AreAmong (map (λ v. v.account) victims.now) self.old.room.surplus → length victims.now
+            ≤ self.old.room.finished → IsOk result }
     {
         self.wallets.reserve(liquidator)?;
         reserve_owners(victims, &mut self.surplus)?;
         self.pool.reserve(None, victims.len())
     }
 
-    /// Makes planned liquidations and counts the command. The two are one call, since offsets may move the place of the Stability
-    /// Pool further than the records before it allow.
+    /// Makes planned liquidations and counts the command. The two are one call, since offsets may
+    /// move the place of the Stability Pool further than the records before it allow.
     pub(crate) fn liquidate(
         &mut self,
         command: &Command,
@@ -179,13 +188,15 @@ impl Protocol {
         requires allowed { ruling (state_of self.old) command.now ≡ Allowed }
         requires done { done ≡ done_of (state_of self.old) command.now.call }
         requires stays { rotates command.now.call ≡ false }
-        requires effect { effect (state_of self.old) command.now.call ≡ all_liquidated (state_of self.old) liquidator victims.now }
+        requires effect { effect (state_of self.old) command.now.call
+            ≡ all_liquidated (state_of self.old) liquidator victims.now }
         requires victims { AreVictims (state_of self.old) liquidator victims.now }
         requires few { length victims.now ≤ LOWEST_MOST }
         requires range { liquidator < ACCOUNTS }
         requires client { Contains self.old.room.clients command.now.client }
         requires wallet { Contains self.old.room.wallets liquidator }
-        requires owners { AllByRecursion (λ v. Contains self.old.room.surplus v.account) victims.now }
+        requires owners { AllByRecursion (λ v. Contains self.old.room.surplus v.account)
+            victims.now }
         requires finished { length victims.now ≤ self.old.room.finished }
         ensures { StandsFor self.new (after (state_of self.old) command.now) }
     {

@@ -16,11 +16,13 @@ use std::marker::Brand;
 use std::sync::ledger::{Blank, Ledger};
 
 impl Protocol {
-    /// What whoever has seen nothing must follow to have the list of now: the words of which keys are made, and then each
-    /// trove in order. There may be no memory for it.
+    /// What whoever has seen nothing must follow to have the list of now: the words of which keys
+    /// are made, and then each trove in order. There may be no memory for it.
     pub fn list(&self, alloc: Global) -> Result<Vec<ListChange>, NoMemory>
-        ensures told { IfOk result (λ changes. changes.items ≡ told_whole self.now.image self.now.list) }
-        ensures followed { IfOk result (λ changes. (s : State) → StandsFor self.now s → all_followed (view_of opening) changes.items ≡ view_of s) }
+        ensures told { IfOk result (λ changes. changes.items
+            ≡ told_whole self.now.image self.now.list) }
+        ensures followed { IfOk result (λ changes. (s : State) → StandsFor self.now s
+            → all_followed (view_of opening) changes.items ≡ view_of s) }
     {
         let sums = self.troves.sums();
         let words = ListChange::Words {

@@ -91,7 +91,8 @@ impl Protocol {
 
     /// Collateral from outside into a wallet.
     pub(crate) fn bring_in(&mut self, account: u32, coll: u64)
-        requires allowed { first_refusal (rules (state_of self.old) (call.Fund account coll)) ≡ None }
+        requires allowed { first_refusal (rules (state_of self.old) (call.Fund account coll))
+            ≡ None }
         requires range { account < ACCOUNTS }
         requires room { Contains self.old.room.wallets account }
         requires limit { self.old.image.brought + coll ≤ self.old.image.limit }
@@ -103,7 +104,8 @@ impl Protocol {
 
     /// Collateral from a wallet to the outside.
     pub(crate) fn take_out(&mut self, account: u32, coll: u64)
-        requires allowed { first_refusal (rules (state_of self.old) (call.Take account coll)) ≡ None }
+        requires allowed { first_refusal (rules (state_of self.old) (call.Take account coll))
+            ≡ None }
         requires range { account < ACCOUNTS }
         requires enough { coll ≤ (wallet_of (state_of self.old) account).coll }
         ensures { Changes self.old (call.Take account coll) self.new }
@@ -117,7 +119,8 @@ impl Protocol {
 
     /// LUSD from one wallet into another, which may be the same.
     pub(crate) fn send(&mut self, from: u32, to: u32, lusd: u64)
-        requires allowed { first_refusal (rules (state_of self.old) (call.Send from to lusd)) ≡ None }
+        requires allowed { first_refusal (rules (state_of self.old) (call.Send from to lusd))
+            ≡ None }
         requires from { from < ACCOUNTS }
         requires to { to < ACCOUNTS }
         requires room { Contains self.old.room.wallets to }

@@ -54,7 +54,8 @@ impl Protocol {
     }
 
     fn deposit_info(&self, account: u32) -> Info
-        ensures { result ≡ deposit_info (state_of self.now) account (at (state_of self.now).deposits account) }
+        ensures { result ≡ deposit_info (state_of self.now) account (at (state_of self.now).deposits
+            account) }
     {
         if self.no_deposit(account) {
             return Info::NoDeposit;

@@ -33,7 +33,8 @@ impl Protocol {
         lusd: u64,
         bound: u64,
     ) -> Result<Forecast, PlanFault>
-        ensures { (hint : HintWords) → Forecasts (state_of self.now) (call.Redeem account lusd bound hint) result }
+        ensures { (hint : HintWords)
+            → Forecasts (state_of self.now) (call.Redeem account lusd bound hint) result }
     {
         // Where no field is used, nothing is known of the protocol.
         let _ = &self.records;
@@ -65,7 +66,8 @@ impl Protocol {
     }
 
     fn redemption(&self, account: u32, lusd: u64, bound: u64) -> Result<RedeemPlan, RedeemFault>
-        ensures { Answers (market_of (state_of self.now)) (wallet_of (state_of self.now) account) (visited (state_of self.now)) lusd bound result }
+        ensures { Answers (market_of (state_of self.now)) (wallet_of (state_of self.now) account)
+            (visited (state_of self.now)) lusd bound result }
     {
         let wallet = self.wallet(account);
         plan(
@@ -82,7 +84,8 @@ impl Protocol {
     /// What becomes of the troves that are cut, in order.
     fn cut_changes(&self, cuts: &[Cut]) -> Result<Vec<ListChange>, NoMemory>
         requires { AllByRecursion (CutIsCovered (state_of self.now)) cuts.now }
-        ensures { IfOk result (λ changes. changes.items ≡ map (cut_told (state_of self.now)) cuts.now) }
+        ensures { IfOk result (λ changes. changes.items
+            ≡ map (cut_told (state_of self.now)) cuts.now) }
     {
         let mut changes = Vec::new(self.alloc);
         for cut in cuts {
@@ -106,7 +109,8 @@ impl Protocol {
         self.standing(account, coll - cut.draw, debt - cut.lot)
     }
 
-    /// Makes the planned cuts: troves are closed or cut down, LUSD leaves the account's wallet, and collateral comes into it.
+    /// Makes the planned cuts: troves are closed or cut down, LUSD leaves the account's wallet, and
+    /// collateral comes into it.
     pub(crate) fn redeem<L: Ledger>(
         &mut self,
         account: u32,
@@ -114,14 +118,20 @@ impl Protocol {
         hint: &Hint,
         steps: &mut Steps<L>,
     )
-        requires planned { (lusd : ℕ) × (bound : ℕ) × (words : HintWords) × (first_refusal (rules (state_of self.old) (call.Redeem account lusd bound words)) ≡ None)
-            × (taken.now ≡ redeeming_terms (market_of (state_of self.old)) (visited (state_of self.old)) lusd) }
+        requires planned { (lusd : ℕ) × (bound : ℕ) × (words : HintWords)
+            × (first_refusal (rules (state_of self.old) (call.Redeem account lusd bound words))
+            ≡ None)
+            × (taken.now ≡ redeeming_terms (market_of (state_of self.old))
+            (visited (state_of self.old)) lusd) }
         requires range { account < ACCOUNTS }
         requires wallet { Contains self.old.room.wallets account }
         requires claims { AreAmong (closed taken.now.cuts) self.old.room.surplus }
-        ensures made { (lusd bound : ℕ) → (words : HintWords) → taken.now ≡ redeeming_terms (market_of (state_of self.old)) (visited (state_of self.old)) lusd
+        ensures made { (lusd bound : ℕ) → (words : HintWords)
+            → taken.now ≡ redeeming_terms (market_of (state_of self.old))
+            (visited (state_of self.old)) lusd
             → Changes self.old (call.Redeem account lusd bound words) self.new }
-        ensures few { TakesFew self.new.list hint.now (last_entry self.new.list taken.now.cuts) steps.old steps.new }
+        ensures few { TakesFew self.new.list hint.now (last_entry self.new.list taken.now.cuts)
+            steps.old steps.new }
         ensures any { steps.new ≤ steps.old + (length self.old.list + 4) }
     {
         self.rate = taken.rate;

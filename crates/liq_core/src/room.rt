@@ -12,9 +12,9 @@ use liq_redemption::RedeemPlan;
 use liq_types::{Call, NoMemory};
 
 impl Protocol {
-    /// Makes room for what the planned command writes, so that [`Protocol::apply`] takes no memory. What is seen of the
-    /// protocol stays, and so does all room that there was, also where there is no memory. Where there was room none is
-    /// wanted.
+    /// Makes room for what the planned command writes, so that [`Protocol::apply`] takes no memory.
+    /// What is seen of the protocol stays, and so does all room that there was, also where there is
+    /// no memory. Where there was room none is wanted.
     pub fn reserve(&mut self, planned: &Planned) -> Result<(), NoMemory>
         ensures same { SameContent self.old self.new }
         ensures room { OnOk result (HasRoom self.new planned.now) }
@@ -63,9 +63,11 @@ impl Protocol {
 
     fn reserve_wallets(&mut self, first: u32, second: u32) -> Result<(), NoMemory>
         ensures same { SameContent self.old self.new }
-        ensures room { OnOk result (Contains self.new.room.wallets first × Contains self.new.room.wallets second) }
+        ensures room { OnOk result (Contains self.new.room.wallets first
+            × Contains self.new.room.wallets second) }
         ensures kept { IsWithin self.old.room self.new.room }
-        ensures had { Contains self.old.room.wallets first → Contains self.old.room.wallets second → IsOk result }
+        ensures had { Contains self.old.room.wallets first → Contains self.old.room.wallets second
+            → IsOk result }
     {
         self.wallets.reserve(first)?;
         self.wallets.reserve(second)
@@ -74,7 +76,8 @@ impl Protocol {
     /// Room for a trove that comes into being, with its owner's wallet and its place in the list.
     fn reserve_trove(&mut self, account: u32) -> Result<(), NoMemory>
         ensures same { SameContent self.old self.new }
-        ensures room { OnOk result (Contains self.new.room.wallets account × Contains self.new.room.troves account
+        ensures room { OnOk result (Contains self.new.room.wallets account
+            × Contains self.new.room.troves account
             × (1 ≤ self.new.room.list)) }
         ensures kept { IsWithin self.old.room self.new.room }
         ensures had { Contains self.old.room.wallets account → Contains self.old.room.troves account
@@ -88,21 +91,25 @@ impl Protocol {
     /// Room for a deposit, with its owner's wallet.
     fn reserve_deposit(&mut self, account: u32) -> Result<(), NoMemory>
         ensures same { SameContent self.old self.new }
-        ensures room { OnOk result (Contains self.new.room.wallets account × Contains self.new.room.deposits account) }
+        ensures room { OnOk result (Contains self.new.room.wallets account
+            × Contains self.new.room.deposits account) }
         ensures kept { IsWithin self.old.room self.new.room }
-        ensures had { Contains self.old.room.wallets account → Contains self.old.room.deposits account → IsOk result }
+        ensures had { Contains self.old.room.wallets account
+            → Contains self.old.room.deposits account → IsOk result }
     {
         self.wallets.reserve(account)?;
         self.pool.reserve(Some(account), 0)
     }
 
-    /// Room for what a redemption writes: its account's wallet, and what the owners of closed troves may claim.
+    /// Room for what a redemption writes: its account's wallet, and what the owners of closed
+    /// troves may claim.
     fn reserve_redemption(&mut self, account: u32, plan: &RedeemPlan) -> Result<(), NoMemory>
         ensures same { SameContent self.old self.new }
         ensures room { OnOk result (Contains self.new.room.wallets account
             × AreAmong (closed plan.now.cuts) self.new.room.surplus) }
         ensures kept { IsWithin self.old.room self.new.room }
-        ensures had { Contains self.old.room.wallets account → AreAmong (closed plan.now.cuts) self.old.room.surplus
+        ensures had { Contains self.old.room.wallets account
+            → AreAmong (closed plan.now.cuts) self.old.room.surplus
             → IsOk result }
     {
         liq_redemption::reserve(plan, account, &mut self.wallets, &mut self.surplus)

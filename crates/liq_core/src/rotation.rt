@@ -1,5 +1,5 @@
-//! Rotation: the next generation of the journal begins with a checkpoint of the protocol. Only the journal's limits
-//! refuse it, which come after all other rules.
+//! Rotation: the next generation of the journal begins with a checkpoint of the protocol. Only the
+//! journal's limits refuse it, which come after all other rules.
 
 ghost use Rattle.std.specs.Prelude.{◌≡◌, ◌<◌, IfOk, Ok, None};
 ghost use Rattle.std.specs.List.{Contains};
@@ -34,8 +34,8 @@ impl Protocol {
         })
     }
 
-    /// Why the journal takes a command no more. A rotation needs one more generation and room for its checkpoint, and
-    /// any other command one more record.
+    /// Why the journal takes a command no more. A rotation needs one more generation and room for
+    /// its checkpoint, and any other command one more record.
     pub(crate) fn no_room(&self, command: &Command) -> Option<Refusal>
         ensures { result ≡ first_refusal (room_rules (state_of self.now) command.now) }
     {
@@ -63,8 +63,8 @@ impl Protocol {
         None
     }
 
-    /// How many bytes a rotation's checkpoint has. It holds the reply to the rotation itself, also of a client that had
-    /// none.
+    /// How many bytes a rotation's checkpoint has. It holds the reply to the rotation itself, also
+    /// of a client that had none.
     fn checkpoint_bytes(&self, command: &Command) -> u128
         requires { command.now.call ≡ Rotate }
         ensures { result ≡ checkpoint_length (image (after (state_of self.now) command.now)) }
@@ -80,8 +80,8 @@ impl Protocol {
         rows.checkpoint_bytes()
     }
 
-    /// The image that a planned rotation leaves: what the checkpoint of the next generation holds, which breaks no rule.
-    /// The protocol stays as it is.
+    /// The image that a planned rotation leaves: what the checkpoint of the next generation holds,
+    /// which breaks no rule. The protocol stays as it is.
     pub fn image_after(&self, planned: &Planned) -> Result<Image, NoMemory>
         requires rotates { planned.now.command.call ≡ Rotate }
         requires planned { IsPlannedOn self.now planned.now }
@@ -118,8 +118,8 @@ impl Protocol {
         client_rows(self.alloc, &clients)
     }
 
-    /// Begins the next generation, under the greater limit, of which no record is counted yet, and keeps the reply of the
-    /// rotation.
+    /// Begins the next generation, under the greater limit, of which no record is counted yet, and
+    /// keeps the reply of the rotation.
     pub(crate) fn rotate(&mut self, command: &Command, done: Done)
         requires rotates { command.now.call ≡ Rotate }
         requires allowed { ruling (state_of self.old) command.now ≡ Allowed }

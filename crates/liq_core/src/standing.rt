@@ -24,7 +24,8 @@ use std::sync::ledger::Ledger;
 pub(crate) fn lift_trove(pools: &mut Pools, troves: &mut Troves, order: &mut Order, account: u32)
     requires there { IsSome (at troves.old.table.rows account) }
     requires held { AreHeld pools.old troves.old order.old }
-    ensures books { books_kept troves.new pools.new ≡ lifted (books_kept troves.old pools.old) account }
+    ensures books { books_kept troves.new pools.new ≡ lifted (books_kept troves.old pools.old)
+        account }
     ensures others { SameOthers pools.old pools.new }
     ensures list { order.new.entries ≡ order_by troves.new.table.rows }
     ensures room { HasRoom troves.new.table account }
@@ -34,8 +35,8 @@ pub(crate) fn lift_trove(pools: &mut Pools, troves: &mut Troves, order: &mut Ord
     lift(pools, troves, order, account);
 }
 
-/// The account's trove changes to what is planned: it leaves, and comes in again with nothing pending. The other pools
-/// stay.
+/// The account's trove changes to what is planned: it leaves, and comes in again with nothing
+/// pending. The other pools stay.
 pub(crate) fn change_trove<L: Ledger>(
     pools: &mut Pools,
     troves: &mut Troves,
@@ -49,13 +50,17 @@ pub(crate) fn change_trove<L: Ledger>(
     requires held { AreHeld pools.old troves.old order.old }
     requires some { 1 ≤ plan.now.coll }
     requires least { RESERVE + MIN_NET ≤ plan.now.debt }
-    requires active_coll { (lifted (books_kept troves.old pools.old) account).active_coll + plan.now.coll ≤ LIM }
-    requires active_debt { (lifted (books_kept troves.old pools.old) account).active_debt + plan.now.debt ≤ LIM }
+    requires active_coll { (lifted (books_kept troves.old pools.old) account).active_coll
+        + plan.now.coll ≤ LIM }
+    requires active_debt { (lifted (books_kept troves.old pools.old) account).active_debt
+        + plan.now.debt ≤ LIM }
     ensures books { books_kept troves.new pools.new
-        ≡ placed (lifted (books_kept troves.old pools.old) account) account plan.now.coll plan.now.debt }
+        ≡ placed (lifted (books_kept troves.old pools.old) account) account plan.now.coll
+        plan.now.debt }
     ensures others { SameOthers pools.old pools.new }
     ensures list { order.new.entries ≡ order_by troves.new.table.rows }
-    ensures few { TakesFew order.new.entries hint.now (entry_in order.new.entries account) steps.old steps.new }
+    ensures few { TakesFew order.new.entries hint.now (entry_in order.new.entries account) steps.old
+        steps.new }
     ensures any { steps.new ≤ steps.old + (length order.old.entries + 4) }
 {
     lift_trove(pools, troves, order, account);

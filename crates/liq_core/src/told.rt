@@ -1,4 +1,5 @@
-//! What others follow of a command: its events of the Stability Pool, and its changes of the ordered list.
+//! What others follow of a command: its events of the Stability Pool, and its changes of the
+//! ordered list.
 
 ghost use Rattle.std.specs.Prelude.{◌≡◌};
 ghost use Rattle.liq_core.specs.Told.{events_in, changes_in};

@@ -76,7 +76,8 @@ impl Terms {
     }
 }
 
-/// What an allowed call comes to: its reply, what it makes of what it changes, and what others follow.
+/// What an allowed call comes to: its reply, what it makes of what it changes, and what others
+/// follow.
 #[derive(Drop)]
 pub(crate) struct Forecast {
     pub(crate) done: Done,
@@ -88,7 +89,12 @@ pub(crate) struct Forecast {
 impl Forecast {
     /// Of a call whose words say all, and that neither pool nor list feels.
     pub(crate) fn plain(done: Done) -> Forecast
-        ensures { result ≡ record { done = done; terms = terms.Words; events = events.Nothing; changes = changes.Nothing } }
+        ensures { result ≡ record {
+          done = done;
+          terms = terms.Words;
+          events = events.Nothing;
+          changes = changes.Nothing;
+        } }
     {
         Forecast {
             done,
@@ -99,7 +105,8 @@ impl Forecast {
     }
 }
 
-/// A command that will be accepted, with its reply. It holds for the protocol that planned it, as long as that stays.
+/// A command that will be accepted, with its reply. It holds for the protocol that planned it, as
+/// long as that stays.
 #[derive(Drop)]
 pub struct Planned {
     pub(crate) command: Command,
@@ -153,6 +160,7 @@ pub enum Turn {
 pub enum PlanFault {
     /// It is refused.
     No(Refusal),
-    /// There is no memory for the list of troves that it plans. It passed all that is tested without the list.
+    /// There is no memory for the list of troves that it plans. It passed all that is tested
+    /// without the list.
     NoMemory,
 }

@@ -13,7 +13,8 @@ use Rattle.liq_ends.specs.Statuses.{status_of}
 use Rattle.liq_ends.specs.Unopened.{halt_of}
 
 -- no other halt is caused by the source
-pub read_same : {T : Type 0} (halt : Halt) (before after : ℕ) → (let r : Result T Halt = Err halt in r ≢ Err ReadFault) → after ≡ before → ReadCause {T = T} (Err halt) before after
+pub read_same : {T : Type 0} (halt : Halt) (before after : ℕ) → (let r : Result T Halt = Err halt in r ≢ Err ReadFault)
+    → after ≡ before → ReadCause {T = T} (Err halt) before after
 read_same (BadLine n) before after other same = same
 read_same ReadFault before after other same = absurd (other refl)
 read_same WriteFault before after other same = same
@@ -30,7 +31,8 @@ unread_causes (Ok done) count other = refl
 unread_causes (Err halt) count other = read_same halt count count other refl
 
 -- and none by the sink
-pub write_same : {T : Type 0} (halt : Halt) (before after : ℕ) → (let r : Result T Halt = Err halt in r ≢ Err WriteFault) → after ≡ before → WriteCause {T = T} (Err halt) before after
+pub write_same : {T : Type 0} (halt : Halt) (before after : ℕ) → (let r : Result T Halt = Err halt
+    in r ≢ Err WriteFault) → after ≡ before → WriteCause {T = T} (Err halt) before after
 write_same (BadLine n) before after other same = same
 write_same ReadFault before after other same = same
 write_same WriteFault before after other same = absurd (other refl)
@@ -41,7 +43,8 @@ write_same (Limit number) before after other same = same
 write_same (Rotated generation) before after other same = same
 write_same (DamagedInput number) before after other same = same
 
-pub write_no_fewer : {T : Type 0} (end : Result T Halt) (before after : ℕ) → WriteCause end before after → before ≤ after
+pub write_no_fewer : {T : Type 0} (end : Result T Halt) (before after : ℕ) → WriteCause end before after
+    → before ≤ after
 write_no_fewer (Ok x) before after c = omega (arith, c)
 write_no_fewer (Err (BadLine n)) before after c = omega (arith, c)
 write_no_fewer (Err ReadFault) before after c = omega (arith, c)
@@ -66,7 +69,8 @@ pub six : (side : Side) (number : ℕ) → 6 ≡ status_of (Err (Damaged side nu
 six Left number = refl
 six Right number = refl
 
-pub source_causes : (end : Result (Unit {0}) Halt) (before after : ℕ) → ReadCause end before after → (status_of end ≡ 3 → Rose before after) × ((status_of end ≡ 3 → ⊥) → after ≡ before)
+pub source_causes : (end : Result (Unit {0}) Halt) (before after : ℕ) → ReadCause end before after
+    → (status_of end ≡ 3 → Rose before after) × ((status_of end ≡ 3 → ⊥) → after ≡ before)
 source_causes (Ok done) before after c = (λ h. absurd (omega (arith, h)), λ _. c)
 source_causes (Err (BadLine n)) before after c = (λ h. absurd (omega (arith, h)), λ _. c)
 source_causes (Err ReadFault) before after c = (λ _. c.1, λ other. absurd (other refl))
@@ -79,20 +83,31 @@ source_causes (Err (Limit number)) before after c = (λ h. absurd (omega (arith,
 source_causes (Err (Rotated generation)) before after c = (λ h. absurd (omega (arith, h)), λ _. c)
 source_causes (Err (DamagedInput number)) before after c = (λ h. absurd (omega (arith, h)), λ _. c)
 
-pub sink_causes : (end : Result (Unit {0}) Halt) (before after : ℕ) → LastCause end before after → (status_of end ≡ 4 → Rose before after) × (status_of end ≡ 0 → after ≡ before)
+pub sink_causes : (end : Result (Unit {0}) Halt) (before after : ℕ) → LastCause end before after
+    → (status_of end ≡ 4 → Rose before after) × (status_of end ≡ 0 → after ≡ before)
 sink_causes (Ok done) before after c = (λ h. absurd (omega (arith, h)), λ _. c)
 sink_causes (Err (BadLine n)) before after c = (λ h. absurd (omega (arith, h)), λ h. absurd (omega (arith, h)))
 sink_causes (Err ReadFault) before after c = (λ h. absurd (omega (arith, h)), λ h. absurd (omega (arith, h)))
 sink_causes (Err WriteFault) before after c = (λ _. c, λ h. absurd (omega (arith, h)))
 sink_causes (Err NoMemory) before after c = (λ h. absurd (omega (arith, h)), λ h. absurd (omega (arith, h)))
 sink_causes (Err DiskFault) before after c = (λ h. absurd (omega (arith, h)), λ h. absurd (omega (arith, h)))
-sink_causes (Err (Damaged Left number)) before after c = (λ h. absurd (omega (arith, h)), λ h. absurd (omega (arith, h)))
-sink_causes (Err (Damaged Right number)) before after c = (λ h. absurd (omega (arith, h)), λ h. absurd (omega (arith, h)))
+sink_causes (Err (Damaged Left number)) before after c = (
+  λ h. absurd (omega (arith, h)),
+  λ h. absurd (omega (arith, h)),
+)
+sink_causes (Err (Damaged Right number)) before after c = (
+  λ h. absurd (omega (arith, h)),
+  λ h. absurd (omega (arith, h)),
+)
 sink_causes (Err (Limit number)) before after c = (λ h. absurd (omega (arith, h)), λ h. absurd (omega (arith, h)))
 sink_causes (Err (Rotated generation)) before after c = (λ h. absurd (omega (arith, h)), λ h. absurd (omega (arith, h)))
-sink_causes (Err (DamagedInput number)) before after c = (λ h. absurd (omega (arith, h)), λ h. absurd (omega (arith, h)))
+sink_causes (Err (DamagedInput number)) before after c = (
+  λ h. absurd (omega (arith, h)),
+  λ h. absurd (omega (arith, h)),
+)
 
-pub disk_causes : (end : Result (Unit {0}) Halt) (before after : Faults) → DiskCause end before after → (status_of end ≡ 5 → OneRose before after) × ((status_of end ≡ 5 → ⊥) → after ≡ before)
+pub disk_causes : (end : Result (Unit {0}) Halt) (before after : Faults) → DiskCause end before after
+    → (status_of end ≡ 5 → OneRose before after) × ((status_of end ≡ 5 → ⊥) → after ≡ before)
 disk_causes (Ok done) before after c = (λ h. absurd (omega (arith, h)), λ _. c)
 disk_causes (Err (BadLine n)) before after c = (λ h. absurd (omega (arith, h)), λ _. c)
 disk_causes (Err ReadFault) before after c = (λ h. absurd (omega (arith, h)), λ _. c)

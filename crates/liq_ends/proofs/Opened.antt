@@ -25,10 +25,16 @@ use Rattle.liq_ends.specs.Disks.{DisksHold, DisksStay, EndsDamaged, OfBoth}
 
 -- disks that stand for what others stood for
 pub still_stand : (l r a b : List ℕ) (s : State) → state_on a b ≡ state_on l r → state_on l r ≡ Ok s → StandFor a b s
-still_stand l r a b s stays is = record { state = s; is = stays ∙ is; same = record { image = refl; records = refl }; formed = state_formed l r s is }
+still_stand l r a b s stays is = record {
+  state = s;
+  is = stays ∙ is;
+  same = record { image = refl; records = refl };
+  formed = state_formed l r s is;
+}
 
 -- the state at which a store was opened is that for which the disks stand
-pub opened_at : (s start : State) {E : Type 0} (found : Result State E) (core : Core) → found ≡ Ok s → found ≡ Ok start → StandsFor core s → StandsFor core start
+pub opened_at : (s start : State) {E : Type 0} (found : Result State E) (core : Core) → found ≡ Ok s → found ≡ Ok start
+    → StandsFor core s → StandsFor core start
 opened_at s start found core one other stands =
     let same : s ≡ start = cc in
     subst (λ (t : State). StandsFor core t) same stands
@@ -38,8 +44,11 @@ pub untouched : {D : Type 0} (at : D → DiskAt) (left right : D) (l r : List �
     → (at right).seen ≡ Some r → state_on l r ≡ Ok s → DisksStay at (Err NoMemory) l r s left right
 untouched at left right l r s told_l told_r is a b told_a told_b =
     let left_is : a ≡ l = cc in
-    let right_is : b ≡ r = cc in
-    (ap₂ state_on left_is right_is ∙ is, λ kept. subst (λ (x : List ℕ). IsKept x b s) (sym left_is) (subst (λ (x : List ℕ). IsKept l x s) (sym right_is) kept))
+    let right_is : b ≡ r = cc in (
+      ap₂ state_on left_is right_is ∙ is,
+      λ kept. subst (λ (x : List ℕ). IsKept x b s) (sym left_is)
+          (subst (λ (x : List ℕ). IsKept l x s) (sym right_is) kept),
+    )
 
 -- disks at which a store was not opened, for want of memory
 pub unopened : {D : Type 0} (at : D → DiskAt) (left right : D) (fault : StoreFault D) → IsNotOpened at left right fault
@@ -63,8 +72,11 @@ pub opened_still : {D : Type 0} (at : D → DiskAt) (left right : D) (store : St
     → OpensOn at left right store → IsInOrder at store → StandsFor store.core s → (at left).seen ≡ Some l
     → (at right).seen ≡ Some r → state_on l r ≡ Ok s → DisksStay at (Ok tt) l r s store.left store.right
 opened_still at left right store l r s opened order stands told_l told_r is a b told_a told_b =
-    let now = subst (λ (stopped : Option ℕ). IsInOrderWith at stopped store) opened.going order in
-    (opened.stays l r a b told_l told_r told_a told_b ∙ is, settled_kept store.side a b s (now.settled a b told_a told_b s stands))
+    let now = subst (λ (stopped : Option ℕ). IsInOrderWith at stopped store) opened.going order in (
+      opened.stays l r a b told_l told_r told_a told_b
+          ∙ is,
+      settled_kept store.side a b s (now.settled a b told_a told_b s stands),
+    )
 
 -- disks of a store that goes on
 pub settled : {D : Type 0} (at : D → DiskAt) (store : Stored D) (s : State)

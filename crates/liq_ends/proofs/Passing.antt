@@ -133,7 +133,8 @@ module _ {D : Type 0} (at : D → DiskAt)
 
   -- each image is one of those of a run that read nothing, and met no fault or one that is told as the opening's
   images_looked : (since : Side → ℕ) (l r : List ℕ) (start : State) (fault : Fault) (ol or nl nr : D)
-      → ((side : Side) (image : List ℕ) → IsOfRun side l r start [] NoFault image → IsOfRun side l r start [] fault image)
+      → ((side : Side) (image : List ℕ) → IsOfRun side l r start [] NoFault image
+      → IsOfRun side l r start [] fault image)
       → ((side : Side) → since side ≤ (at (on side ol or)).moment) → Looked at ol nl → Looked at or nr
       → LeavesPast at since l r start [] NoFault ol or
       → LeavesPast at since l r start [] fault nl nr
@@ -177,12 +178,21 @@ module _ {D : Type 0} (at : D → DiskAt)
           images = images_looked since l r start InOpening ol or nl nr (λ side image h. h) later left right past;
           rests = λ a b at_a at_b. (refl, inl (kept a b (left.within a at_a) (right.within b at_b)));
         }
-    looked_past (Ok done) l r start ol or nl nr later left right rest_l rest_r past kept = calm_looked l r start _ refl ol or nl nr later left right rest_l rest_r past
-    looked_past (Err (BadLine n)) l r start ol or nl nr later left right rest_l rest_r past kept = calm_looked l r start _ refl ol or nl nr later left right rest_l rest_r past
-    looked_past (Err ReadFault) l r start ol or nl nr later left right rest_l rest_r past kept = calm_looked l r start _ refl ol or nl nr later left right rest_l rest_r past
-    looked_past (Err WriteFault) l r start ol or nl nr later left right rest_l rest_r past kept = calm_looked l r start _ refl ol or nl nr later left right rest_l rest_r past
-    looked_past (Err (Damaged side number)) l r start ol or nl nr later left right rest_l rest_r past kept = calm_looked l r start _ refl ol or nl nr later left right rest_l rest_r past
-    looked_past (Err NoMemory) l r start ol or nl nr later left right rest_l rest_r past kept = calm_looked l r start _ refl ol or nl nr later left right rest_l rest_r past
-    looked_past (Err (Limit number)) l r start ol or nl nr later left right rest_l rest_r past kept = calm_looked l r start _ refl ol or nl nr later left right rest_l rest_r past
-    looked_past (Err (Rotated generation)) l r start ol or nl nr later left right rest_l rest_r past kept = calm_looked l r start _ refl ol or nl nr later left right rest_l rest_r past
-    looked_past (Err (DamagedInput number)) l r start ol or nl nr later left right rest_l rest_r past kept = calm_looked l r start _ refl ol or nl nr later left right rest_l rest_r past
+    looked_past (Ok done) l r start ol or nl nr later left right rest_l rest_r past kept =
+        calm_looked l r start _ refl ol or nl nr later left right rest_l rest_r past
+    looked_past (Err (BadLine n)) l r start ol or nl nr later left right rest_l rest_r past kept =
+        calm_looked l r start _ refl ol or nl nr later left right rest_l rest_r past
+    looked_past (Err ReadFault) l r start ol or nl nr later left right rest_l rest_r past kept =
+        calm_looked l r start _ refl ol or nl nr later left right rest_l rest_r past
+    looked_past (Err WriteFault) l r start ol or nl nr later left right rest_l rest_r past kept =
+        calm_looked l r start _ refl ol or nl nr later left right rest_l rest_r past
+    looked_past (Err (Damaged side number)) l r start ol or nl nr later left right rest_l rest_r past kept =
+        calm_looked l r start _ refl ol or nl nr later left right rest_l rest_r past
+    looked_past (Err NoMemory) l r start ol or nl nr later left right rest_l rest_r past kept =
+        calm_looked l r start _ refl ol or nl nr later left right rest_l rest_r past
+    looked_past (Err (Limit number)) l r start ol or nl nr later left right rest_l rest_r past kept =
+        calm_looked l r start _ refl ol or nl nr later left right rest_l rest_r past
+    looked_past (Err (Rotated generation)) l r start ol or nl nr later left right rest_l rest_r past kept =
+        calm_looked l r start _ refl ol or nl nr later left right rest_l rest_r past
+    looked_past (Err (DamagedInput number)) l r start ol or nl nr later left right rest_l rest_r past kept =
+        calm_looked l r start _ refl ol or nl nr later left right rest_l rest_r past

@@ -21,4 +21,5 @@ all_shares start requests formed limit known earlier same account =
       right = formed;
     } in
     let then = run_alike requests reached in
-    same_shares limit known (earlier ++ requests) (run start requests).0 then.right (sym then.image ∙ ap image (sym (run_state (opening_with limit) earlier requests))) account
+    same_shares limit known (earlier ++ requests) (run start requests).0 then.right (sym then.image
+    ∙ ap image (sym (run_state (opening_with limit) earlier requests))) account

@@ -10,28 +10,38 @@ use Rattle.liq_ends.specs.Unsaid.{WritesAll}
 use Rattle.liq_ends.proofs.EndingLines.{part_stays}
 
 -- nothing else than the sink stops it
-pub by_sink : (P : Type 0) (end : Result (Unit {0}) Halt) (halt : Halt) → IfErr end (λ h. (h ≡ WriteFault) × P) → halt ≢ WriteFault → end ≢ Err halt
+pub by_sink : (P : Type 0) (end : Result (Unit {0}) Halt) (halt : Halt) → IfErr end (λ h. (h ≡ WriteFault) × P)
+    → halt ≢ WriteFault → end ≢ Err halt
 by_sink P (Ok done) halt err other is = cc
 by_sink P (Err h) halt err other is =
     let same : h ≡ halt = cc in
     other (sym same ∙ err.0)
 
 -- a last line behind what was there
-added_to : (line : List ℕ) (fault : Type 0) (before now after : Option (List ℕ)) → now ≡ before → Adds [] line fault now after → Adds [] line fault before after
-added_to line fault before now after same adds = subst (λ (held : Option (List ℕ)). Adds [] line fault held after) same adds
+added_to : (line : List ℕ) (fault : Type 0) (before now after : Option (List ℕ)) → now ≡ before
+    → Adds [] line fault now after → Adds [] line fault before after
+added_to line fault before now after same adds = subst (λ (held : Option (List ℕ)). Adds [] line fault held after)
+    same adds
 
-pub all_halted : (halt : Halt) (text : List ℕ) (fault : Type 0) (before now after : Option (List ℕ)) → WritesAll text (Err halt) before now → Adds [] (last halt) fault now after → TellsAll text (Err halt) fault before after
+pub all_halted : (halt : Halt) (text : List ℕ) (fault : Type 0) (before now after : Option (List ℕ))
+    → WritesAll text (Err halt) before now → Adds [] (last halt) fault now after
+    → TellsAll text (Err halt) fault before after
 all_halted (BadLine n) text fault before now after h adds = added_to (last (BadLine n)) fault before now after h adds
 all_halted ReadFault text fault before now after h adds = added_to (last ReadFault) fault before now after h adds
-all_halted (Damaged side number) text fault before now after h adds = added_to (last (Damaged side number)) fault before now after h adds
-all_halted (Limit number) text fault before now after h adds = added_to (last (Limit number)) fault before now after h adds
-all_halted (Rotated generation) text fault before now after h adds = added_to (last (Rotated generation)) fault before now after h adds
-all_halted (DamagedInput number) text fault before now after h adds = added_to (last (DamagedInput number)) fault before now after h adds
+all_halted (Damaged side number) text fault before now after h adds =
+    added_to (last (Damaged side number)) fault before now after h adds
+all_halted (Limit number) text fault before now after h adds =
+    added_to (last (Limit number)) fault before now after h adds
+all_halted (Rotated generation) text fault before now after h adds =
+    added_to (last (Rotated generation)) fault before now after h adds
+all_halted (DamagedInput number) text fault before now after h adds =
+    added_to (last (DamagedInput number)) fault before now after h adds
 all_halted DiskFault text fault before now after h adds = added_to (last DiskFault) fault before now after h adds
 all_halted NoMemory text fault before now after h adds = added_to (last NoMemory) fault before now after h adds
 all_halted WriteFault text fault before now after h adds = part_stays fault text before now after h adds
 
-pub all_well : (end : Result (Unit {0}) Halt) (text : List ℕ) (fault : Type 0) (before now : Option (List ℕ)) → ((halt : Halt) → end ≡ Err halt → ⊥) → WritesAll text end before now → TellsAll text end fault before now
+pub all_well : (end : Result (Unit {0}) Halt) (text : List ℕ) (fault : Type 0) (before now : Option (List ℕ))
+    → ((halt : Halt) → end ≡ Err halt → ⊥) → WritesAll text end before now → TellsAll text end fault before now
 all_well (Ok done) text fault before now well h = h
 all_well (Err halt) text fault before now well h = absurd (well halt refl)
 

@@ -1,4 +1,5 @@
--- What a run does to the counts of its streams' and its disks' faults, and to the disks' time and telling.
+-- What a run does to the counts of its streams' and its disks' faults, and to the disks' time and
+-- telling.
 use Rattle.std.specs.Prelude.{ℕ, ◌≡◌, ◌≤◌, ◌↔◌, IsSome, Result, Ok, Err}
 use Rattle.liq_outside.specs.At.{DiskAt, SinkAt, SourceAt}
 use Rattle.liq_outside.specs.Disk.{GoesOn}
@@ -8,7 +9,8 @@ use Rattle.liq_ends.specs.declared.halts.Halt.{Halt}
 use Rattle.liq_ends.specs.declared.halts.Halt.TheVariants.{ReadFault, WriteFault, DiskFault}
 use Rattle.liq_ends.specs.Outside.{Outside}
 
--- The source's count over a run, or a part of it: where it stops at a read fault the count rose, and else it stays.
+-- The source's count over a run, or a part of it: where it stops at a read fault the count rose,
+-- and else it stays.
 abbrev pub ReadCause : {T : Type 0} → Result T Halt → ℕ → ℕ → Type 0
 ReadCause (Err ReadFault) before after = (before ≤ after) × Rose before after
 ReadCause _ before after = after ≡ before
@@ -29,9 +31,10 @@ LastCause (Ok done) before after = after ≡ before
 LastCause (Err WriteFault) before after = Rose before after
 LastCause (Err _) before after = Unit {0}
 
--- Two disks over a word that came to this end, whatever stands on them: one of their counts rose exactly where the end
--- is a disk's fault; for each time goes on, and what a crash may have left at a past moment stays what it was; and each
--- tells its bytes where it told them before, and there alone.
+-- Two disks over a word that came to this end, whatever stands on them: one of their counts rose
+-- exactly where the end is a disk's fault; for each time goes on, and what a crash may have left at
+-- a past moment stays what it was; and each tells its bytes where it told them before, and there
+-- alone.
 pub record DisksGoOn
     {D : Type 0} (at : D → DiskAt) (old_left old_right : D) (end : Result (Unit {0}) Halt)
     (left right : D) : Type 0 where
@@ -41,8 +44,9 @@ pub record DisksGoOn
   pub left_telling : IsSome (at left).seen ↔ IsSome (at old_left).seen
   pub right_telling : IsSome (at right).seen ↔ IsSome (at old_right).seen
 
--- A word's end has its cause, whatever came in and stands on the disks: the counts of the source and the disks rose
--- exactly where it tells their fault, and that of the sink where it tells its one, or maybe at the last line.
+-- A word's end has its cause, whatever came in and stands on the disks: the counts of the source
+-- and the disks rose exactly where it tells their fault, and that of the sink where it tells its
+-- one, or maybe at the last line.
 pub record HasCauses
     {S K D : Type 0} (source_at : S → SourceAt) (sink_at : K → SinkAt) (disk_at : D → DiskAt)
     (before after : Outside S K D) (end : Result (Unit {0}) Halt) : Type 0 where

@@ -1,6 +1,6 @@
--- A reader of the top call's clause needs Answered, Disks, Outside, Output, Reading, Requests, Statuses, and of Stops
--- all but its last part. That part, Causes, Fed, Further, Rest, Telling, Unopened and Unsaid are for the contracts
--- below it.
+-- A reader of the top call's clause needs Answered, Disks, Outside, Output, Reading, Requests,
+-- Statuses, and of Stops all but its last part. That part, Causes, Fed, Further, Rest, Telling,
+-- Unopened and Unsaid are for the contracts below it.
 pub mod Answered
 pub mod Causes
 pub mod Disks

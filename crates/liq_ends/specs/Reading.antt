@@ -8,8 +8,10 @@ use Rattle.liq_lines.specs.Saying.{BeginsWith, StopsAfter}
 use Rattle.liq_ends.specs.declared.halts.Halt.{Halt}
 use Rattle.liq_ends.specs.declared.halts.Halt.TheVariants.{BadLine, ReadFault, Limit}
 
--- The lines of the bytes that were read say this, each what stands in its place; `left` is what the source still tells.
-module _ {X : Type 0} (Says : List ℕ → X → Type 0) (bytes : List ℕ) (left : Option (List ℕ)) (said : List X) where
+-- The lines of the bytes that were read say this, each what stands in its place; `left` is what the
+-- source still tells.
+module _ {X : Type 0} (Says : List ℕ → X → Type 0) (bytes : List ℕ) (left : Option (List ℕ))
+    (said : List X) where
   abbrev pub ReadsTo : Result (Unit {0}) Halt → Type 0
   -- they are all, and the source is at its end
   ReadsTo (Ok done) = AllZip Says (lines_in bytes) said × (left ≡ Some [])

@@ -9,4 +9,5 @@ pub data WritesRest
     (end : Result (Unit {0}) Halt) (rest : List ℕ) (before after : Option (List ℕ))
     (result : Result (Unit {0}) Halt) : Type 0 where
   whole : result ≡ end → Writes before rest after → WritesRest end rest before after result
-  cut : result ≡ Err WriteFault → WritesPart before rest after → WritesRest end rest before after result
+  cut : result ≡ Err WriteFault → WritesPart before rest after
+      → WritesRest end rest before after result

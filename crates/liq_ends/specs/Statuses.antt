@@ -5,7 +5,8 @@ use Rattle.liq_ends.specs.declared.halts.Halt.{Halt}
 use Rattle.liq_ends.specs.declared.halts.Halt.TheVariants.{BadLine, ReadFault, WriteFault}
 use Rattle.liq_ends.specs.declared.halts.Halt.TheVariants.{DiskFault, Damaged, DamagedInput, NoMemory, Limit, Rotated}
 
--- the status of a word that stops so, and its last line; a sink that met a fault is told nothing more
+-- the status of a word that stops so, and its last line; a sink that met a fault is told nothing
+-- more
 abbrev pub ending : Halt → ℕ × List ℕ
 ending (BadLine number) = (2, codes "bad line " ++ decimal number ++ 10 ∷ [])
 ending ReadFault = (3, codes "read fault" ++ 10 ∷ [])

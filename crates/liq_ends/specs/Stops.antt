@@ -23,10 +23,11 @@ use Rattle.liq_ends.specs.Reading.{ReadsTo}
 use Rattle.liq_lines.specs.Writing.{Writes, WritesPart}
 use Rattle.liq_rules.specs.Memory.{TakesMemory}
 
--- Every depositor has its share after these requests from a state, whichever requests led from the opening, under
--- either limit, to one that is the same in image and count of records: an account's balance and all that it gained are
--- at most its exact share of what all accepted commands did to the Stability Pool, and short of it by at most the
--- allowance. None lead to a later generation under the lesser limit, which only an earlier program's rotation left.
+-- Every depositor has its share after these requests from a state, whichever requests led from the
+-- opening, under either limit, to one that is the same in image and count of records: an account's
+-- balance and all that it gained are at most its exact share of what all accepted commands did to
+-- the Stability Pool, and short of it by at most the allowance. None lead to a later generation
+-- under the lesser limit, which only an earlier program's rotation left.
 abbrev pub HaveTheirShares : State → List Request → Type 0
 HaveTheirShares start requests = (limit : ℕ) → IsLimit limit → (earlier : List Request)
     → IsSameState (run (opening_with limit) earlier).0 start
@@ -38,8 +39,10 @@ abbrev pub Adds : List ℕ → List ℕ → Type 0 → Option (List ℕ) → Opt
 Adds said line fault before now = (part : List ℕ) × Writes before (said ++ part) now
     × ((part ≡ line) ⊎ (fault × ((rest : List ℕ) × (line ≡ part ++ rest))))
 
--- A text is written, as far as the end says. Where the word stopped, this was said of it, and then the last line.
-abbrev pub TellsBehind : List ℕ → List ℕ → Result (Unit {0}) Halt → Type 0 → Option (List ℕ) → Option (List ℕ) → Type 0
+-- A text is written, as far as the end says. Where the word stopped, this was said of it, and then
+-- the last line.
+abbrev pub TellsBehind : List ℕ → List ℕ → Result (Unit {0}) Halt → Type 0 → Option (List ℕ)
+    → Option (List ℕ) → Type 0
 TellsBehind said text (Ok done) fault before now = Writes before text now
 -- the sink met a fault within it
 TellsBehind said text (Err WriteFault) fault before now = WritesPart before text now
@@ -48,45 +51,55 @@ TellsBehind said text (Err halt) fault before now = Adds said (last halt) fault 
 -- ---- for the contracts below the top call's
 
 -- A word over damaged disks stops, and writes its last line alone.
-abbrev pub StopsDamaged : {D : Type 0} → (D → DiskAt) → D → D → List ℕ → List ℕ → Side → Damage → Result (Unit {0}) Halt
+abbrev pub StopsDamaged : {D : Type 0} → (D → DiskAt) → D → D → List ℕ → List ℕ → Side → Damage
+    → Result (Unit {0}) Halt
     → Type 0 → Option (List ℕ) → Option (List ℕ) → D → D → Type 0
-StopsDamaged at old_left old_right l r side damage end fault before now left right = (halt : Halt) × (end ≡ Err halt)
-    × LeavesDamaged at old_left old_right l r side damage (Err halt) left right × Adds [] (last halt) fault before now
+StopsDamaged at old_left old_right l r side damage end fault before now left right = (halt : Halt)
+    × (end ≡ Err halt)
+    × LeavesDamaged at old_left old_right l r side damage (Err halt) left right
+    × Adds [] (last halt) fault before now
 
--- Why a run from a state ended behind these requests, whatever its source tells. `told` is what that told before, and
--- `unread` what it still tells.
-abbrev pub EndsAfter : State → Result (Unit {0}) Halt → Option (List ℕ) → Option (List ℕ) → List Request → Type 0
+-- Why a run from a state ended behind these requests, whatever its source tells. `told` is what
+-- that told before, and `unread` what it still tells.
+abbrev pub EndsAfter : State → Result (Unit {0}) Halt → Option (List ℕ) → Option (List ℕ)
+    → List Request → Type 0
 -- the next line is no request
 EndsAfter start (Err (BadLine number)) told unread requests = number ≡ length requests + 1
 -- a run over damaged disks begins nowhere
 EndsAfter start (Err (Damaged side number)) told unread requests = ⊥
 -- what it reads are requests
 EndsAfter start (Err (DamagedInput number)) told unread requests = ⊥
--- memory is asked for before a line is read, and then only for a command that is allowed or plans a list
+-- memory is asked for before a line is read, and then only for a command that is allowed or plans a
+-- list
 EndsAfter start (Err NoMemory) told unread requests = IsUnread told unread requests
-    ⊎ ((request : Request) × IsNext told requests request × TakesMemory (run start requests).0 request)
+    ⊎ ((request : Request) × IsNext told requests request
+    × TakesMemory (run start requests).0 request)
 -- as many lines were answered as one run answers
-EndsAfter start (Err (Limit number)) told unread requests = (number ≡ LINES_MOST) × (length requests ≡ LINES_MOST)
+EndsAfter start (Err (Limit number)) told unread requests = (number ≡ LINES_MOST)
+    × (length requests ≡ LINES_MOST)
 -- and it goes on in whatever generation
 EndsAfter start (Err (Rotated generation)) told unread requests = ⊥
 EndsAfter start _ told unread requests = Unit {0}
 
--- What a run has written by its end: all replies, and the last line where it stopped. Where the sink met a fault at a
--- reply, it is a front of the requests' lines that ends within the last of them.
+-- What a run has written by its end: all replies, and the last line where it stopped. Where the
+-- sink met a fault at a reply, it is a front of the requests' lines that ends within the last of
+-- them.
 abbrev pub WritesUpTo : State → Result (Unit {0}) Halt → Type 0 → List Request
     → Option (List ℕ) → Option (List ℕ) → Type 0
-WritesUpTo start (Err WriteFault) fault requests before now = (part : List ℕ) × Writes before part now
+WritesUpTo start (Err WriteFault) fault requests before now = (part : List ℕ)
+    × Writes before part now
     × ((earlier : List Request) × (request : Request) × (requests ≡ earlier ++ request ∷ [])
     × ((rest : List ℕ) × (part ≡ lines start earlier ++ rest))
     × ((missing : List ℕ) × (missing ≢ []) × (lines start requests ≡ part ++ missing)))
 WritesUpTo start end fault requests before now =
     TellsBehind (lines start requests) (lines start requests) end fault before now
 
--- How a run ends that began with l and r on its disks, for which they stood for this state. `told` is what the source
--- told, and `unread` what it still tells; `before` and `now` are what the sink held and holds, and `shown` and
--- `shown_now` what it was shown by then.
+-- How a run ends that began with l and r on its disks, for which they stood for this state. `told`
+-- is what the source told, and `unread` what it still tells; `before` and `now` are what the sink
+-- held and holds, and `shown` and `shown_now` what it was shown by then.
 pub record EndsIn {D : Type 0} (at : D → DiskAt) (old_left old_right : D) (start : State)
-    (end : Result (Unit {0}) Halt) (told : Option (List ℕ)) (l r : List ℕ) (unread : Option (List ℕ))
+    (end : Result (Unit {0}) Halt) (told : Option (List ℕ)) (l r : List ℕ)
+    (unread : Option (List ℕ))
     (sink_fails : Type 0) (before now : Option (List ℕ))
     (shown shown_now : Option (List Showing)) (left right : D) : Type 0 where
   pub requests : List Request

@@ -4,5 +4,6 @@ use Rattle.liq_ends.specs.declared.halts.Halt.{Halt}
 use Rattle.liq_ends.specs.Stops.{TellsBehind}
 
 -- the text was written; or, where the word stopped, its last line alone
-abbrev pub TellsAll : List ℕ → Result (Unit {0}) Halt → Type 0 → Option (List ℕ) → Option (List ℕ) → Type 0
+abbrev pub TellsAll : List ℕ → Result (Unit {0}) Halt → Type 0 → Option (List ℕ) → Option (List ℕ)
+    → Type 0
 TellsAll text end fault before now = TellsBehind [] text end fault before now

@@ -67,7 +67,8 @@ pub fn status(end: &Result<(), Halt>) -> u8
     }
 }
 
-/// Writes the last line of a run that stopped. Where it cannot be written whole, the run has stopped all the same.
+/// Writes the last line of a run that stopped. Where it cannot be written whole, the run has
+/// stopped all the same.
 pub fn write_last<K: Sink>(out: &mut K, halt: Halt)
     ensures written { Adds [] (last halt) (Rose (K.at out.old).faults (K.at out.new).faults)
         (K.at out.old).held (K.at out.new).held }

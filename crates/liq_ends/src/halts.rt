@@ -25,8 +25,8 @@ pub enum Halt {
     DamagedInput(u64),
     /// There was no memory.
     NoMemory,
-    /// This number of lines is all that one run answers, or of bytes all that are followed, and there are more; or a number above a limit
-    /// of the audit.
+    /// This number of lines is all that one run answers, or of bytes all that are followed, and
+    /// there are more; or a number above a limit of the audit.
     Limit(u128),
     /// The journal is of this generation, above the first, so that the commands before it are gone.
     Rotated(u64),
@@ -42,8 +42,8 @@ impl Halt {
     }
 }
 
-/// Whether a journal of this generation has all commands since the opening. A later one begins with a checkpoint in place of
-/// those before it.
+/// Whether a journal of this generation has all commands since the opening. A later one begins with
+/// a checkpoint in place of those before it.
 pub fn has_all_commands(generation: u64) -> bool
     ensures { IsTrue result ↔ generation ≤ 1 }
 {

@@ -1,5 +1,6 @@
-//! How a word of the program ends: why it stops, the status and the last line of that, a text that is written whole, a store that
-//! is closed, and a look whether a source goes on past what is taken of it.
+//! How a word of the program ends: why it stops, the status and the last line of that, a text that
+//! is written whole, a store that is closed, and a look whether a source goes on past what is taken
+//! of it.
 #![tactic(auto)]
 
 mod ending;

@@ -23,7 +23,8 @@ pub fn write_text<K: Sink>(out: &mut K, text: &[u8]) -> Result<(), Halt>
     }
 }
 
-/// Writes what waits where a word ends, and says how it ends then. Behind a fault of the sink nothing is written.
+/// Writes what waits where a word ends, and says how it ends then. Behind a fault of the sink
+/// nothing is written.
 pub fn write_rest<K: Sink>(out: &mut K, rest: &[u8], end: Result<(), Halt>) -> Result<(), Halt>
     ensures written { end ≢ Err Halt.WriteFault
         → WritesRest end rest.now (K.at out.old).held (K.at out.new).held result }

@@ -1,11 +1,12 @@
--- What accounts gain, in whole units: a sum for each unit of stake grows with each fee, and an account gains as the sum
--- has grown since its last change. Each division is rounded down.
+-- What accounts gain, in whole units: a sum for each unit of stake grows with each fee, and an
+-- account gains as the sum has grown since its last change. Each division is rounded down.
 use Rattle.std.specs.Prelude.{ℕ, ◌+◌, ◌-◌, ◌==◌, List, [], ◌∷◌, if◌then◌else◌}
 use Rattle.liq_num.specs.Quotient.{floor_of}
 use Rattle.liq_num.specs.declared.power.TheConstants.{ONE}
 use Rattle.liq_fees.specs.Happened.{Happened, Put, Out, Fee, Asset, stake_of, staked_of}
 
--- the sum: what a unit of stake was given of an asset, in 10^18ths; a fee is shared where anybody has a stake
+-- the sum: what a unit of stake was given of an asset, in 10^18ths; a fee is shared where anybody
+-- has a stake
 abbrev pub sum_of : Asset → List Happened → ℕ
 sum_of asset [] = 0
 sum_of asset (Put owner amount ∷ past) = sum_of asset past
@@ -32,15 +33,18 @@ abbrev pub got_of : Asset → ℕ → List Happened → ℕ
 got_of asset account [] = 0
 got_of asset account (Put owner amount ∷ past) =
     if owner == account
-    then gained (got_of asset account past) (stake_of account past) (sum_of asset past - mark_of asset account past)
+    then gained (got_of asset account past) (stake_of account past) (sum_of asset past
+    - mark_of asset account past)
     else got_of asset account past
 got_of asset account (Out owner amount ∷ past) =
     if owner == account
-    then gained (got_of asset account past) (stake_of account past) (sum_of asset past - mark_of asset account past)
+    then gained (got_of asset account past) (stake_of account past) (sum_of asset past
+    - mark_of asset account past)
     else got_of asset account past
 got_of asset account (Fee coll lusd ∷ past) = got_of asset account past
 
 -- all that the account has gained of an asset
 abbrev pub gain_of : Asset → ℕ → List Happened → ℕ
 gain_of asset account past =
-    gained (got_of asset account past) (stake_of account past) (sum_of asset past - mark_of asset account past)
+    gained (got_of asset account past) (stake_of account past) (sum_of asset past
+    - mark_of asset account past)

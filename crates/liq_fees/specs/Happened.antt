@@ -1,10 +1,11 @@
--- What happens to a fee pool that stakers share. A list of it has the latest first: what stands behind an item is what
--- happened before it.
+-- What happens to a fee pool that stakers share. A list of it has the latest first: what stands
+-- behind an item is what happened before it.
 use Rattle.std.specs.Prelude.{ℕ, ◌+◌, ◌-◌, ◌<◌, ◌≤◌, ◌==◌, List, [], ◌∷◌, if◌then◌else◌}
 use Rattle.liq_types.specs.declared.amounts.TheConstants.{ACCOUNTS, LIM}
 use Rattle.liq_fees.specs.declared.changes.TheConstants.{STAKED_MOST, CHANGES_MOST, FEES_MOST}
 
--- an account puts an amount in or takes one out, or a fee comes, of collateral (gwei) and LUSD (micro-LUSD)
+-- an account puts an amount in or takes one out, or a fee comes, of collateral (gwei) and LUSD
+-- (micro-LUSD)
 pub data Happened : Type 0 where
   Put : (account amount : ℕ) → Happened
   Out : (account amount : ℕ) → Happened
@@ -80,7 +81,8 @@ abbrev pub shares_of : List Happened → ℕ
 shares_of [] = 0
 shares_of (Put owner amount ∷ past) = shares_of past
 shares_of (Out owner amount ∷ past) = shares_of past
-shares_of (Fee coll lusd ∷ past) = if staked_of past == 0 then shares_of past else shares_of past + 1
+shares_of (Fee coll lusd ∷ past) = if staked_of past == 0 then shares_of past
+    else shares_of past + 1
 
 -- ---- what can happen
 

@@ -30,7 +30,14 @@ abbrev pub no_gain : Gain
 no_gain = record { mark = 0; got = 0 }
 
 abbrev pub no_staker : Staker
-no_staker = record { stake = 0; coll = no_gain; lusd = no_gain; weight = 0; shares = 0; changes = 0 }
+no_staker = record {
+  stake = 0;
+  coll = no_gain;
+  lusd = no_gain;
+  weight = 0;
+  shares = 0;
+  changes = 0;
+}
 
 abbrev pub is_used_staker : Staker → Bool
 is_used_staker s = not (s.changes == 0)
@@ -46,7 +53,8 @@ pub record IsPotOf (asset : Asset) (pot : Pot) (past : List Happened) : Type 0 w
   pub sum : pot.sum ≡ sum_of asset past
   pub unshared : pot.unshared ≡ unshared_of asset past
 
-pub record IsGainOf (asset : Asset) (account : ℕ) (gain : Gain) (past : List Happened) : Type 0 where
+pub record IsGainOf (asset : Asset) (account : ℕ) (gain : Gain) (past : List Happened) :
+    Type 0 where
   pub mark : gain.mark ≡ mark_of asset account past
   pub got : gain.got ≡ got_of asset account past
 
@@ -126,7 +134,8 @@ refusal_of account amount out staked stake =
     if nat_le ACCOUNTS account then Some (AccountRange account)
     else if amount == 0 then Some AmountZero
     else if out then (if nat_lt stake amount then Some (ShortStake amount stake) else None)
-    else if nat_lt STAKED_MOST (staked + amount) then Some (AmountLimit (staked + amount) STAKED_MOST)
+    else if nat_lt STAKED_MOST (staked + amount)
+    then Some (AmountLimit (staked + amount) STAKED_MOST)
     else None
 
 abbrev pub row_of : ℕ → List Happened → StakeRow

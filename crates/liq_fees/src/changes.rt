@@ -48,8 +48,9 @@ impl From<NoMemory> for ChangeFault {
     }
 }
 
-/// Why a change is refused, if it is, beside all that is staked and the account's own stake. The first reason in this
-/// order is told: the account's number, an amount of nothing, what there is too much or too little of.
+/// Why a change is refused, if it is, beside all that is staked and the account's own stake. The
+/// first reason in this order is told: the account's number, an amount of nothing, what there is
+/// too much or too little of.
 pub(crate) fn refusal(
     account: u32,
     amount: u64,

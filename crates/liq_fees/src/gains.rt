@@ -187,7 +187,8 @@ pub struct StakeRow {
     pub allow: u64,
 }
 
-/// By how much a gain may fall short: one for each 10^18 of weight, rounded up, and one for each change.
+/// By how much a gain may fall short: one for each 10^18 of weight, rounded up, and one for each
+/// change.
 fn allowance(weight: u128, changes: u64) -> u64
     requires weight { weight ≤ FEES_MOST * ONE }
     requires changes { changes ≤ CHANGES_MOST }

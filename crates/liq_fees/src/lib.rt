@@ -1,5 +1,6 @@
-//! Fees that stakers share, each by the part that its stake is of all stakes: an account beside the protocol, kept in
-//! whole units, with the law that what each has gained is its exact share but for a small allowance.
+//! Fees that stakers share, each by the part that its stake is of all stakes: an account beside the
+//! protocol, kept in whole units, with the law that what each has gained is its exact share but for
+//! a small allowance.
 #![tactic(auto)]
 
 mod changes;

@@ -26,9 +26,10 @@ pub struct StakeLine {
 #[error("no staker asks so")]
 pub struct BadStakeLine;
 
-/// What a line asks for, the line end not counted: `AT ACCOUNT stake AMOUNT` or `AT ACCOUNT unstake AMOUNT`, with one
-/// space between two words and numbers without leading zeros, the account below 2^32 and the others below 2^64.
-/// [`BadStakeLine`] exactly where it is no such line.
+/// What a line asks for, the line end not counted: `AT ACCOUNT stake AMOUNT` or
+/// `AT ACCOUNT unstake AMOUNT`, with one space between two words and numbers without leading zeros,
+/// the account below 2^32 and the others below 2^64. [`BadStakeLine`] exactly where it is no such
+/// line.
 pub fn read_stake_line(line: &[u8]) -> Result<StakeLine, BadStakeLine>
     ensures found { IfOk result (λ l. Spells line.now l) }
     // So at most one is spelled.

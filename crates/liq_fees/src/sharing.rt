@@ -18,9 +18,9 @@ use liq_types::amounts::{ACCOUNTS, LIM};
 use std::alloc::Global;
 use std::marker::Model;
 
-/// Fees, stakes and gains, as all changes and fees so far make them. Contracts say what a value stands for by
-/// `IsKeptOf`: a list of changes and fees, the latest first. Each value stands for a list that can happen. Only
-/// [`Fees::change`] takes memory.
+/// Fees, stakes and gains, as all changes and fees so far make them. Contracts say what a value
+/// stands for by `IsKeptOf`: a list of changes and fees, the latest first. Each value stands for a
+/// list that can happen. Only [`Fees::change`] takes memory.
 #[derive(Drop)]
 pub struct Fees {
     /// All stakes, in units of the staked token.
@@ -74,17 +74,22 @@ impl Fees {
         }
     }
 
-    /// An account puts an amount in, or takes it out (units of the staked token). Refused where the account is not
-    /// below [`ACCOUNTS`], the amount is 0, the account has less than it takes out, or all that is staked would pass
-    /// [`STAKED_MOST`]. Refused or without memory, nothing changes. A value takes at most [`CHANGES_MOST`] changes.
+    /// An account puts an amount in, or takes it out (units of the staked token). Refused where the
+    /// account is not below [`ACCOUNTS`], the amount is 0, the account has less than it takes out,
+    /// or all that is staked would pass [`STAKED_MOST`]. Refused or without memory, nothing
+    /// changes. A value takes at most [`CHANGES_MOST`] changes.
     #[tactic(auto, using(crate::proofs::Keeping::refusal_is))]
     pub fn change(&mut self, account: u32, amount: u64, out: bool) -> Result<(), ChangeFault>
-        requires few { ∥ ((past : List Happened) × IsKeptOf self.old past × (changes_in past < CHANGES_MOST)) ∥₁ }
+        requires few { ∥ ((past : List Happened) × IsKeptOf self.old past
+            × (changes_in past < CHANGES_MOST)) ∥₁ }
         ensures changed { OnOk result ((past : List Happened) → IsKeptOf self.old past →
-            changes_in past < CHANGES_MOST → IsKeptOf self.new (change_by account amount out ∷ past)) }
-        ensures refused { (past : List Happened) → IsKeptOf self.old past → (refusal : StakeRefusal) →
+            changes_in past < CHANGES_MOST → IsKeptOf self.new (change_by account amount out
+            ∷ past)) }
+        ensures refused { (past : List Happened) → IsKeptOf self.old past
+            → (refusal : StakeRefusal) →
             (result ≡ Err (No refusal))
-            ↔ (refusal_of account amount out (staked_of past) (stake_of account past) ≡ Some refusal) }
+            ↔ (refusal_of account amount out (staked_of past) (stake_of account past)
+            ≡ Some refusal) }
         ensures err { OnErr result (self.new ≡ self.old) }
     {
         let staker = self.staker(account);
@@ -99,13 +104,15 @@ impl Fees {
         Ok(())
     }
 
-    /// A fee comes, of collateral (gwei) and LUSD (micro-LUSD), not both 0. It is shared by all who have a stake; where
-    /// nobody has one it stays unshared. All fees together are at most [`LIM`] of either, and a value takes at most
-    /// [`FEES_MOST`] of them. No memory is taken.
+    /// A fee comes, of collateral (gwei) and LUSD (micro-LUSD), not both 0. It is shared by all who
+    /// have a stake; where nobody has one it stays unshared. All fees together are at most [`LIM`]
+    /// of either, and a value takes at most [`FEES_MOST`] of them. No memory is taken.
     pub fn share(&mut self, coll: u64, lusd: u64)
         requires some { 1 ≤ coll + lusd }
-        requires lawful { ∥ ((past : List Happened) × IsKeptOf self.old past × IsLawful (Fee coll lusd ∷ past)) ∥₁ }
-        ensures { (past : List Happened) → IsKeptOf self.old past → IsLawful (Fee coll lusd ∷ past) →
+        requires lawful { ∥ ((past : List Happened) × IsKeptOf self.old past
+            × IsLawful (Fee coll lusd ∷ past)) ∥₁ }
+        ensures { (past : List Happened) → IsKeptOf self.old past
+            → IsLawful (Fee coll lusd ∷ past) →
             IsKeptOf self.new (Fee coll lusd ∷ past) }
     {
         self.coll = self.coll.after(coll, self.staked);
@@ -113,10 +120,11 @@ impl Fees {
         self.shares = counted(self.shares, self.staked);
     }
 
-    /// What an account has staked and all that it has gained: of either asset never more than its exact share, and less
-    /// by at most what the row allows.
+    /// What an account has staked and all that it has gained: of either asset never more than its
+    /// exact share, and less by at most what the row allows.
     pub fn row(&self, account: u32) -> StakeRow
-        ensures row { (past : List Happened) → IsKeptOf self.now past → result ≡ row_of account past }
+        ensures row { (past : List Happened) → IsKeptOf self.now past
+            → result ≡ row_of account past }
         ensures coll { (past : List Happened) → IsKeptOf self.now past →
             IsWithinAllowance of_coll account past result.coll result.allow }
         ensures lusd { (past : List Happened) → IsKeptOf self.now past →
@@ -126,15 +134,17 @@ impl Fees {
         staker.row(account, self.coll, self.lusd, self.shares)
     }
 
-    /// The fees that came while nobody had a stake: collateral (gwei) and LUSD (micro-LUSD). With all gains they are at
-    /// most all fees.
+    /// The fees that came while nobody had a stake: collateral (gwei) and LUSD (micro-LUSD). With
+    /// all gains they are at most all fees.
     pub fn unshared(&self) -> (u64, u64)
         ensures unshared { (past : List Happened) → IsKeptOf self.now past →
             result ≡ (unshared_of of_coll past, unshared_of of_lusd past) }
         ensures coll { (past : List Happened) → IsKeptOf self.now past →
-            over_accounts ACCOUNTS (λ account. gain_of of_coll account past) + result.0 ≤ fees_of of_coll past }
+            over_accounts ACCOUNTS (λ account. gain_of of_coll account past) + result.0
+            ≤ fees_of of_coll past }
         ensures lusd { (past : List Happened) → IsKeptOf self.now past →
-            over_accounts ACCOUNTS (λ account. gain_of of_lusd account past) + result.1 ≤ fees_of of_lusd past }
+            over_accounts ACCOUNTS (λ account. gain_of of_lusd account past) + result.1
+            ≤ fees_of of_lusd past }
     {
         (self.coll.unshared, self.lusd.unshared)
     }

@@ -1,3 +1,3 @@
-pub mod Links
-pub mod Moments
-pub mod Openings
+mod Links
+mod Moments
+mod Openings

@@ -7,7 +7,8 @@ pub onward : {past between calls : List Asked} → Earlier past between → Earl
 onward p now = p
 onward p (later q) = later (onward p q)
 
-pub one_more : {past calls after : List Asked} {call : Asked} → after ≡ call ∷ calls → Earlier past calls → Earlier past after
+pub one_more : {past calls after : List Asked} {call : Asked} → after ≡ call ∷ calls → Earlier past calls
+    → Earlier past after
 one_more {past} is p = subst (λ (c : List Asked). Earlier past c) (sym is) (later p)
 
 pub one : {calls after : List Asked} {call : Asked} → after ≡ call ∷ calls → Earlier calls after

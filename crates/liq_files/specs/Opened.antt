@@ -44,7 +44,8 @@ IsItsTurn Right calls = (file : File) × WasOpened Left file calls × WasHeld fi
 abbrev pub KeepsBytes : Opening → Type 0
 KeepsBytes how = (how.read ≡ true) × (how.write ≡ true) × (how.truncate ≡ false)
 
--- a regular file that is there is opened as it is; where there is none a new one is made, for its owner alone
+-- a regular file that is there is opened as it is; where there is none a new one is made, for its
+-- owner alone
 abbrev pub OpensOrMakes : Name → Opening → List Asked → Type 0
 OpensOrMakes name how before =
     ((how.create_new ≡ false) × SawRegular name before)
@@ -66,7 +67,8 @@ OpensWell (_ ∷ before) = OpensWell before
 abbrev pub IsUnchanged : Seen → Seen → Type 0
 IsUnchanged seen again = (seen.found.id ≡ again.found.id) × (seen.changed ≡ again.changed)
 
--- The text leads to this path by links that the user follows, each of them looked at again once it was read.
+-- The text leads to this path by links that the user follows, each of them looked at again once it
+-- was read.
 pub data Leads (user : ℕ) (text : List ℕ) : List ℕ → List Asked → Type 0 where
   here : {calls : List Asked} → Leads user text text calls
   along :
@@ -74,7 +76,8 @@ pub data Leads (user : ℕ) (text : List ℕ) : List ℕ → List Asked → Type
       → Leads user text link calls
       → MayBeFollowed user seen.found.owner
       → IsUnchanged seen again
-      → Leads user text target (Saw link (Some again) ∷ Read link (Some target) ∷ Saw link (Some seen) ∷ calls)
+      → Leads user text target (Saw link (Some again) ∷ Read link (Some target)
+      ∷ Saw link (Some seen) ∷ calls)
 
 -- The text leads to the file that was found.
 pub record LeadsTo (user : ℕ) (text : List ℕ) (found : Found) (calls : List Asked) : Type 0 where
@@ -90,8 +93,10 @@ pub record LeadsTo (user : ℕ) (text : List ℕ) (found : Found) (calls : List 
 abbrev pub LeadsToIt : ℕ → List ℕ → Option Found → List Asked → Type 0
 LeadsToIt user text result calls = IfSome result (λ found. LeadsTo user text found calls)
 
--- The file was opened under this name, it is the one to which the name leads, the user may take it, and it is held.
-pub record Taken (user : ℕ) (others : List FileId) (name : Name) (file : File) (found : Found) (calls : List Asked)
+-- The file was opened under this name, it is the one to which the name leads, the user may take it,
+-- and it is held.
+pub record Taken (user : ℕ) (others : List FileId) (name : Name) (file : File) (found : Found)
+    (calls : List Asked)
     : Type 0 where
   pub opened : WasOpened name file calls
   pub told : WasAsked (Told file (Some found)) calls
@@ -99,7 +104,8 @@ pub record Taken (user : ℕ) (others : List FileId) (name : Name) (file : File)
   pub may : MayBeTaken user others found
   pub held : WasHeld file calls
 
--- Both files are taken, and then their folders were synced. Neither is the other or a standard stream.
+-- Both files are taken, and then their folders were synced. Neither is the other or a standard
+-- stream.
 pub record BothTaken (left right : File) (calls : List Asked) : Type 0 where
   pub user : ℕ
   pub input : FileId
@@ -114,7 +120,8 @@ pub record BothTaken (left right : File) (calls : List Asked) : Type 0 where
   pub is_output : WasAsked (Behind Output (Some output)) before
   pub is_errors : WasAsked (Behind Errors (Some errors)) before
   pub left_taken : Taken user (input ∷ output ∷ errors ∷ []) Left left left_found before
-  pub right_taken : Taken user (input ∷ output ∷ errors ∷ left_found.id ∷ []) Right right right_found before
+  pub right_taken : Taken user (input ∷ output ∷ errors ∷ left_found.id ∷ []) Right right
+      right_found before
 
 -- where both are handed out, both are taken
 abbrev pub AreTaken : Option File → Option File → List Asked → Type 0
@@ -122,7 +129,8 @@ AreTaken left right calls = IfSome left (λ l. IfSome right (λ r. BothTaken l r
 
 -- where the file is handed out, it is taken
 abbrev pub IsTaken : ℕ → List FileId → Name → Option File → Found → List Asked → Type 0
-IsTaken user others name device found calls = IfSome device (λ file. Taken user others name file found calls)
+IsTaken user others name device found calls =
+    IfSome device (λ file. Taken user others name file found calls)
 
 -- where a file was answered, it was opened under this name
 abbrev pub IsOpened : Name → Result File Refusal → List Asked → Type 0

@@ -18,7 +18,8 @@ IsOnesOwn user file = (file.owner ≡ user) ⊎ (user ≡ 0)
 -- a regular file of the user's own, which others may not write, and which stands for nothing else
 abbrev pub MayBeTaken : ℕ → List FileId → Found → Type 0
 MayBeTaken user taken file =
-    IsRegular file.mode × (IsOnesOwn user file × (IsClosedToOthers file.mode × (Contains taken file.id → ⊥)))
+    IsRegular file.mode × (IsOnesOwn user file × (IsClosedToOthers file.mode
+    × (Contains taken file.id → ⊥)))
 
 -- a link of the user's own, or of root's
 abbrev pub MayBeFollowed : ℕ → ℕ → Type 0

@@ -32,8 +32,9 @@ const NEW: Opening = Opening {
     mode: 0o600,
 };
 
-/// The disks over both files, or two without one: once the left file is refused the right one is not tried. No file stands for two of
-/// the standard streams, the left file and the right one. Nothing is written, and no folder synced, before both are taken.
+/// The disks over both files, or two without one: once the left file is refused the right one is
+/// not tried. No file stands for two of the standard streams, the left file and the right one.
+/// Nothing is written, and no folder synced, before both are taken.
 pub fn disks<S: System>(system: &mut S, alloc: Global) -> (FileDisk, FileDisk)
     ensures both { IsSome result.0.device ↔ IsSome result.1.device }
     ensures opens { S.tells → OpensWell (S.asked system.old) → OpensWell (S.asked system.new) }
@@ -81,9 +82,10 @@ fn both<S: System>(system: &mut S, alloc: Global) -> Option<(FileDisk, FileDisk)
     Some((left, right))
 }
 
-/// The disk over the file of this name, and which file it is. There is none where the file cannot be opened or may not be taken, stands
-/// in the place of a standard stream, or is held by another process. What the name leads to is looked at once the file is open, so the
-/// file that is judged is the one that is used.
+/// The disk over the file of this name, and which file it is. There is none where the file cannot
+/// be opened or may not be taken, stands in the place of a standard stream, or is held by another
+/// process. What the name leads to is looked at once the file is open, so the file that is judged
+/// is the one that is used.
 fn taken<S: System>(
     system: &mut S,
     alloc: Global,
@@ -115,7 +117,8 @@ fn taken<S: System>(
     Some((disk, found))
 }
 
-/// The file of this name, to be read and written. Where there is none it is made; where one came meanwhile, that one is opened.
+/// The file of this name, to be read and written. Where there is none it is made; where one came
+/// meanwhile, that one is opened.
 fn opened<S: System>(system: &mut S, name: Name) -> Result<File, Refusal>
     ensures since { S.tells → Earlier (S.asked system.old) (S.asked system.new) }
     ensures opens { S.tells → OpensInTurn name (S.asked system.old) (S.asked system.new) }
@@ -131,7 +134,8 @@ fn opened<S: System>(system: &mut S, name: Name) -> Result<File, Refusal>
     }
 }
 
-/// The file that is there. What is no regular file is not opened: a device may do something when it is.
+/// The file that is there. What is no regular file is not opened: a device may do something when it
+/// is.
 fn existing<S: System>(system: &mut S, name: Name) -> Result<File, Refusal>
     ensures since { S.tells → Earlier (S.asked system.old) (S.asked system.new) }
     ensures opens { S.tells → OpensInTurn name (S.asked system.old) (S.asked system.new) }
@@ -144,7 +148,8 @@ fn existing<S: System>(system: &mut S, name: Name) -> Result<File, Refusal>
     system.open(name, AS_IT_IS)
 }
 
-/// Whether the lock lets the process go on: it is taken, or the file system has no locks. After any other fault nothing is held.
+/// Whether the lock lets the process go on: it is taken, or the file system has no locks. After any
+/// other fault nothing is held.
 fn is_held(lock: &Result<(), TryLockError>) -> bool
     ensures { IsTrue result ↔ IsHeld lock.now }
 {

@@ -5,7 +5,8 @@ ghost use Rattle.liq_files.specs.Taking.{MayBeFollowed, MayBeTaken};
 use std::fs::Metadata;
 use std::os::unix::fs::MetadataExt;
 
-// The bits of a mode that say what stands there, those of a regular file, and the bit by which others may write.
+// The bits of a mode that say what stands there, those of a regular file, and the bit by which
+// others may write.
 const KIND: u32 = 0o170000;
 
 const REGULAR: u32 = 0o100000;
@@ -41,8 +42,9 @@ impl Found {
     }
 }
 
-/// Whether the user may take the file for one of the two: a regular one (a device tells no length) that is the user's own, or
-/// anybody's where the user is root; that others may not write; and that stands for none of what is taken.
+/// Whether the user may take the file for one of the two: a regular one (a device tells no length)
+/// that is the user's own, or anybody's where the user is root; that others may not write; and that
+/// stands for none of what is taken.
 pub fn may_be_taken(file: &Found, user: u32, taken: &[FileId]) -> bool
     ensures { IsTrue result ↔ MayBeTaken user taken.now file.now }
 {

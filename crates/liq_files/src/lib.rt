@@ -1,4 +1,5 @@
-//! The two files of the folder in which the program runs: which files are taken for them, and how they are opened and held.
+//! The two files of the folder in which the program runs: which files are taken for them, and how
+//! they are opened and held.
 #![tactic(auto)]
 
 mod calls;

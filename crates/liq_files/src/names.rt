@@ -14,8 +14,8 @@ use std::path::PathBuf;
 /// As many links in a row as the system follows.
 const MOST_LINKS: u32 = 40;
 
-/// The file to which a name leads, where the user follows each link on the way. Folders on the way are not looked at. Memory is taken
-/// only where the name is a link.
+/// The file to which a name leads, where the user follows each link on the way. Folders on the way
+/// are not looked at. Memory is taken only where the name is a link.
 pub fn led_to<S: System>(system: &mut S, alloc: Global, name: Name, user: u32) -> Option<Found>
     ensures since { S.tells → Earlier (S.asked system.old) (S.asked system.new) }
     ensures opens { S.tells → OpensWell (S.asked system.old) → OpensWell (S.asked system.new) }
@@ -52,7 +52,8 @@ fn behind_links<S: System>(system: &mut S, name: PathBuf, user: u32) -> Option<F
     None
 }
 
-/// Whether two looks at a link saw the same one: a name that was given to another link meanwhile shows by its number or its time of change.
+/// Whether two looks at a link saw the same one: a name that was given to another link meanwhile
+/// shows by its number or its time of change.
 fn is_unchanged(before: &Seen, after: &Seen) -> bool
     ensures { IsTrue result ↔ IsUnchanged before.now after.now }
 {

@@ -11,8 +11,8 @@ use std::io::{self, ErrorKind};
 use std::os::unix::fs::{MetadataExt, OpenOptionsExt};
 use std::path::{Path, PathBuf};
 
-/// The system in which the program runs. It tells nothing of what it was asked: that each call here asks for what its name says is
-/// for the reader to see.
+/// The system in which the program runs. It tells nothing of what it was asked: that each call here
+/// asks for what its name says is for the reader to see.
 #[derive(Drop)]
 pub struct Outside<'a, R> {
     rt: &'a R,
@@ -103,8 +103,8 @@ fn refusal(fault: &io::Error) -> Refusal {
     }
 }
 
-/// Syncs the folder in which the file of this name really is, so that one that was just made is there after a loss of power too: this
-/// one, or that of a link's target.
+/// Syncs the folder in which the file of this name really is, so that one that was just made is
+/// there after a loss of power too: this one, or that of a link's target.
 fn sync_folder<R: Files<File = File> + AllocGlobal>(rt: &R, name: &str) -> io::Result<()> {
     if !fs::symlink_metadata(rt, name)?.is_symlink() {
         return File::open(rt, ".")?.sync_all();

@@ -4,7 +4,8 @@ use crate::found::{FileId, Found};
 use std::fs::{self, Files};
 use std::io;
 
-/// The file behind standard input. The system says it under /proc alone; where it does not, the call fails.
+/// The file behind standard input. The system says it under /proc alone; where it does not, the
+/// call fails.
 pub fn input<F: Files>(files: &F) -> io::Result<FileId> {
     behind(files, "/proc/self/fd/0")
 }

@@ -48,7 +48,8 @@ pub trait System {
     fn lock(&mut self, file: &File) -> Result<(), TryLockError>
         ensures { tells → asked self.new ≡ Locked file.now result ∷ asked self.old };
 
-    /// Syncs the folder in which the file of this name really is: this one, or that of a link's target. Says whether it was done.
+    /// Syncs the folder in which the file of this name really is: this one, or that of a link's
+    /// target. Says whether it was done.
     fn sync_folder(&mut self, name: Name) -> bool
         ensures { tells → asked self.new ≡ Synced name result ∷ asked self.old };
 }

@@ -15,8 +15,8 @@ pub struct Written<W> {
     writer: Option<W>,
 }
 
-/// What is written to standard output goes to this writer, or nowhere where standard output is one of the two files, or may be one: no
-/// reply and no last line is written over a journal.
+/// What is written to standard output goes to this writer, or nowhere where standard output is one
+/// of the two files, or may be one: no reply and no last line is written over a journal.
 pub fn standard_output<F: Files, W: Write + Drop>(files: &F, writer: W) -> Written<W> {
     let is_a_file = is_output(files, Name::Left.text()) || is_output(files, Name::Right.text());
     Written {
@@ -28,12 +28,14 @@ pub fn standard_output<F: Files, W: Write + Drop>(files: &F, writer: W) -> Writt
 fn is_output<F: Files>(files: &F, name: &str) -> bool {
     match fs::metadata(files, name) {
         Ok(told) => may_be(&output(files), Found::of(&told).id),
-        // Where the name may not be looked up, as in a folder of somebody else's, any regular file may be the one.
+        // Where the name may not be looked up, as in a folder of somebody else's, any regular file
+        // may be the one.
         Err(fault) => fault.kind() == ErrorKind::PermissionDenied && is_output_regular(files),
     }
 }
 
-/// Whether a stream is this file, or may be it, since the system has not said which file the stream is.
+/// Whether a stream is this file, or may be it, since the system has not said which file the stream
+/// is.
 fn may_be(stream: &io::Result<FileId>, file: FileId) -> bool
     ensures { IsTrue result ↔ MayBe stream.now file }
 {

@@ -27,16 +27,36 @@ module _ (taken : ℕ) (fed piece : List ℕ) where
   front = fed ++ take taken piece
 
   split : fed ++ piece ≡ front ++ drop taken piece
-  split = sym (append_assoc fed (take taken piece) (drop taken piece) ∙ ap (λ (xs : List ℕ). fed ++ xs) (take-append-drop taken piece))
+  split = sym (append_assoc fed (take taken piece) (drop taken piece)
+      ∙ ap (λ (xs : List ℕ). fed ++ xs) (take-append-drop taken piece))
 
-  pub fed_piece : (end : FedEnd) (follower : Followed) → IsFed front follower → EndsWith end front → (end ≡ fed_end.All → taken ≡ length piece) → (AreOver front → IsFirstFault front)
-      → (end ≡ fed_end.NoMemory → taken < length piece) → (end ≡ fed_end.NoMemory → Completes (get_or piece taken 0) front) → FedPiece (end_of_feed end) (fed ++ piece) follower
+  pub fed_piece : (end : FedEnd) (follower : Followed) → IsFed front follower → EndsWith end front → (end ≡ fed_end.All
+      → taken ≡ length piece) → (AreOver front → IsFirstFault front)
+      → (end ≡ fed_end.NoMemory → taken < length piece) → (end ≡ fed_end.NoMemory
+      → Completes (get_or piece taken 0) front) → FedPiece (end_of_feed end) (fed ++ piece) follower
   fed_piece fed_end.All follower is ends all first less right =
       let size = all refl in
       let same : front ≡ fed ++ piece = ap (λ (xs : List ℕ). fed ++ xs) (take_all taken piece (omega (arith, size))) in
       (subst (λ (t : List ℕ). IsFed t follower) same is, subst GoOn same ends)
   fed_piece fed_end.NoMemory follower is ends all first less right =
       let behind = drop_more piece taken 0 (less refl) in
-      inr (front, drop (taken + 1) piece, get_or piece taken 0, (split ∙ ap (λ (xs : List ℕ). front ++ xs) behind), ends.0, right refl)
-  fed_piece (fed_end.Damaged index) follower is ends all first less right = (front, drop taken piece, split, (first (damage_ends index front ends), ends))
-  fed_piece (fed_end.Rotated generation) follower is ends all first less right = (front, drop taken piece, split, (first (turning_ends generation front ends), ends))
+      inr (
+        front,
+        drop (taken + 1) piece,
+        get_or piece taken 0,
+        (split ∙ ap (λ (xs : List ℕ). front ++ xs) behind),
+        ends.0,
+        right refl,
+      )
+  fed_piece (fed_end.Damaged index) follower is ends all first less right = (
+    front,
+    drop taken piece,
+    split,
+    (first (damage_ends index front ends), ends),
+  )
+  fed_piece (fed_end.Rotated generation) follower is ends all first less right = (
+    front,
+    drop taken piece,
+    split,
+    (first (turning_ends generation front ends), ends),
+  )

@@ -11,7 +11,8 @@ abbrev Told : Result (Unit {0}) Halt → List ℕ → Option (List ℕ) → List
 Told end read left text before now = FollowsTo end read left text × WritesAll text end before now
 
 -- the text of the state to which the bytes lead that were read
-pub told_whole : (read : List ℕ) (left before now : Option (List ℕ)) (text : List ℕ) (end : Result (Unit {0}) Halt) → IsWhole read left text → end ≢ Err DiskFault → WritesText (Ok text) end before now
+pub told_whole : (read : List ℕ) (left before now : Option (List ℕ)) (text : List ℕ) (end : Result (Unit {0}) Halt)
+    → IsWhole read left text → end ≢ Err DiskFault → WritesText (Ok text) end before now
     → Told end read left text before now
 told_whole read left before now text (Ok done) whole no_disk h =
     let same : h.0 ≡ text = cc h.1 in

@@ -33,7 +33,8 @@ begun start follower is = record { read = []; reads = reads_nothing start; size 
 pub none_read : (start : Option (List ℕ)) (follower : Followed) → Came (Err NoMemory) start start follower
 none_read start follower = ([], reads_nothing start, (omega arith, inl none_goes_on))
 
-stopped_within : (halt : Halt) (read : List ℕ) (left : Option (List ℕ)) → length read ≤ FED_MOST → StopsWithin halt read → FollowsTo (Err halt) read left []
+stopped_within : (halt : Halt) (read : List ℕ) (left : Option (List ℕ)) → length read ≤ FED_MOST → StopsWithin halt read
+    → FollowsTo (Err halt) read left []
 stopped_within ReadFault read left few h = (few, h)
 stopped_within NoMemory read left few h = (few, h)
 stopped_within (DamagedInput index) read left few h = (few, h)
@@ -56,7 +57,8 @@ module _ (start left : Option (List ℕ)) (room : ℕ) (follower : Followed) (u 
     long = length-append u.read more
 
     -- the next bytes go on
-    pub goes_on : (count : ℕ) → length more ≤ room → FedNext (Ok count) u.read more left' follower' → Underway start left' (room - count) follower'
+    pub goes_on : (count : ℕ) → length more ≤ room → FedNext (Ok count) u.read more left' follower'
+        → Underway start left' (room - count) follower'
     goes_on count few h = record {
       read = all;
       reads = whole_read;
@@ -66,21 +68,53 @@ module _ (start left : Option (List ℕ)) (room : ℕ) (follower : Followed) (u 
     }
 
     -- there are none
-    pub comes_to_end : (count : ℕ) → count ≡ 0 → length more ≤ room → FedNext (Ok count) u.read more left' follower' → Came (Ok tt) start left' follower'
-    comes_to_end count none few h = (all, whole_read, (let size = u.size in omega (arith, long, few, size), h.3 none, h.1, h.2))
+    pub comes_to_end : (count : ℕ) → count ≡ 0 → length more ≤ room → FedNext (Ok count) u.read more left' follower'
+        → Came (Ok tt) start left' follower'
+    comes_to_end count none few h = (
+      all,
+      whole_read,
+      (
+        let size = u.size in omega (arith, long, few, size),
+        h.3 none,
+        h.1,
+        h.2,
+      ),
+    )
 
     -- or feeding them stops
-    pub comes_to_stop : (halt : Halt) → length more ≤ room → FedNext (Err halt) u.read more left' follower' → Came (Err halt) start left' follower'
-    comes_to_stop halt few h = (all, whole_read, stopped_within halt all left' (let size = u.size in omega (arith, long, few, size)) h)
+    pub comes_to_stop : (halt : Halt) → length more ≤ room → FedNext (Err halt) u.read more left' follower'
+        → Came (Err halt) start left' follower'
+    comes_to_stop halt few h = (
+      all,
+      whole_read,
+      stopped_within halt all left' (let size = u.size
+          in omega (arith, long, few, size)) h,
+    )
 
     -- behind the most that are followed
-    pub looks_further : (end : Result (Unit {0}) Halt) → room ≡ 0 → IsFurther FED_MOST end more left' → Came end start left' follower
+    pub looks_further : (end : Result (Unit {0}) Halt) → room ≡ 0 → IsFurther FED_MOST end more left'
+        → Came end start left' follower
     looks_further (Ok done) none h =
-        let same : all ≡ u.read = ap (λ (t : List ℕ). u.read ++ t) h.0 ∙ append-nil u.read in
-        (all, whole_read, (let size = u.size in let l = ap length same in omega (arith, size), h.1, subst (λ (t : List ℕ). IsFed t follower) (sym same) u.fed, subst GoOn (sym same) u.goes))
+        let same : all ≡ u.read = ap (λ (t : List ℕ). u.read ++ t) h.0 ∙ append-nil u.read in (
+          all,
+          whole_read,
+          (
+            let size = u.size in let l = ap length same in omega (arith, size),
+            h.1,
+            subst (λ (t : List ℕ). IsFed t follower) (sym same) u.fed,
+            subst GoOn (sym same) u.goes,
+          ),
+        )
     looks_further (Err ReadFault) none h =
-        let same : all ≡ u.read = ap (λ (t : List ℕ). u.read ++ t) h ∙ append-nil u.read in
-        (all, whole_read, (let size = u.size in let l = ap length same in omega (arith, l, size), subst GoOn (sym same) u.goes))
+        let same : all ≡ u.read = ap (λ (t : List ℕ). u.read ++ t) h ∙ append-nil u.read in (
+          all,
+          whole_read,
+          (
+            let size = u.size in let l = ap length same
+                in omega (arith, l, size),
+            subst GoOn (sym same) u.goes,
+          ),
+        )
     looks_further (Err (Limit number)) none h =
         let size = u.size in
         let full : length u.read ≡ FED_MOST = omega (arith, size, none) in

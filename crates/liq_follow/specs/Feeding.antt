@@ -12,13 +12,16 @@ abbrev pub FedPiece : Result (Unit {0}) Halt → List ℕ → Followed → Type 
 FedPiece (Ok done) bytes follower = IsFed bytes follower × GoOn bytes
 FedPiece (Err halt) bytes follower = StopsWithin halt bytes
 
--- Bytes were read behind those that are fed, and then fed too: as many as are told, and none at the source's end.
+-- Bytes were read behind those that are fed, and then fed too: as many as are told, and none at the
+-- source's end.
 abbrev pub FedNext : Result ℕ Halt → List ℕ → List ℕ → Option (List ℕ) → Followed → Type 0
 FedNext (Ok count) fed read left follower =
-    (length read ≡ count) × IsFed (fed ++ read) follower × GoOn (fed ++ read) × (count ≡ 0 → IsOver left)
+    (length read ≡ count) × IsFed (fed ++ read) follower × GoOn (fed ++ read) × (count ≡ 0
+    → IsOver left)
 FedNext (Err halt) fed read left follower = StopsWithin halt (fed ++ read)
 
 -- the whole input was fed, or feeding it stopped
 abbrev pub FedAll : Result (Unit {0}) Halt → List ℕ → Option (List ℕ) → Followed → Type 0
-FedAll (Ok done) read left follower = (length read ≤ FED_MOST) × IsOver left × IsFed read follower × GoOn read
+FedAll (Ok done) read left follower = (length read ≤ FED_MOST) × IsOver left × IsFed read follower
+    × GoOn read
 FedAll (Err halt) read left follower = FollowsTo (Err halt) read left []

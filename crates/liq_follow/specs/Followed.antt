@@ -9,7 +9,8 @@ use Rattle.liq_ends.specs.declared.halts.Halt.TheVariants.{ReadFault, Rotated, W
 use Rattle.liq_tell.specs.State.{standing}
 use Rattle.liq_follow.specs.declared.feeding.TheConstants.{FED_MOST}
 
--- The input was read to its end. Its bytes are no more than are followed, and lead to a state of which this is told.
+-- The input was read to its end. Its bytes are no more than are followed, and lead to a state of
+-- which this is told.
 pub record IsWhole (read : List ℕ) (left : Option (List ℕ)) (text : List ℕ) : Type 0 where
   pub few : length read ≤ FED_MOST
   pub over : IsOver left
@@ -41,7 +42,8 @@ StopsWithin (DamagedInput index) read = FaultIn read (AreDamagedAt index)
 StopsWithin (Rotated generation) read = FaultIn read (AreTurnedTo generation)
 StopsWithin _ read = ⊥
 
--- Where following ends. `read` is what was read of the input, `left` what the source still tells, `text` what is told.
+-- Where following ends. `read` is what was read of the input, `left` what the source still tells,
+-- `text` what is told.
 abbrev pub FollowsTo : Result (Unit {0}) Halt → List ℕ → Option (List ℕ) → List ℕ → Type 0
 FollowsTo (Ok done) read left text = IsWhole read left text
 FollowsTo (Err WriteFault) read left text = IsWhole read left text

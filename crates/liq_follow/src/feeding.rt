@@ -19,8 +19,9 @@ pub const FED_MOST: usize = 268_435_456;
 /// The most that one read asks of the source, in bytes.
 const PIECE_BYTES: usize = 4_096;
 
-/// Reads the input to its end, piece by piece, and feeds it to a follower that has taken no byte. It stops at the first byte
-/// that shows a fault, and behind the most bytes that are followed it only looks whether there is one more.
+/// Reads the input to its end, piece by piece, and feeds it to a follower that has taken no byte.
+/// It stops at the first byte that shows a fault, and behind the most bytes that are followed it
+/// only looks whether there is one more.
 pub fn feed_input<S: Source>(
     alloc: Global,
     input: &mut S,

@@ -16,8 +16,9 @@ use liq_outside::{Sink, Source};
 use liq_tell::write_standing;
 use std::alloc::Global;
 
-/// Follows the journal that the input is, at most its first 2^28 bytes, and tells what stands at its end. It writes the last
-/// line where that stops. It holds no more of the input than one piece and one record.
+/// Follows the journal that the input is, at most its first 2^28 bytes, and tells what stands at
+/// its end. It writes the last line where that stops. It holds no more of the input than one piece
+/// and one record.
 pub fn follow_on<S: Source, K: Sink>(alloc: Global, input: &mut S, out: &mut K) -> Result<(), Halt>
     ensures followed { (read : List ℕ) × Reads (S.at input.old).left read (S.at input.new).left
         × ((text : List ℕ) × FollowsTo result read (S.at input.new).left text

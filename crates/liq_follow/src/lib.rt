@@ -1,4 +1,5 @@
-//! The word `follow`: a journal of the first generation that comes in, followed to its end, and told is what stands there.
+//! The word `follow`: a journal of the first generation that comes in, followed to its end, and
+//! told is what stands there.
 #![tactic(auto)]
 
 mod feeding;

@@ -29,7 +29,8 @@ use Rattle.liq_follower.proofs.Headers.{no_header, too_short}
 -- ---- commands
 
 -- the first commands of a replay lead to a state
-replay_front : (n index : ℕ) (s end : State) (cs : List Command) → replay index s cs ≡ Ok end → (t : State) × (replay index s (take n cs) ≡ Ok t)
+replay_front : (n index : ℕ) (s end : State) (cs : List Command) → replay index s cs ≡ Ok end → (t : State)
+    × (replay index s (take n cs) ≡ Ok t)
 replay_front zero index s end cs came = (s, replay_none index s)
 replay_front (suc n) index s end [] came = (s, replay_none index s)
 replay_front (suc n) index s end (c ∷ cs) came =
@@ -40,7 +41,8 @@ replay_front (suc n) index s end (c ∷ cs) came =
 -- ---- a journal
 
 module _ (bytes rest : List ℕ) (w : Written) (s : State)
-    (found : found_on true (bytes ++ rest) ≡ Open w) (first : w.generation ≡ 1) (came : outcome w ≡ Ok s) (named_there : 9 ≤ length bytes) where
+    (found : found_on true (bytes ++ rest) ≡ Open w) (first : w.generation ≡ 1) (came : outcome w
+    ≡ Ok s) (named_there : 9 ≤ length bytes) where
   abbrev held : List ℕ
   held = bytes ++ rest
 
@@ -83,7 +85,8 @@ module _ (bytes rest : List ℕ) (w : Written) (s : State)
     (
       opening_with w.limit,
       replay_none 1 (opening_with w.limit),
-      subst (λ (limit : ℕ). LeadTo bytes (opening_with limit)) limit_is (no_header bytes (too_short (get_or bytes 0 0) (header_size (layout_on bytes)) m less)),
+      subst (λ (limit : ℕ). LeadTo bytes (opening_with limit)) limit_is (no_header bytes (too_short (get_or bytes 0 0)
+          (header_size (layout_on bytes)) m less)),
     ),
   )
 
@@ -108,9 +111,11 @@ module _ (bytes rest : List ℕ) (w : Written) (s : State)
     front : FrontOf w.generation w.limit w.checkpoint 1 (start_of w) raws w
     front =
         let split = records_front most_records (drop (start_of w) bytes) rest in
-        let there : drop (start_of w) held ≡ drop (start_of w) bytes ++ rest = drop-append-le (start_of w) bytes rest start in
+        let there : drop (start_of w) held ≡ drop (start_of w) bytes ++ rest =
+        drop-append-le (start_of w) bytes rest start in
         found_front w.generation w.limit w.checkpoint 1 (start_of w) raws split.0 w (
-        ap (found_records w.generation w.limit w.checkpoint 1 (start_of w)) (sym split.1 ∙ ap (records most_records) (sym there)) ∙ o.behind
+        ap (found_records w.generation w.limit w.checkpoint 1 (start_of w)) (sym split.1
+        ∙ ap (records most_records) (sym there)) ∙ o.behind
         )
 
     found_here : found_on true bytes ≡ Open front.written
@@ -132,7 +137,8 @@ module _ (bytes rest : List ℕ) (w : Written) (s : State)
             part.1,
             (
               first_unturned bytes generation_is,
-              fed_behind bytes has ∙ standing_open true bytes v part.0 found_here leads ∙ ap (λ (g : ℕ). Holding g part.0) (of.generation_is ∙ first),
+              fed_behind bytes has ∙ standing_open true bytes v part.0 found_here leads
+                  ∙ ap (λ (g : ℕ). Holding g part.0) (of.generation_is ∙ first),
             ),
           ),
         )
@@ -159,7 +165,8 @@ holding : (found : Found) (s : State) → standing_of found ≡ Holding 1 s → 
 holding Absent s is = absurd (cc (is))
 holding (Damaged damage) s is = absurd (cc (is))
 holding (Open w) s is = by (outcome w) refl is where
-  by : (came : Result State Damage) → outcome w ≡ came → standing_after w.generation came ≡ Holding 1 s → Holds (Open w) s
+  by : (came : Result State Damage) → outcome w ≡ came → standing_after w.generation came ≡ Holding 1 s
+      → Holds (Open w) s
   by (Err damage) came is = absurd (cc (is))
   by (Ok t) came is =
       let same : t ≡ s = cc (is) in
@@ -171,18 +178,24 @@ unfolding standing
 held_by bytes s is = holding (found_on true bytes) s is
 
 -- a whole header is whole whatever follows
-still_headed : (bytes rest : List ℕ) → has_header bytes ≡ true → (9 ≤ length bytes) × (has_header (bytes ++ rest) ≡ true)
+still_headed : (bytes rest : List ℕ) → has_header bytes ≡ true → (9 ≤ length bytes)
+    × (has_header (bytes ++ rest) ≡ true)
 still_headed bytes rest has =
-    let parts : (get_or bytes 0 0 ≡ 1) × (header_size (layout_on bytes) ≤ length bytes) = of_both (get_or bytes 0 0) (header_size (layout_on bytes)) (length bytes) has in
+    let parts : (get_or bytes 0 0 ≡ 1) × (header_size (layout_on bytes) ≤ length bytes) =
+    of_both (get_or bytes 0 0) (header_size (layout_on bytes)) (length bytes) has in
     let l = least bytes in
     let size = parts.1 in
     let there : 9 ≤ length bytes = omega arith in
     let alike : take 9 (bytes ++ rest) ≡ take 9 bytes = take-append-le 9 bytes rest there in
     let gate : get_or (bytes ++ rest) 0 0 ≡ 1 = byte_alike 9 bytes (bytes ++ rest) alike 0 (omega arith) ∙ parts.0 in
-    let same : layout_on (bytes ++ rest) ≡ layout_on bytes = ap layout_named (piece_alike 9 bytes (bytes ++ rest) alike 1 8 (omega arith)) in
+    let same : layout_on (bytes ++ rest) ≡ layout_on bytes =
+    ap layout_named (piece_alike 9 bytes (bytes ++ rest) alike 1 8 (omega arith)) in
     let long = length-append bytes rest in
-    let sizes = ap header_size same in
-    (there, both (get_or (bytes ++ rest) 0 0) (header_size (layout_on (bytes ++ rest))) (length (bytes ++ rest)) gate (omega arith))
+    let sizes = ap header_size same in (
+      there,
+      both (get_or (bytes ++ rest) 0 0) (header_size (layout_on (bytes ++ rest))) (length (bytes ++ rest)) gate
+          (omega arith),
+    )
   where
     of_both : (gate n m : ℕ) → ((gate == 1) && nat_le n m) ≡ true → (gate ≡ 1) × (n ≤ m)
     of_both gate n m is = (grind (arith, nat_tests), grind (arith, nat_tests))

@@ -27,7 +27,8 @@ use Rattle.liq_follower.proofs.Replaying.{outcome_refused}
 -- bytes with a whole header are what they are as the left disk
 pub fed_behind : (bytes : List ℕ) → has_header bytes ≡ true → fed bytes ≡ standing true bytes
 unfolding fed
-fed_behind bytes has = ap (λ (b : Bool). if b then standing true bytes else Holding 1 (opening_with (begun_limit bytes))) has
+fed_behind bytes has = ap (λ (b : Bool). if b then standing true bytes
+    else Holding 1 (opening_with (begun_limit bytes))) has
 
 module _ (front : List ℕ) (s : State) (e : EndsWhole front s) where
   abbrev w : Written
@@ -55,10 +56,12 @@ module _ (front : List ℕ) (s : State) (e : EndsWhole front s) where
     pub leads : begins_whole rest ≡ false → LeadTo bytes s
     leads none = (
       not_turned,
-      fed_behind bytes has ∙ standing_open true bytes w s (stays_open none) e.came ∙ ap (λ (g : ℕ). Holding g s) e.first,
+      fed_behind bytes has ∙ standing_open true bytes w s (stays_open none) e.came
+          ∙ ap (λ (g : ℕ). Holding g s) e.first,
     )
 
-    faulty : (damage : Damage) (index : ℕ) → standing true bytes ≡ Faulty damage → damage.index ≡ index → AreDamagedAt index bytes
+    faulty : (damage : Damage) (index : ℕ) → standing true bytes ≡ Faulty damage → damage.index ≡ index
+        → AreDamagedAt index bytes
     faulty damage index is at = (not_turned, (damage, fed_behind bytes has ∙ is, at))
 
   -- ---- one record more
@@ -74,26 +77,35 @@ module _ (front : List ℕ) (s : State) (e : EndsWhole front s) where
     same_on at = ap (λ (g : ℕ). record_on g index at raw) e.first
 
     found_next : (c : Command) → IsRecordOf index raw c → found_on true (front ++ record_is) ≡ Open (and_then w c)
-    found_next c read = found.found_next front w e.found e.ends few raw size index index_is c (λ at. same_on at ∙ read at)
+    found_next c read = found.found_next front w e.found e.ends few raw size index index_is c (λ at. same_on at
+        ∙ read at)
 
     -- it is no record of this number
     pub bad_form : IsNoRecord index raw → AreDamagedAt index (front ++ record_is)
     bad_form read =
-        let bad = found.found_none front w e.found e.ends few raw size index index_is (λ at. ((read at).0, same_on at ∙ (read at).1)) in
+        let bad = found.found_none front w e.found e.ends few raw size index index_is (λ at. (
+          (read at).0,
+          same_on at
+              ∙ (read at).1,
+        )) in
         let damage : Damage = record { index = index; what = bad.0 } in
         faulty record_is damage index (standing_damaged true (front ++ record_is) damage bad.1) refl
 
     -- the rules refuse its command
-    pub bad_command : (c : Command) → IsRecordOf index raw c → (ruling s c ≡ Allowed → ⊥) → AreDamagedAt index (front ++ record_is)
+    pub bad_command : (c : Command) → IsRecordOf index raw c → (ruling s c ≡ Allowed → ⊥)
+        → AreDamagedAt index (front ++ record_is)
     bad_command c read isnt =
         let ends = outcome_refused w c s e.came isnt in
-        faulty record_is ends.damage index (standing_faulty true (front ++ record_is) (and_then w c) ends.damage (found_next c read) ends.is) (ends.at ∙ sym index_is)
+        faulty record_is ends.damage index (standing_faulty true (front ++ record_is) (and_then w c) ends.damage
+        (found_next c read) ends.is) (ends.at ∙ sym index_is)
 
     -- its command is made
-    pub one_record_more : (c : Command) → IsRecordOf index raw c → ruling s c ≡ Allowed → EndsWhole (front ++ record_is) (after s c)
+    pub one_record_more : (c : Command) → IsRecordOf index raw c → ruling s c ≡ Allowed
+        → EndsWhole (front ++ record_is) (after s c)
     one_record_more c read allowed =
         let open_more = found_next c read in
-        let stays : is_rotate c.call ≡ false = (All-pop (λ (d : Command). is_rotate d.call ≡ false) (w.commands ++ c ∷ []) w.commands (Some c) refl (found_no_rotation true (front ++ record_is) (and_then w c) open_more)).1 in
+        let stays : is_rotate c.call ≡ false = (All-pop (λ (d : Command). is_rotate d.call ≡ false) (w.commands ++ c
+        ∷ []) w.commands (Some c) refl (found_no_rotation true (front ++ record_is) (and_then w c) open_more)).1 in
         let more = after-records s c (never_rotates c.call stays) in
         let commands = length-append w.commands (c ∷ []) in
         let room : s.records < 1000000 = allowed_few s c allowed (never_rotates c.call stays) in
@@ -117,7 +129,8 @@ module _ (front : List ℕ) (s : State) (e : EndsWhole front s) where
         s,
         stays_open (1 ∷ held) none,
         ap (found_on true) (append_assoc front (1 ∷ held) (last ∷ []))
-            ∙ found_next (held ++ last ∷ []) (let n = length-append held (last ∷ []) in omega (arith, n, size)) index next c read,
+            ∙ found_next (held ++ last ∷ []) (let n = length-append held (last ∷ [])
+            in omega (arith, n, size)) index next c read,
         leads (1 ∷ held) none,
         wants,
       )
@@ -133,4 +146,5 @@ module _ (front : List ℕ) (s : State) (e : EndsWhole front s) where
       same = omega arith
 
       gate : get_or (front ++ 1 ∷ held) (end_of w) 0 ≡ 1
-      gate = get_or-append_right front (1 ∷ held) (end_of w) (end_of w) 0 e.ends (omega arith) ∙ ap (λ (k : ℕ). get_or (1 ∷ held) k 0) same
+      gate = get_or-append_right front (1 ∷ held) (end_of w) (end_of w) 0 e.ends (omega arith)
+          ∙ ap (λ (k : ℕ). get_or (1 ∷ held) k 0) same

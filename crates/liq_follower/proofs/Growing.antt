@@ -18,7 +18,8 @@ greatest bytes = by (bytes_eq (name_on bytes) version_2.name) where
   by false = omega arith
 
 -- a record whose last byte is written behind those that are held
-pub with_last : (bytes held : List ℕ) (count last : ℕ) → length bytes ≡ 128 → held ≡ take count bytes → length held ≡ 127 → set bytes 127 last ≡ held ++ last ∷ []
+pub with_last : (bytes held : List ℕ) (count last : ℕ) → length bytes ≡ 128 → held ≡ take count bytes
+    → length held ≡ 127 → set bytes 127 last ≡ held ++ last ∷ []
 with_last bytes held count last size is full =
     let n = ap length is ∙ length-take count bytes in
     let all : count ≡ 127 = omega arith in
@@ -50,7 +51,8 @@ module _ (held : List ℕ) (byte : ℕ) (begun : IsBegun held) where
     by (inl few) = let l = least more in let n = long in omega (arith, few)
     by (inr there) =
         let alike : take 9 more ≡ take 9 held = take-append-le 9 held (byte ∷ []) there in
-        let same : layout_on more ≡ layout_on held = ap layout_named (piece_alike 9 held more alike 1 8 (omega arith)) in
+        let same : layout_on more ≡ layout_on held = ap layout_named (piece_alike 9 held more alike 1 8 (omega arith))
+        in
         let size = ap header_size same in
         let less = begun.short in
         let n = long in
@@ -66,8 +68,10 @@ module _ (held : List ℕ) (byte : ℕ) (begun : IsBegun held) where
 pub same_limit : (held : List ℕ) (byte : ℕ) → 9 ≤ length held → begun_limit (held ++ byte ∷ []) ≡ begun_limit held
 same_limit held byte long =
     let alike : take 9 (held ++ byte ∷ []) ≡ take 9 held = take-append-le 9 held (byte ∷ []) long in
-    let gate : get_or (held ++ byte ∷ []) 0 0 ≡ get_or held 0 0 = byte_alike 9 held (held ++ byte ∷ []) alike 0 (omega arith) in
-    let name : name_on (held ++ byte ∷ []) ≡ name_on held = piece_alike 9 held (held ++ byte ∷ []) alike 1 8 (omega arith) in
+    let gate : get_or (held ++ byte ∷ []) 0 0 ≡ get_or held 0 0 = byte_alike 9 held (held ++ byte ∷ []) alike 0
+    (omega arith) in
+    let name : name_on (held ++ byte ∷ []) ≡ name_on held = piece_alike 9 held (held ++ byte ∷ []) alike 1 8
+    (omega arith) in
     λ i. if (gate i == 1) && bytes_eq (name i) version_1.name then LIM_OF_VERSION_1 else LIM
 
 -- a header has fewer bytes than a record

@@ -32,10 +32,12 @@ is_true : (b : Bool) → not b ≡ false → b ≡ true
 is_true true is = refl
 is_true false is = absurd (cc (is))
 
-pub named : (bytes : List ℕ) → get_or bytes 0 0 ≡ 1 → not (bytes_eq (name_on bytes) (layout_on bytes).name) ≡ false → IsNamed bytes
+pub named : (bytes : List ℕ) → get_or bytes 0 0 ≡ 1 → not (bytes_eq (name_on bytes) (layout_on bytes).name) ≡ false
+    → IsNamed bytes
 named bytes gate right = by (bytes_eq (name_on bytes) version_2.name) refl
   where
-    limit_is : (first : Bool) → bytes_eq (name_on bytes) version_1.name ≡ first → begun_limit bytes ≡ (if first then LIM_OF_VERSION_1 else LIM)
+    limit_is : (first : Bool) → bytes_eq (name_on bytes) version_1.name ≡ first
+        → begun_limit bytes ≡ (if first then LIM_OF_VERSION_1 else LIM)
     limit_is first is = λ i. if is_one (get_or bytes 0 0) gate i && is i then LIM_OF_VERSION_1 else LIM
 
     other : bytes_eq (name_on bytes) version_2.name ≡ true → bytes_eq (name_on bytes) version_1.name ≡ false
@@ -50,15 +52,18 @@ named bytes gate right = by (bytes_eq (name_on bytes) version_2.name) refl
         }
     by false is =
         let layout : layout_on bytes ≡ version_1 = ap (λ (b : Bool). if b then version_2 else version_1) is in
-        let first : bytes_eq (name_on bytes) version_1.name ≡ true = is_true (bytes_eq (name_on bytes) version_1.name) (ap (λ (l : Layout). not (bytes_eq (name_on bytes) l.name)) (sym layout) ∙ right) in
+        let first : bytes_eq (name_on bytes) version_1.name ≡ true = is_true (bytes_eq (name_on bytes) version_1.name)
+        (ap (λ (l : Layout). not (bytes_eq (name_on bytes) l.name)) (sym layout) ∙ right) in
         record {
           by_limit = ap (λ (l : Layout). layout_with l.limit) layout ∙ sym layout;
           limit = limit_is true first ∙ ap (λ (l : Layout). l.limit) (sym layout);
         }
 
 -- the first generation has no checkpoint
-pub no_size : (bytes : List ℕ) → generation_on bytes ≡ 1 → first_fault (header_tests (layout_on bytes) true bytes) ≡ None → size_on bytes ≡ 0
-no_size bytes first right = zero_size (size_on bytes) (subst (λ (g : ℕ). not (is_size g (size_on bytes)) ≡ false) first (are_false (header_tests (layout_on bytes) true bytes) right).1.1.0)
+pub no_size : (bytes : List ℕ) → generation_on bytes ≡ 1 → first_fault (header_tests (layout_on bytes) true bytes)
+    ≡ None → size_on bytes ≡ 0
+no_size bytes first right = zero_size (size_on bytes) (subst (λ (g : ℕ). not (is_size g (size_on bytes)) ≡ false) first
+    (are_false (header_tests (layout_on bytes) true bytes) right).1.1.0)
   where
     zero_size : (n : ℕ) → not (is_size 1 n) ≡ false → n ≡ 0
     zero_size n is = let so : not (n == 0) ≡ false = is in grind (arith, nat_tests)
@@ -85,7 +90,9 @@ module _ (bytes : List ℕ) (gate : get_or bytes 0 0 ≡ 1) (whole : length byte
   found_fault (Some what) is isnt = (
     what,
     found_of (record { index = 0; what = what })
-        (ap (λ (b : Bool). if b then Absent else found_behind layout bytes (first_fault (header_tests layout true bytes))) there ∙ ap (found_behind layout bytes) is),
+        (ap (λ (b : Bool). if b then Absent
+        else found_behind layout bytes (first_fault (header_tests layout true bytes))) there
+        ∙ ap (found_behind layout bytes) is),
   )
 
   pub found_wrong : (first_fault (header_tests layout true bytes) ≡ None → ⊥)
@@ -123,4 +130,5 @@ module _ (bytes : List ℕ) (gate : get_or bytes 0 0 ≡ 1) (whole : length byte
           long = omega arith;
         })
         ∙ ap (λ (l : List ℕ). found_records 1 layout.limit [] 1 (header_size layout) (records most_records l)) nothing
-        ∙ ap (found_records 1 layout.limit [] 1 (header_size layout)) (records_none most_records [] (isnt_long [] (omega arith)))
+        ∙ ap (found_records 1 layout.limit [] 1 (header_size layout)) (records_none most_records []
+        (isnt_long [] (omega arith)))

@@ -21,7 +21,9 @@ use Rattle.liq_follower.proofs.Headed as headed
 pub no_header : (bytes : List ℕ) → has_header bytes ≡ false → LeadTo bytes (opening_with (begun_limit bytes))
 unfolding fed
 no_header bytes none = (
-  turned_by bytes ∙ ap (λ (b : Bool). b && (bytes_eq (name_on bytes) (layout_on bytes).name && nat_lt 1 (generation_on bytes))) none,
+  turned_by bytes
+      ∙ ap (λ (b : Bool). b && (bytes_eq (name_on bytes) (layout_on bytes).name && nat_lt 1
+      (generation_on bytes))) none,
   ap (λ (b : Bool). if b then standing true bytes else Holding 1 (opening_with (begun_limit bytes))) none,
 )
 
@@ -35,12 +37,15 @@ isnt_one gate isnt = grind (arith, nat_tests)
 pub shut_leads : (bytes : List ℕ) → (get_or bytes 0 0 ≡ 1 → ⊥) → LeadTo bytes opening
 shut_leads bytes isnt =
     let shut = isnt_one (get_or bytes 0 0) isnt in
-    let none : has_header bytes ≡ false = ap (λ (b : Bool). b && nat_le (header_size (layout_on bytes)) (length bytes)) shut in
-    let limit : begun_limit bytes ≡ LIM = ap (λ (b : Bool). if b && bytes_eq (name_on bytes) version_1.name then LIM_OF_VERSION_1 else LIM) shut in
+    let none : has_header bytes ≡ false = ap (λ (b : Bool). b && nat_le (header_size (layout_on bytes))
+    (length bytes)) shut in
+    let limit : begun_limit bytes ≡ LIM = ap (λ (b : Bool). if b && bytes_eq (name_on bytes) version_1.name
+    then LIM_OF_VERSION_1 else LIM) shut in
     subst (λ (n : ℕ). LeadTo bytes (opening_with n)) limit (no_header bytes none)
 
 module _ (bytes : List ℕ) (gate : get_or bytes 0 0 ≡ 1) (whole : length bytes ≡ header_size (layout_on bytes)) where
-  pub wrong : (first_fault (header_tests (layout_on bytes) true bytes) ≡ None → ⊥) → (is_turned bytes ≡ true → ⊥) → AreDamagedAt 0 bytes
+  pub wrong : (first_fault (header_tests (layout_on bytes) true bytes) ≡ None → ⊥) → (is_turned bytes ≡ true → ⊥)
+      → AreDamagedAt 0 bytes
   wrong isnt none =
       let found = headed.found_wrong bytes gate whole isnt in
       let damage : Damage = record { index = 0; what = found.0 } in (
@@ -61,7 +66,8 @@ module _ (bytes : List ℕ) (gate : get_or bytes 0 0 ≡ 1) (whole : length byte
         written = w;
         found = headed.found_right bytes gate whole right first;
         first = refl;
-        came = outcome_first w refl ∙ replay_none 1 (opening_with (layout_on bytes).limit) ∙ ap (λ (n : ℕ). ends_in (opening_with n)) (sym name.limit);
+        came = outcome_first w refl ∙ replay_none 1 (opening_with (layout_on bytes).limit)
+            ∙ ap (λ (n : ℕ). ends_in (opening_with n)) (sym name.limit);
         counted = refl;
         few = let most : 0 ≤ 1000000 = omega arith in most;
         ends = let l = ap header_size name.by_limit in omega arith;

@@ -36,11 +36,14 @@ unfolding IsFed
 fed_by bytes f at count = (at, count)
 
 -- what is known in the phase in which it is
-pub in_phase : (bytes : List ℕ) (f now : Followed) (p : Phase) → f ≡ now → now.phase ≡ p → IsAt bytes now → IsInPhase p f.held bytes f.core
+pub in_phase : (bytes : List ℕ) (f now : Followed) (p : Phase) → f ≡ now → now.phase ≡ p → IsAt bytes now
+    → IsInPhase p f.held bytes f.core
 in_phase bytes f now p same is at =
-    subst (λ (q : Phase). IsInPhase q f.held bytes f.core) (ap (λ (g : Followed). g.phase) same ∙ is) (subst (IsAt bytes) (sym same) at)
+    subst (λ (q : Phase). IsInPhase q f.held bytes f.core) (ap (λ (g : Followed). g.phase) same
+    ∙ is) (subst (IsAt bytes) (sym same) at)
 
-pub at_phase : (bytes held : List ℕ) (core : Core) (f now : Followed) (p : Phase) → f ≡ now → now.phase ≡ p → IsInPhase p held bytes core → IsInPhase f.phase held bytes core
+pub at_phase : (bytes held : List ℕ) (core : Core) (f now : Followed) (p : Phase) → f ≡ now → now.phase ≡ p
+    → IsInPhase p held bytes core → IsInPhase f.phase held bytes core
 at_phase bytes held core f now p same is at =
     subst (λ (q : Phase). IsInPhase q held bytes core) (sym (ap (λ (g : Followed). g.phase) same ∙ is)) at
 
@@ -51,8 +54,13 @@ pub record Leads (bytes : List ℕ) (core : Core) : Type 0 where
   pub lead : LeadTo bytes state
   pub stands : StandsFor core state
 
-front_leads : (front rest : List ℕ) (core : Core) (e : EndsAs front core) → begins_whole rest ≡ false → Leads (front ++ rest) core
-front_leads front rest core (s, e, stands) none = record { state = s; lead = leads front s e rest none; stands = stands }
+front_leads : (front rest : List ℕ) (core : Core) (e : EndsAs front core) → begins_whole rest ≡ false
+    → Leads (front ++ rest) core
+front_leads front rest core (s, e, stands) none = record {
+  state = s;
+  lead = leads front s e rest none;
+  stands = stands;
+}
 
 leads_so : (a b : List ℕ) (core : Core) → a ≡ b → Leads a core → Leads b core
 leads_so a b core same l = subst (λ (bytes : List ℕ). Leads bytes core) same l
@@ -66,19 +74,31 @@ shut_by bytes core s = leads_so (s.front ++ s.gate ∷ s.rest) bytes core (sym s
   where
     none : (s.front ≡ []) × StandsFor core opening → Leads (s.front ++ s.gate ∷ s.rest) core
     none (nothing, stands) =
-        leads_so (s.gate ∷ s.rest) (s.front ++ s.gate ∷ s.rest) core (ap (λ (l : List ℕ). l ++ s.gate ∷ s.rest) (sym nothing))
+        leads_so (s.gate ∷ s.rest) (s.front ++ s.gate ∷ s.rest) core (ap (λ (l : List ℕ). l ++ s.gate ∷ s.rest)
+        (sym nothing))
         (record { state = opening; lead = shut_leads (s.gate ∷ s.rest) s.shut; stands = stands })
 
     some : EndsAs s.front core → Leads (s.front ++ s.gate ∷ s.rest) core
     some e = front_leads s.front (s.gate ∷ s.rest) core e (isnt_open (s.gate ∷ s.rest) s.shut)
 
-pub going_leads : (phase : Phase) (held bytes : List ℕ) (core : Core) → stopped_in phase ≡ None → IsInPhase phase held bytes core → Leads bytes core
+pub going_leads : (phase : Phase) (held bytes : List ℕ) (core : Core) → stopped_in phase ≡ None
+    → IsInPhase phase held bytes core → Leads bytes core
 going_leads Start held bytes core goes (none, stands) =
-    record { state = opening; lead = subst (λ (l : List ℕ). LeadTo l opening) (sym none) (shut_leads [] (λ is. absurd (cc (is)))); stands = stands }
-going_leads Header held bytes core goes (are, begun, stands) = record { state = opening_with (begun_limit bytes); lead = no_header bytes (too_short (get_or bytes 0 0) (header_size (layout_on bytes)) (length bytes) begun.short); stands = stands }
+    record {
+      state = opening;
+      lead = subst (λ (l : List ℕ). LeadTo l opening) (sym none)
+          (shut_leads [] (λ is. absurd (cc (is))));
+      stands = stands;
+    }
+going_leads Header held bytes core goes (are, begun, stands) = record {
+  state = opening_with (begun_limit bytes);
+  lead = no_header bytes (too_short (get_or bytes 0 0) (header_size (layout_on bytes)) (length bytes) begun.short);
+  stands = stands;
+}
 going_leads Gate held bytes core goes e = whole_leads bytes core e
 going_leads Inside held bytes core goes (front, are, few, e) =
-    leads_so (front ++ 1 ∷ held) bytes core (sym are) (front_leads front (1 ∷ held) core e (isnt_long (1 ∷ held) (omega arith)))
+    leads_so (front ++ 1 ∷ held) bytes core (sym are) (front_leads front (1 ∷ held) core e (isnt_long (1 ∷ held)
+    (omega arith)))
 going_leads Shut held bytes core goes s = shut_by bytes core s
 going_leads (Damaged index) held bytes core goes is = absurd (cc (goes))
 going_leads (Rotated generation) held bytes core goes is = absurd (cc (goes))
@@ -88,14 +108,17 @@ going_leads (Rotated generation) held bytes core goes is = absurd (cc (goes))
 holds_no_fault : (a : Standing) (s : State) (damage : Damage) → a ≡ Holding 1 s → a ≡ Faulty damage → ⊥
 holds_no_fault a s damage one other = let e = sym one ∙ other in cc (e)
 
-pub lead_unstopped : (phase : Phase) (held bytes : List ℕ) (core : Core) (s : State) → IsInPhase phase held bytes core → LeadTo bytes s → stopped_in phase ≡ None
+pub lead_unstopped : (phase : Phase) (held bytes : List ℕ) (core : Core) (s : State) → IsInPhase phase held bytes core
+    → LeadTo bytes s → stopped_in phase ≡ None
 lead_unstopped Start held bytes core s is lead = refl
 lead_unstopped Header held bytes core s is lead = refl
 lead_unstopped Gate held bytes core s is lead = refl
 lead_unstopped Inside held bytes core s is lead = refl
 lead_unstopped Shut held bytes core s is lead = refl
-lead_unstopped (Damaged index) held bytes core s ((none, (damage, is, at)), before) lead = absurd (holds_no_fault (fed bytes) s damage lead.1 is)
-lead_unstopped (Rotated generation) held bytes core s ((turned, at), before) lead = absurd (apart (is_turned bytes) turned lead.0)
+lead_unstopped (Damaged index) held bytes core s ((none, (damage, is, at)), before) lead =
+    absurd (holds_no_fault (fed bytes) s damage lead.1 is)
+lead_unstopped (Rotated generation) held bytes core s ((turned, at), before) lead =
+    absurd (apart (is_turned bytes) turned lead.0)
 
 -- two damages of them are one
 same_damage : (a : Standing) (d e : Damage) → a ≡ Faulty d → a ≡ Faulty e → d ≡ e
@@ -128,16 +151,20 @@ ended_stands bytes f is over = by f.phase (fed_at bytes f is) where
 
 -- ---- what feeding answers
 
-stopped_with : (phase : Phase) (held bytes : List ℕ) (core : Core) (e : FedEnd) → IsInPhase phase held bytes core → stopped_in phase ≡ Some e → EndsWith e bytes
+stopped_with : (phase : Phase) (held bytes : List ℕ) (core : Core) (e : FedEnd) → IsInPhase phase held bytes core
+    → stopped_in phase ≡ Some e → EndsWith e bytes
 stopped_with Start held bytes core e is stopped = absurd (cc (stopped))
 stopped_with Header held bytes core e is stopped = absurd (cc (stopped))
 stopped_with Gate held bytes core e is stopped = absurd (cc (stopped))
 stopped_with Inside held bytes core e is stopped = absurd (cc (stopped))
 stopped_with Shut held bytes core e is stopped = absurd (cc (stopped))
-stopped_with (Damaged index) held bytes core e is stopped = let same : end.Damaged index ≡ e = cc (stopped) in subst (λ (x : FedEnd). EndsWith x bytes) same is.0
-stopped_with (Rotated generation) held bytes core e is stopped = let same : end.Rotated generation ≡ e = cc (stopped) in subst (λ (x : FedEnd). EndsWith x bytes) same is.0
+stopped_with (Damaged index) held bytes core e is stopped = let same : end.Damaged index ≡ e = cc (stopped)
+    in subst (λ (x : FedEnd). EndsWith x bytes) same is.0
+stopped_with (Rotated generation) held bytes core e is stopped = let same : end.Rotated generation ≡ e = cc (stopped)
+    in subst (λ (x : FedEnd). EndsWith x bytes) same is.0
 
-pub ends_stopped : (bytes : List ℕ) (f : Followed) (e : FedEnd) → IsFed bytes f → stopped_in f.phase ≡ Some e → EndsWith e bytes
+pub ends_stopped : (bytes : List ℕ) (f : Followed) (e : FedEnd) → IsFed bytes f → stopped_in f.phase ≡ Some e
+    → EndsWith e bytes
 ends_stopped bytes f e is stopped = stopped_with f.phase f.held bytes f.core e (fed_at bytes f is) stopped
 
 pub goes_on : (bytes : List ℕ) (f : Followed) → IsFed bytes f → stopped_in f.phase ≡ None → GoOn bytes
@@ -146,12 +173,14 @@ goes_on bytes f is goes = let l = going_leads f.phase f.held bytes f.core goes (
 pub goes_inside : (bytes : List ℕ) (f : Followed) → IsFed bytes f → f.phase ≡ Inside → GoOn bytes
 goes_inside bytes f is inside = goes_on bytes f is (ap stopped_in inside)
 
-ends_by : (bytes : List ℕ) (f : Followed) (o : Option FedEnd) → IsFed bytes f → stopped_in f.phase ≡ o → EndsWith (unwrap_or o end.All) bytes
+ends_by : (bytes : List ℕ) (f : Followed) (o : Option FedEnd) → IsFed bytes f → stopped_in f.phase ≡ o
+    → EndsWith (unwrap_or o end.All) bytes
 ends_by bytes f None is goes = goes_on bytes f is goes
 ends_by bytes f (Some e) is stopped = ends_stopped bytes f e is stopped
 
 -- how a feed ends behind all bytes of its piece
-pub ends_there : (bytes : List ℕ) (f : Followed) → IsFed bytes f → EndsWith (unwrap_or (stopped_in f.phase) end.All) bytes
+pub ends_there : (bytes : List ℕ) (f : Followed) → IsFed bytes f
+    → EndsWith (unwrap_or (stopped_in f.phase) end.All) bytes
 ends_there bytes f is = ends_by bytes f (stopped_in f.phase) is refl
 
 -- it ends for good neither with the piece nor for want of memory
@@ -186,26 +215,33 @@ one_end bytes (end.Rotated generation) (end.Damaged index) over is other = absur
 one_end bytes (end.Rotated generation) (end.Rotated later) over is other = ap end.Rotated (sym is.1 ∙ other.1)
 
 -- what was told of bytes behind which none is taken is told again
-pub told_again : (bytes piece : List ℕ) (taken : ℕ) (a b : FedEnd) → taken ≡ 0 → AreOver bytes → EndsWith a (bytes ++ take taken piece) → EndsWith b bytes → a ≡ b
+pub told_again : (bytes piece : List ℕ) (taken : ℕ) (a b : FedEnd) → taken ≡ 0 → AreOver bytes
+    → EndsWith a (bytes ++ take taken piece) → EndsWith b bytes → a ≡ b
 told_again bytes piece taken a b none over is other =
     let nothing : bytes ++ take taken piece ≡ bytes = ap (λ (n : ℕ). bytes ++ take n piece) none ∙ append-nil bytes in
     one_end bytes a b over (subst (EndsWith a) nothing is) other
 
 -- bytes that are over are taken by nobody
-pub goes_over : (bytes : List ℕ) (taken : ℕ) (piece : List ℕ) → GoOn (bytes ++ take taken piece) → AreOver bytes → taken ≡ 0 → ⊥
-goes_over bytes taken piece goes over none = over (subst GoOn (ap (λ (n : ℕ). bytes ++ take n piece) none ∙ append-nil bytes) goes)
+pub goes_over : (bytes : List ℕ) (taken : ℕ) (piece : List ℕ) → GoOn (bytes ++ take taken piece) → AreOver bytes
+    → taken ≡ 0 → ⊥
+goes_over bytes taken piece goes over none = over (subst GoOn (ap (λ (n : ℕ). bytes ++ take n piece) none
+    ∙ append-nil bytes) goes)
 
-pub none_over : (bytes : List ℕ) (taken more : ℕ) (piece : List ℕ) → GoOn (bytes ++ take taken piece) → AreOver bytes → taken ≡ 0 → taken + more ≡ 0
+pub none_over : (bytes : List ℕ) (taken more : ℕ) (piece : List ℕ) → GoOn (bytes ++ take taken piece) → AreOver bytes
+    → taken ≡ 0 → taken + more ≡ 0
 none_over bytes taken more piece goes over none = absurd (goes_over bytes taken piece goes over none)
 
 -- the first byte of what is left of a piece
-pub completes_at : (bytes piece rest : List ℕ) (taken : ℕ) → rest ≡ drop taken piece → Completes (get_or rest 0 0) bytes → Completes (get_or piece taken 0) bytes
+pub completes_at : (bytes piece rest : List ℕ) (taken : ℕ) → rest ≡ drop taken piece → Completes (get_or rest 0 0) bytes
+    → Completes (get_or piece taken 0) bytes
 completes_at bytes piece rest taken is completes =
     let same : taken + 0 ≡ taken = omega arith in
-    subst (λ (byte : ℕ). Completes byte bytes) (ap (λ (l : List ℕ). get_or l 0 0) is ∙ get_or-drop taken piece 0 0 ∙ ap (λ (k : ℕ). get_or piece k 0) same) completes
+    subst (λ (byte : ℕ). Completes byte bytes) (ap (λ (l : List ℕ). get_or l 0 0) is ∙ get_or-drop taken piece 0 0
+    ∙ ap (λ (k : ℕ). get_or piece k 0) same) completes
 
 -- one piece behind another
-pub fed_on : (bytes piece rest : List ℕ) (taken more : ℕ) (f : Followed) → rest ≡ drop taken piece → IsFed ((bytes ++ take taken piece) ++ take more rest) f → IsFed (bytes ++ take (taken + more) piece) f
+pub fed_on : (bytes piece rest : List ℕ) (taken more : ℕ) (f : Followed) → rest ≡ drop taken piece
+    → IsFed ((bytes ++ take taken piece) ++ take more rest) f → IsFed (bytes ++ take (taken + more) piece) f
 fed_on bytes piece rest taken more f is fed =
     subst (λ (l : List ℕ). IsFed l f)
     (append_assoc bytes (take taken piece) (take more rest)
@@ -214,11 +250,14 @@ fed_on bytes piece rest taken more f is fed =
     fed
 
 -- what was taken is counted
-pub counts : (bytes piece : List ℕ) (n taken : ℕ) (f : Followed) → n ≤ length piece → taken ≡ min (length bytes) (2 ^ 64 - 1)
+pub counts : (bytes piece : List ℕ) (n taken : ℕ) (f : Followed) → n ≤ length piece
+    → taken ≡ min (length bytes) (2 ^ 64 - 1)
     → f.taken ≡ min (taken + n) (2 ^ 64 - 1) → IsAt (bytes ++ take n piece) f → IsFed (bytes ++ take n piece) f
 counts bytes piece n taken f within before now at =
-    let long : length (bytes ++ take n piece) ≡ length bytes + n = length-append bytes (take n piece) ∙ ap (λ (k : ℕ). length bytes + k) (length-take n piece ∙ omega arith) in
-    fed_by (bytes ++ take n piece) f at (now ∙ sums (length bytes) n taken before ∙ ap (λ (k : ℕ). min k (2 ^ 64 - 1)) (sym long))
+    let long : length (bytes ++ take n piece) ≡ length bytes + n = length-append bytes (take n piece)
+    ∙ ap (λ (k : ℕ). length bytes + k) (length-take n piece ∙ omega arith) in
+    fed_by (bytes ++ take n piece) f at (now ∙ sums (length bytes) n taken before
+    ∙ ap (λ (k : ℕ). min k (2 ^ 64 - 1)) (sym long))
   where
     sums : (k n taken : ℕ) → taken ≡ min k (2 ^ 64 - 1) → min (taken + n) (2 ^ 64 - 1) ≡ min (k + n) (2 ^ 64 - 1)
     sums k n taken before = omega arith

@@ -23,9 +23,15 @@ use Rattle.liq_follower.proofs.Phases.{in_phase}
 -- ---- the header
 
 -- behind a whole one
-judged_so : (bytes none : List ℕ) (core : Core) (j : Judged) → get_or bytes 0 0 ≡ 1 → length bytes ≡ header_size (layout_on bytes)
-    → StandsFor core (opening_with (begun_limit bytes)) → StandsBeforeLast bytes core → IsJudged bytes j → IsInPhase (phase_of j) none bytes core
-judged_so bytes none core judged.Right gate whole stands before is = (opening_with (begun_limit bytes), whole_header bytes gate whole is.0 is.1, stands)
+judged_so : (bytes none : List ℕ) (core : Core) (j : Judged) → get_or bytes 0 0 ≡ 1
+    → length bytes ≡ header_size (layout_on bytes)
+    → StandsFor core (opening_with (begun_limit bytes)) → StandsBeforeLast bytes core → IsJudged bytes j
+    → IsInPhase (phase_of j) none bytes core
+judged_so bytes none core judged.Right gate whole stands before is = (
+  opening_with (begun_limit bytes),
+  whole_header bytes gate whole is.0 is.1,
+  stands,
+)
 judged_so bytes none core (judged.Turned generation) gate whole stands before is = (is, before)
 judged_so bytes none core judged.Damaged gate whole stands before is = (wrong bytes gate whole is.1 is.0, before)
 
@@ -38,38 +44,51 @@ pub record Grown (bytes : List ℕ) (held : List ℕ) (core : Core) : Type 0 whe
   pub before : length held ≡ header_size (layout_on held) → StandsBeforeLast bytes core
 
 pub grown : (bytes held more : List ℕ) (core next : Core) (byte limit : ℕ) → IsInPhase Header held bytes core
-    → (length held < 127 → more ≡ held ++ byte ∷ []) → ((before : ℕ) → StandsFor core (opening_with before) → StandsFor next (opening_with limit))
+    → (length held < 127 → more ≡ held ++ byte ∷ []) → ((before : ℕ) → StandsFor core (opening_with before)
+    → StandsFor next (opening_with limit))
     → limit ≡ begun_limit more → Grown (bytes ++ byte ∷ []) more next
 grown bytes held more core next byte limit (are, begun, stands) pushed opened is =
     let begun_held : IsBegun held = subst IsBegun are begun in
     let same : more ≡ held ++ byte ∷ [] = pushed (has_room held begun_held) in
-    let now : StandsFor next (opening_with (begun_limit more)) = subst (λ (n : ℕ). StandsFor next (opening_with n)) is (opened (begun_limit bytes) stands) in
+    let now : StandsFor next (opening_with (begun_limit more)) = subst (λ (n : ℕ). StandsFor next (opening_with n)) is
+    (opened (begun_limit bytes) stands) in
     record {
       are = ap (λ (l : List ℕ). l ++ byte ∷ []) are ∙ sym same;
       gate = subst (λ (l : List ℕ). get_or l 0 0 ≡ 1) (sym same) (gate_is held byte begun_held);
       stands = now;
-      begun = subst (λ (l : List ℕ). (length l ≡ header_size (layout_on l) → ⊥) → IsBegun l) (sym same) (still_begun held byte begun_held);
+      begun = subst (λ (l : List ℕ). (length l ≡ header_size (layout_on l) → ⊥)
+          → IsBegun l) (sym same) (still_begun held byte begun_held);
       before = λ whole.
-          let long : 9 ≤ length held = let n = ap length same in let m = length-append held (byte ∷ []) in let l = least more in omega arith in
-          let limit : begun_limit more ≡ begun_limit bytes = ap begun_limit same ∙ same_limit held byte long ∙ ap begun_limit (sym are) in
+          let long : 9 ≤ length held = let n = ap length same in let m = length-append held (byte ∷ [])
+          in let l = least more in omega arith in
+          let limit : begun_limit more ≡ begun_limit bytes = ap begun_limit same ∙ same_limit held byte long
+          ∙ ap begun_limit (sym are) in
           record {
             front = bytes;
             last = byte;
             are = refl;
             state = opening_with (begun_limit bytes);
-            lead = no_header bytes (too_short (get_or bytes 0 0) (header_size (layout_on bytes)) (length bytes) begun.short);
+            lead = no_header bytes (too_short (get_or bytes 0 0) (header_size (layout_on bytes))
+                (length bytes) begun.short);
             stands = subst (λ (n : ℕ). StandsFor next (opening_with n)) limit now;
           };
     }
 
-pub still_header : (bytes held : List ℕ) (core : Core) → Grown bytes held core → (length held ≡ header_size (layout_on held) → ⊥) → IsInPhase Header held bytes core
-still_header bytes held core g isnt = (g.are, subst IsBegun (sym g.are) (g.begun isnt), subst (λ (l : List ℕ). StandsFor core (opening_with (begun_limit l))) (sym g.are) g.stands)
+pub still_header : (bytes held : List ℕ) (core : Core) → Grown bytes held core
+    → (length held ≡ header_size (layout_on held) → ⊥) → IsInPhase Header held bytes core
+still_header bytes held core g isnt = (
+  g.are,
+  subst IsBegun (sym g.are) (g.begun isnt),
+  subst (λ (l : List ℕ). StandsFor core (opening_with (begun_limit l))) (sym g.are) g.stands,
+)
 
-pub whole_so : (bytes held none : List ℕ) (core : Core) (j : Judged) (phase : Phase) → Grown bytes held core → length held ≡ header_size (layout_on held)
+pub whole_so : (bytes held none : List ℕ) (core : Core) (j : Judged) (phase : Phase) → Grown bytes held core
+    → length held ≡ header_size (layout_on held)
     → (get_or held 0 0 ≡ 1 → IsJudged held j) → phase ≡ phase_of j → IsInPhase phase none bytes core
 whole_so bytes held none core j phase g whole judged is =
     subst (λ (p : Phase). IsInPhase p none bytes core) (sym is)
-    (subst (λ (l : List ℕ). IsInPhase (phase_of j) none l core) (sym g.are) (judged_so held none core j g.gate whole g.stands (subst (λ (l : List ℕ). StandsBeforeLast l core) g.are (g.before whole)) (judged g.gate)))
+    (subst (λ (l : List ℕ). IsInPhase (phase_of j) none l core) (sym g.are) (judged_so held none core j g.gate whole
+    g.stands (subst (λ (l : List ℕ). StandsBeforeLast l core) g.are (g.before whole)) (judged g.gate)))
 
 -- ---- records
 
@@ -93,10 +112,16 @@ pub full : (bytes : List ℕ) (f now : Followed) (told index : ℕ) → f ≡ no
 full bytes f now told index same is size counted next at =
     let here = in_phase bytes f now Inside same is at in
     let few = few_records bytes f.held f.core here in
-    record { at = here; size = ap (λ (g : Followed). length g.held) same ∙ size; next = omega (arith, few, counted, next) }
+    record {
+      at = here;
+      size = ap (λ (g : Followed). length g.held) same
+          ∙ size;
+      next = omega (arith, few, counted, next);
+    }
 
 -- the last byte of a record
-module _ (bytes held : List ℕ) (core : Core) (last index : ℕ) (size : length held ≡ 127) (next : index ≡ core.records + 1) (at : IsInPhase Inside held bytes core) where
+module _ (bytes held : List ℕ) (core : Core) (last index : ℕ) (size : length held ≡ 127) (next : index
+    ≡ core.records + 1) (at : IsInPhase Inside held bytes core) where
   abbrev raw : List ℕ
   raw = held ++ last ∷ []
 
@@ -118,17 +143,25 @@ module _ (bytes held : List ℕ) (core : Core) (last index : ℕ) (size : length
   pub damaged_form : IsNoRecord index raw → AreDamagedAt index (bytes ++ last ∷ [])
   damaged_form none = subst (AreDamagedAt index) all_are (bad_form at.0 state front raw raw_long index index_is none)
 
-  pub damaged_command : (c : Command) → IsRecordOf index raw c → (ruling state c ≡ Allowed → ⊥) → AreDamagedAt index (bytes ++ last ∷ [])
-  damaged_command c read isnt = subst (AreDamagedAt index) all_are (bad_command at.0 state front raw raw_long index index_is c read isnt)
+  pub damaged_command : (c : Command) → IsRecordOf index raw c → (ruling state c ≡ Allowed → ⊥)
+      → AreDamagedAt index (bytes ++ last ∷ [])
+  damaged_command c read isnt = subst (AreDamagedAt index) all_are (bad_command at.0 state front raw raw_long index
+      index_is c read isnt)
 
-  pub record_made : (c : Command) → IsRecordOf index raw c → ruling state c ≡ Allowed → (next_core : Core) → StandsFor next_core (after state c)
+  pub record_made : (c : Command) → IsRecordOf index raw c → ruling state c ≡ Allowed → (next_core : Core)
+      → StandsFor next_core (after state c)
       → EndsAs (bytes ++ last ∷ []) next_core
-  record_made c read allowed next_core stands =
-      (after state c, subst (λ (l : List ℕ). EndsWhole l (after state c)) all_are (one_record_more at.0 state front raw raw_long index index_is c read allowed), stands)
+  record_made c read allowed next_core stands = (
+    after state c,
+    subst (λ (l : List ℕ). EndsWhole l (after state c)) all_are
+        (one_record_more at.0 state front raw raw_long index index_is c read allowed),
+    stands,
+  )
 
   -- all bytes before it lead to the state
   leads_before : LeadTo bytes state
-  leads_before = subst (λ (l : List ℕ). LeadTo l state) (sym at.1) (leads at.0 state front (1 ∷ held) (isnt_long (1 ∷ held) (omega arith)))
+  leads_before = subst (λ (l : List ℕ). LeadTo l state) (sym at.1) (leads at.0 state front (1 ∷ held)
+      (isnt_long (1 ∷ held) (omega arith)))
 
   pub record_refused : (next_core : Core) → IsUnfit state index raw × StandsFor next_core state
       → AreDamagedAt index (bytes ++ last ∷ []) × StandsBeforeLast (bytes ++ last ∷ []) next_core
@@ -138,15 +171,19 @@ module _ (bytes held : List ℕ) (core : Core) (last index : ℕ) (size : length
   )
 
   -- by what the record was taken for, as its bytes were put together
-  pub made_by : (read : List ℕ) → read ≡ raw → (next_core : Core) → IsTaken state index read next_core redone.Made → EndsAs (bytes ++ last ∷ []) next_core
-  made_by read same next_core (c, is, allowed, stands) = record_made c (subst (λ (l : List ℕ). IsRecordOf index l c) same is) allowed next_core stands
+  pub made_by : (read : List ℕ) → read ≡ raw → (next_core : Core) → IsTaken state index read next_core redone.Made
+      → EndsAs (bytes ++ last ∷ []) next_core
+  made_by read same next_core (c, is, allowed, stands) =
+      record_made c (subst (λ (l : List ℕ). IsRecordOf index l c) same is) allowed next_core stands
 
   pub refused_by : (read : List ℕ) → read ≡ raw → (next_core : Core) → IsTaken state index read next_core redone.Refused
       → AreDamagedAt index (bytes ++ last ∷ []) × StandsBeforeLast (bytes ++ last ∷ []) next_core
-  refused_by read same next_core t = record_refused next_core (subst (λ (l : List ℕ). IsUnfit state index l × StandsFor next_core state) same t)
+  refused_by read same next_core t = record_refused next_core (subst (λ (l : List ℕ). IsUnfit state index l
+      × StandsFor next_core state) same t)
 
   completed : (c : Command) → IsRecordOf index raw c → MayWantMemory state c → Completes last bytes
-  completed c read wants = subst (Completes last) (sym at.1) (completes at.0 state front held last index c size index_is read wants)
+  completed c read wants = subst (Completes last) (sym at.1) (completes at.0 state front held last index c size index_is
+      read wants)
 
   pub lacking : (read : List ℕ) → read ≡ raw → (next_core : Core) → IsTaken state index read next_core redone.NoMemory
       → IsInPhase Inside held bytes next_core × LackOne bytes × Completes last bytes

@@ -19,7 +19,11 @@ module _ (raw body : List ℕ) (is : body ≡ take 96 raw) where
   same = ap command_of (sym is)
 
   pub spells_rotation : (c : Command) → command_of body ≡ Ok c → c.call ≡ Rotate → IsSpelled raw None
-  spells_rotation c spelled rotates place = (Form place, ap (command_from place) (same ∙ spelled) ∙ rotation place c rotates)
+  spells_rotation c spelled rotates place = (
+    Form place,
+    ap (command_from place) (same ∙ spelled)
+        ∙ rotation place c rotates,
+  )
 
   pub spells : (c : Command) → command_of body ≡ Ok c → (c.call ≡ Rotate → ⊥) → IsSpelled raw (Some c)
   spells c spelled isnt place = ap (command_from place) (same ∙ spelled) ∙ no_rotation place c isnt
@@ -30,8 +34,10 @@ module _ (raw body : List ℕ) (is : body ≡ take 96 raw) where
 -- ---- the record
 
 -- all bytes behind the body are those of the digest
-pub stored : (raw computed : List ℕ) → length raw ≡ 128 → bytes_eq (take 32 (drop 96 raw)) computed ≡ bytes_eq (drop 96 raw) computed
-stored raw computed size = ap (λ (l : List ℕ). bytes_eq l computed) (take_all 32 (drop 96 raw) (let n = length-drop 96 raw in omega arith))
+pub stored : (raw computed : List ℕ) → length raw ≡ 128 → bytes_eq (take 32 (drop 96 raw)) computed
+    ≡ bytes_eq (drop 96 raw) computed
+stored raw computed size = ap (λ (l : List ℕ). bytes_eq l computed) (take_all 32 (drop 96 raw)
+    (let n = length-drop 96 raw in omega arith))
 
 module _ (index : ℕ) (raw : List ℕ) where
   abbrev right : List ℕ
@@ -40,7 +46,8 @@ module _ (index : ℕ) (raw : List ℕ) where
   abbrev has : Bool
   has = bytes_eq (drop 96 raw) right
 
-  tested : (place : ℕ) → record_on 1 index place raw ≡ (if not has then Err (Digest (drop 96 raw) right) else command_from place (command_of (take 96 raw)))
+  tested : (place : ℕ) → record_on 1 index place raw ≡ (if not has then Err (Digest (drop 96 raw) right)
+      else command_from place (command_of (take 96 raw)))
   unfolding record_on
   tested place = refl
 
@@ -48,11 +55,13 @@ module _ (index : ℕ) (raw : List ℕ) where
   pub undigested : has ≡ false → IsNoRecord index raw
   undigested isnt place = (
     Digest (drop 96 raw) right,
-    tested place ∙ ap (λ (b : Bool). if not b then Err (Digest (drop 96 raw) right) else command_from place (command_of (take 96 raw))) isnt,
+    tested place ∙ ap (λ (b : Bool). if not b then Err (Digest (drop 96 raw) right)
+        else command_from place (command_of (take 96 raw))) isnt,
   )
 
   digested : has ≡ true → (place : ℕ) → record_on 1 index place raw ≡ command_from place (command_of (take 96 raw))
-  digested is place = tested place ∙ ap (λ (b : Bool). if not b then Err (Digest (drop 96 raw) right) else command_from place (command_of (take 96 raw))) is
+  digested is place = tested place ∙ ap (λ (b : Bool). if not b then Err (Digest (drop 96 raw) right)
+      else command_from place (command_of (take 96 raw))) is
 
   -- by what its body spells
   pub tested_by : (spelled : Option Command) → IsSpelled raw spelled → has ≡ true → IsTested index raw spelled

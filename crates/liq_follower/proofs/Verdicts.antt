@@ -47,20 +47,27 @@ module _ (bytes : List ℕ) (gate : get_or bytes 0 0 ≡ 1) (whole : length byte
     unturned is = apart (is_turned bytes) is (turned_by bytes ∙ other_false (has_header bytes) says_later isnt_later)
 
     pub misplaced : (place : ℕ) → first_place (place_tests layout true bytes) ≡ Some place → IsJudged bytes Damaged
-    misplaced place is = (unturned, (λ none. let e = sym (form_found (place_tests layout true bytes) (last_tests layout bytes) place is) ∙ none in absurd (cc (e))))
+    misplaced place is = (
+      unturned,
+      (λ none. let e = sym (form_found (place_tests layout true bytes) (last_tests layout bytes) place is)
+          ∙ none in absurd (cc (e))),
+    )
 
     -- no field is wrong
-    module _ (head : Head) (fits : first_place (place_tests layout true bytes) ≡ None) (has : HasFields layout head bytes) where
+    module _ (head : Head) (fits : first_place (place_tests layout true bytes)
+        ≡ None) (has : HasFields layout head bytes) where
       first : generation_on bytes ≡ 1
       first =
           let right = are_right layout true bytes fits in
-          least (generation_on bytes) right.generation (ap (λ (b : Bool). b && nat_lt 1 (generation_on bytes)) (sym right.name) ∙ isnt_later)
+          least (generation_on bytes) right.generation (ap (λ (b : Bool). b && nat_lt 1 (generation_on bytes))
+          (sym right.name) ∙ isnt_later)
         where
           least : (n : ℕ) → is_generation true n ≡ true → nat_lt 1 n ≡ false → n ≡ 1
           least n is isnt = grind (arith, nat_tests)
 
       empty : size_on bytes ≡ 0
-      empty = none (size_on bytes) (subst (λ (g : ℕ). is_size g (size_on bytes) ≡ true) first (are_right layout true bytes fits).size)
+      empty = none (size_on bytes) (subst (λ (g : ℕ). is_size g (size_on bytes) ≡ true) first
+          (are_right layout true bytes fits).size)
         where
           none : (n : ℕ) → is_size 1 n ≡ true → n ≡ 0
           none n is = let so : (n == 0) ≡ true = is in grind (arith, nat_tests)
@@ -73,7 +80,8 @@ module _ (bytes : List ℕ) (gate : get_or bytes 0 0 ≡ 1) (whole : length byte
       digest_is =
           ap (λ (l : Layout). header_digest (take (fields_size l) head.fields) []) by_limit
           ∙ ap (λ (l : List ℕ). header_digest l []) has.fields
-          ∙ ap (λ (n : ℕ). header_digest (fields_on layout bytes) (take n (drop (header_size layout) bytes))) (sym empty)
+          ∙ ap (λ (n : ℕ). header_digest (fields_on layout bytes) (take n (drop (header_size layout) bytes)))
+          (sym empty)
 
       abbrev has_digest : Bool
       has_digest = bytes_eq head.stored (header_digest (take (fields_size (layout_with head.limit)) head.fields) [])

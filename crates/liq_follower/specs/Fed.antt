@@ -22,25 +22,29 @@ use Rattle.liq_follower.specs.declared.answers.FedEnd.TheVariants.{All, Damaged,
 abbrev pub has_header : List ℕ → Bool
 has_header bytes = (get_or bytes 0 0 == 1) && nat_le (header_size (layout_on bytes)) (length bytes)
 
--- The limit where no header is whole: that of version 1 where an open gate and the name of version 1 are there, else
--- that of a journal that is begun.
+-- The limit where no header is whole: that of version 1 where an open gate and the name of version
+-- 1 are there, else that of a journal that is begun.
 abbrev pub begun_limit : List ℕ → ℕ
 begun_limit bytes =
-    if (get_or bytes 0 0 == 1) && bytes_eq (name_on bytes) version_1.name then LIM_OF_VERSION_1 else LIM
+    if (get_or bytes 0 0 == 1) && bytes_eq (name_on bytes) version_1.name then LIM_OF_VERSION_1
+    else LIM
 
 -- an open gate, and a header behind it that isn't whole
 pub record IsBegun (bytes : List ℕ) : Type 0 where
   pub gate : get_or bytes 0 0 ≡ 1
   pub short : length bytes < header_size (layout_on bytes)
 
--- Behind a whole header they are what they are as the left one of two disks. Else they stand for the opening.
+-- Behind a whole header they are what they are as the left one of two disks. Else they stand for
+-- the opening.
 unfoldable pub fed : List ℕ → Standing
-fed bytes = if has_header bytes then standing true bytes else Holding 1 (opening_with (begun_limit bytes))
+fed bytes = if has_header bytes then standing true bytes
+    else Holding 1 (opening_with (begun_limit bytes))
 
 -- a whole header of either version says a later generation, whatever else is in it
 unfoldable pub is_turned : List ℕ → Bool
 is_turned bytes =
-    has_header bytes && (bytes_eq (name_on bytes) (layout_on bytes).name && nat_lt 1 (generation_on bytes))
+    has_header bytes && (bytes_eq (name_on bytes) (layout_on bytes).name && nat_lt 1
+    (generation_on bytes))
 
 -- ---- what that comes to
 
@@ -51,7 +55,8 @@ LeadTo bytes s = (is_turned bytes ≡ false) × (fed bytes ≡ Holding 1 s)
 -- they are damaged: the record of this number is, or the header, which is 0
 abbrev pub AreDamagedAt : ℕ → List ℕ → Type 0
 AreDamagedAt index bytes =
-    (is_turned bytes ≡ false) × ((damage : Damage) × (fed bytes ≡ Faulty damage) × (damage.index ≡ index))
+    (is_turned bytes ≡ false) × ((damage : Damage) × (fed bytes ≡ Faulty damage)
+    × (damage.index ≡ index))
 
 -- a whole journal of the first generation, which ends with its last record and leads to the state
 pub record EndsWhole (bytes : List ℕ) (s : State) : Type 0 where
@@ -87,8 +92,8 @@ LackOne bytes =
     × (length bytes ≡ end_of w + 128)
     × (get_or bytes (end_of w) 0 ≡ 1)
 
--- This byte behind them completes a record whose digest and fields are right, and for whose command memory may be
--- wanted in the state to which they lead.
+-- This byte behind them completes a record whose digest and fields are right, and for whose command
+-- memory may be wanted in the state to which they lead.
 abbrev pub Completes : ℕ → List ℕ → Type 0
 Completes byte bytes =
     (w : Written)
@@ -99,7 +104,8 @@ Completes byte bytes =
     × LeadTo bytes s
     × MayWantMemory s c
 
--- What each end says of all bytes that were taken. No two of `All`, `Damaged` and `Rotated` come with the same bytes.
+-- What each end says of all bytes that were taken. No two of `All`, `Damaged` and `Rotated` come
+-- with the same bytes.
 abbrev pub EndsWith : FedEnd → List ℕ → Type 0
 EndsWith All bytes = GoOn bytes
 EndsWith NoMemory bytes = GoOn bytes × LackOne bytes

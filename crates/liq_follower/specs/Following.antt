@@ -8,8 +8,8 @@ use Rattle.liq_follower.specs.declared.answers.FedEnd.{FedEnd}
 use Rattle.liq_follower.specs.declared.answers.FedEnd.TheVariants as end
 use Rattle.liq_follower.specs.Fed.{AreDamagedAt, AreTurnedTo, EndsWhole, IsBegun, LeadTo, begun_limit}
 
--- what contracts see of one: its protocol, where in the journal it is, the bytes of a header or a record that isn't
--- whole, and how many bytes it has taken
+-- what contracts see of one: its protocol, where in the journal it is, the bytes of a header or a
+-- record that isn't whole, and how many bytes it has taken
 pub record Followed : Type 0 where
   pub core : Core
   pub phase : Phase
@@ -41,13 +41,15 @@ pub record StandsBeforeLast (bytes : List ℕ) (core : Core) : Type 0 where
 -- what is known of the bytes in each phase
 abbrev pub IsInPhase : Phase → List ℕ → List ℕ → Core → Type 0
 IsInPhase Start held bytes core = (bytes ≡ []) × StandsFor core opening
-IsInPhase Header held bytes core = (bytes ≡ held) × IsBegun bytes × StandsFor core (opening_with (begun_limit bytes))
+IsInPhase Header held bytes core = (bytes ≡ held) × IsBegun bytes
+    × StandsFor core (opening_with (begun_limit bytes))
 IsInPhase Gate held bytes core = EndsAs bytes core
 IsInPhase Inside held bytes core =
     (front : List ℕ) × (bytes ≡ front ++ 1 ∷ held) × (length held < 128) × EndsAs front core
 IsInPhase Shut held bytes core = IsShut bytes core
 IsInPhase (Damaged index) held bytes core = AreDamagedAt index bytes × StandsBeforeLast bytes core
-IsInPhase (Rotated generation) held bytes core = AreTurnedTo generation bytes × StandsBeforeLast bytes core
+IsInPhase (Rotated generation) held bytes core = AreTurnedTo generation bytes
+    × StandsBeforeLast bytes core
 
 abbrev pub IsAt : List ℕ → Followed → Type 0
 IsAt bytes f = IsInPhase f.phase f.held bytes f.core

@@ -19,10 +19,12 @@ use Rattle.liq_follower.specs.Fed.{IsNoRecord, IsRecordOf, is_turned}
 
 -- no test of the header fails; or one does, and it isn't turned
 abbrev pub IsJudged : List ℕ → Judged → Type 0
-IsJudged bytes Right = (first_fault (header_tests (layout_on bytes) true bytes) ≡ None) × (generation_on bytes ≡ 1)
+IsJudged bytes Right = (first_fault (header_tests (layout_on bytes) true bytes) ≡ None)
+    × (generation_on bytes ≡ 1)
 IsJudged bytes (Turned generation) = (is_turned bytes ≡ true) × (generation_on bytes ≡ generation)
 IsJudged bytes Damaged =
-    (is_turned bytes ≡ true → ⊥) × (first_fault (header_tests (layout_on bytes) true bytes) ≡ None → ⊥)
+    (is_turned bytes ≡ true → ⊥) × (first_fault (header_tests (layout_on bytes) true bytes)
+    ≡ None → ⊥)
 
 -- where in the journal a follower is behind such a header
 abbrev pub phase_of : Judged → Phase
@@ -32,8 +34,10 @@ phase_of Damaged = phase.Damaged 0
 
 -- what the body of a record spells, whatever its digest: a command that is no rotation, or none
 abbrev pub IsSpelled : List ℕ → Option Command → Type 0
-IsSpelled raw (Some command) = (place : ℕ) → command_from place (command_of (take 96 raw)) ≡ Ok command
-IsSpelled raw None = (place : ℕ) → (what : What) × (command_from place (command_of (take 96 raw)) ≡ Err what)
+IsSpelled raw (Some command) = (place : ℕ) → command_from place (command_of (take 96 raw))
+    ≡ Ok command
+IsSpelled raw None = (place : ℕ) → (what : What) × (command_from place (command_of (take 96 raw))
+    ≡ Err what)
 
 -- a record that is tested: its command, or none
 abbrev pub IsTested : ℕ → List ℕ → Option Command → Type 0
@@ -48,11 +52,13 @@ IsRedone s c core NoMemory = MayWantMemory s c × StandsFor core s
 
 -- the record of this number has a fault, or its command is not allowed
 abbrev pub IsUnfit : State → ℕ → List ℕ → Type 0
-IsUnfit s index raw = IsNoRecord index raw ⊎ ((c : Command) × IsRecordOf index raw c × (ruling s c ≡ Allowed → ⊥))
+IsUnfit s index raw = IsNoRecord index raw ⊎ ((c : Command) × IsRecordOf index raw c
+    × (ruling s c ≡ Allowed → ⊥))
 
 -- what becomes of a whole record of this number, in a state that stands before it
 abbrev pub IsTaken : State → ℕ → List ℕ → Core → Redone → Type 0
 IsTaken s index raw core Made =
     (c : Command) × IsRecordOf index raw c × (ruling s c ≡ Allowed) × StandsFor core (after s c)
 IsTaken s index raw core Refused = IsUnfit s index raw × StandsFor core s
-IsTaken s index raw core NoMemory = (c : Command) × IsRecordOf index raw c × MayWantMemory s c × StandsFor core s
+IsTaken s index raw core NoMemory = (c : Command) × IsRecordOf index raw c × MayWantMemory s c
+    × StandsFor core s

@@ -5,12 +5,13 @@
 pub enum FedEnd {
     /// The whole piece was taken.
     All,
-    /// There is no memory for what the byte behind those that were taken would complete: a record, whose digest and form
-    /// are right. Feeding may go on from that byte.
+    /// There is no memory for what the byte behind those that were taken would complete: a record,
+    /// whose digest and form are right. Feeding may go on from that byte.
     NoMemory,
     /// The bytes are damaged: the record of this number is, or, where it is 0, the header.
     Damaged { index: u64 },
-    /// The header is of this generation, which comes after the first. A follower has no checkpoint to begin from.
+    /// The header is of this generation, which comes after the first. A follower has no checkpoint
+    /// to begin from.
     Rotated { generation: u64 },
 }
 

@@ -22,8 +22,8 @@ use std::marker::Model;
 // A count of bytes to which those of a record can be added.
 const MANY: u64 = u64::MAX - 128;
 
-/// A replica of the protocol that follows a journal's bytes. Each record makes its step once all its bytes are taken and its
-/// digest is right.
+/// A replica of the protocol that follows a journal's bytes. Each record makes its step once all
+/// its bytes are taken and its digest is right.
 pub struct Follower {
     alloc: Global,
     guided: Guided,
@@ -50,7 +50,12 @@ impl Model for Follower {
 
     ghost Value = { Followed };
 
-    ghost view = { λ f. record { core = f.guided; phase = f.phase; held = f.held; taken = f.taken } };
+    ghost view = { λ f. record {
+      core = f.guided;
+      phase = f.phase;
+      held = f.held;
+      taken = f.taken;
+    } };
 }
 
 impl Follower {
@@ -76,35 +81,46 @@ impl Follower {
 
     /// How many bytes were taken, up to the most that a `u64` holds.
     pub fn taken(&self) -> u64
-        ensures { (bytes : List ℕ) → IsFed bytes self.now → result ≡ min (length bytes) (2 ^ 64 - 1) }
+        ensures { (bytes : List ℕ) → IsFed bytes self.now
+            → result ≡ min (length bytes) (2 ^ 64 - 1) }
     {
         self.taken
     }
 
-    /// Takes the bytes of a piece, up to its end or the first byte at which feeding ends, and says how many.
+    /// Takes the bytes of a piece, up to its end or the first byte at which feeding ends, and says
+    /// how many.
     ///
     /// - `All`: the whole piece was taken.
-    /// - `NoMemory`: there is no memory for the step of the record that the byte behind those that were taken completes.
-    ///   Its digest and form are right, and the rules allow its command, or a list of troves is planned for it. That byte
-    ///   isn't taken, the protocol is as it was, and feeding may go on from it.
-    /// - `Damaged`: the record of this number is damaged, or the header, which is 0, by the byte that was taken last. No byte
-    ///   is taken from then on, each feed answers this, and the protocol stays at the state before that byte.
-    /// - `Rotated`: the header is of this later generation. No byte is taken from then on, and each feed answers this.
+    /// - `NoMemory`: there is no memory for the step of the record that the byte behind those
+    ///   that were taken completes. Its digest and form are right, and the rules allow its command,
+    ///   or a list of troves is planned for it. That byte isn't taken, the protocol is as it was,
+    ///   and feeding may go on from it.
+    /// - `Damaged`: the record of this number is damaged, or the header, which is 0, by the byte
+    ///   that was taken last. No byte is taken from then on, each feed answers this, and the
+    ///   protocol stays at the state before that byte.
+    /// - `Rotated`: the header is of this later generation. No byte is taken from then on, and
+    ///   each feed answers this.
     ///
     /// Behind a closed gate all bytes are taken and mean nothing.
     pub fn feed(&mut self, piece: &[u8]) -> Fed
         ensures taken { result.taken ≤ length piece.now }
-        ensures fed { (bytes : List ℕ) → IsFed bytes self.old → IsFed (bytes ++ take result.taken piece.now) self.new }
-        ensures end { (bytes : List ℕ) → IsFed bytes self.old → EndsWith result.end (bytes ++ take result.taken piece.now) }
+        ensures fed { (bytes : List ℕ) → IsFed bytes self.old
+            → IsFed (bytes ++ take result.taken piece.now) self.new }
+        ensures end { (bytes : List ℕ) → IsFed bytes self.old
+            → EndsWith result.end (bytes ++ take result.taken piece.now) }
         ensures all { result.end ≡ FedEnd.All → result.taken ≡ length piece.now }
         ensures memory { result.end ≡ FedEnd.NoMemory → result.taken < length piece.now }
         ensures right { result.end ≡ FedEnd.NoMemory → (bytes : List ℕ) → IsFed bytes self.old
-            → Completes (slice_index piece.now result.taken) (bytes ++ take result.taken piece.now) }
+            → Completes (slice_index piece.now result.taken) (bytes
+            ++ take result.taken piece.now) }
         ensures over { (bytes : List ℕ) → IsFed bytes self.old → AreOver bytes → result.taken ≡ 0 }
-        ensures stays { (bytes : List ℕ) → IsFed bytes self.old → AreOver bytes → self.new ≡ self.old }
-        ensures again { (bytes : List ℕ) → IsFed bytes self.old → AreOver bytes → (e : FedEnd) → EndsWith e bytes
+        ensures stays { (bytes : List ℕ) → IsFed bytes self.old → AreOver bytes
+            → self.new ≡ self.old }
+        ensures again { (bytes : List ℕ) → IsFed bytes self.old → AreOver bytes → (e : FedEnd)
+            → EndsWith e bytes
             → result.end ≡ e }
-        ensures first { (bytes : List ℕ) → IsFed bytes self.old → AreOver (bytes ++ take result.taken piece.now)
+        ensures first { (bytes : List ℕ) → IsFed bytes self.old
+            → AreOver (bytes ++ take result.taken piece.now)
             → StandsBeforeLast (bytes ++ take result.taken piece.now) self.new.core }
     {
         if self.keeps(piece) {
@@ -130,10 +146,11 @@ impl Follower {
         Fed { taken, end }
     }
 
-    // Whether the whole piece is inside a record, and not up to its last byte: it is taken then, and else nothing is.
-    // So a feed of a byte costs little.
+    // Whether the whole piece is inside a record, and not up to its last byte: it is taken then,
+    // and else nothing is. So a feed of a byte costs little.
     fn keeps(&mut self, piece: &[u8]) -> bool
-        ensures inside { result ≡ true → (self.old.phase ≡ phase.Inside) × (self.new.phase ≡ phase.Inside) }
+        ensures inside { result ≡ true → (self.old.phase ≡ phase.Inside)
+            × (self.new.phase ≡ phase.Inside) }
         ensures fed { result ≡ true → (bytes : List ℕ) → IsFed bytes self.old
             → IsFed (bytes ++ take (length piece.now) piece.now) self.new }
         ensures stays { result ≡ false → self.new ≡ self.old }
@@ -146,8 +163,8 @@ impl Follower {
         true
     }
 
-    // Whether so many bytes are inside a record, and not up to its last one. Where the count of bytes is near its last
-    // value none is said to be.
+    // Whether so many bytes are inside a record, and not up to its last one. Where the count of
+    // bytes is near its last value none is said to be.
     fn fits(&self, count: usize) -> bool
         ensures inside { result ≡ true → self.now.phase ≡ phase.Inside }
         ensures room { result ≡ true → length self.now.held + count < 128 }
@@ -180,13 +197,15 @@ impl Follower {
         }
     }
 
-    // Takes some bytes of a piece, and says how many; or none, where there is no memory for what the first one completes.
+    // Takes some bytes of a piece, and says how many; or none, where there is no memory for what
+    // the first one completes.
     fn advance(&mut self, piece: &[u8]) -> Result<usize, NoMemory>
         requires some { 1 ≤ length piece.now }
         requires goes { stopped_in self.old.phase ≡ None }
         ensures going { (bytes : List ℕ) → IsFed bytes self.old → GoOn bytes }
         ensures count { IfOk result (λ n. (1 ≤ n) × (n ≤ length piece.now)) }
-        ensures fed { IfOk result (λ n. (bytes : List ℕ) → IsFed bytes self.old → IsFed (bytes ++ take n piece.now) self.new) }
+        ensures fed { IfOk result (λ n. (bytes : List ℕ) → IsFed bytes self.old
+            → IsFed (bytes ++ take n piece.now) self.new) }
         ensures memory { OnErr result ((bytes : List ℕ) → IsFed bytes self.old
             → IsFed bytes self.new × LackOne bytes × Completes (slice_index piece.now 0) bytes) }
     {
@@ -223,7 +242,8 @@ impl Follower {
         requires some { 1 ≤ length piece.now }
         requires goes { stopped_in self.old.phase ≡ None }
         ensures count { IfOk result (λ n. (1 ≤ n) × (n ≤ length piece.now)) }
-        ensures at { IfOk result (λ n. (bytes : List ℕ) → IsAt bytes self.old → IsAt (bytes ++ take n piece.now) self.new) }
+        ensures at { IfOk result (λ n. (bytes : List ℕ) → IsAt bytes self.old
+            → IsAt (bytes ++ take n piece.now) self.new) }
         ensures memory { OnErr result ((bytes : List ℕ) → IsAt bytes self.old
             → IsAt bytes self.new × LackOne bytes × Completes (slice_index piece.now 0) bytes) }
         ensures taken { self.new.taken ≡ self.old.taken }
@@ -295,7 +315,8 @@ impl Follower {
         requires some { 1 ≤ length piece.now }
         requires inside { self.old.phase ≡ phase.Inside }
         ensures count { IfOk result (λ n. (1 ≤ n) × (n ≤ length piece.now)) }
-        ensures at { IfOk result (λ n. (bytes : List ℕ) → IsAt bytes self.old → IsAt (bytes ++ take n piece.now) self.new) }
+        ensures at { IfOk result (λ n. (bytes : List ℕ) → IsAt bytes self.old
+            → IsAt (bytes ++ take n piece.now) self.new) }
         ensures memory { OnErr result ((bytes : List ℕ) → IsAt bytes self.old
             → IsAt bytes self.new × LackOne bytes × Completes (slice_index piece.now 0) bytes) }
         ensures taken { self.new.taken ≡ self.old.taken }
@@ -314,7 +335,8 @@ impl Follower {
     fn complete(&mut self, last: u8) -> Result<(), NoMemory>
         requires inside { self.old.phase ≡ phase.Inside }
         requires full { length self.old.held ≡ 127 }
-        ensures at { OnOk result ((bytes : List ℕ) → IsAt bytes self.old → IsAt (bytes ++ last ∷ []) self.new) }
+        ensures at { OnOk result ((bytes : List ℕ) → IsAt bytes self.old
+            → IsAt (bytes ++ last ∷ []) self.new) }
         ensures memory { OnErr result ((bytes : List ℕ) → IsAt bytes self.old
             → IsAt bytes self.new × LackOne bytes × Completes last bytes) }
         ensures taken { self.new.taken ≡ self.old.taken }

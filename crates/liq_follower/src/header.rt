@@ -43,7 +43,8 @@ pub fn header_size(bytes: &[u8]) -> usize
 
 // Whether the digest behind the fields is that of the fields and no checkpoint.
 fn has_digest(head: &Head) -> bool
-    ensures { result ≡ bytes_eq head.now.stored (header_digest (take (fields_size (layout_with head.now.limit)) head.now.fields) []) }
+    ensures { result ≡ bytes_eq head.now.stored
+        (header_digest (take (fields_size (layout_with head.now.limit)) head.now.fields) []) }
 {
     head.stored == header_digest(&head.fields[..fields_size(head.limit)], &[])
 }
@@ -51,7 +52,8 @@ fn has_digest(head: &Head) -> bool
 // Whether a header has the name of a version, and says a generation after the first.
 fn is_later(bytes: &[u8]) -> bool
     requires { 17 ≤ length bytes.now }
-    ensures { result ≡ (bytes_eq (name_on bytes.now) (layout_on bytes.now).name && nat_lt 1 (generation_on bytes.now)) }
+    ensures { result ≡ (bytes_eq (name_on bytes.now) (layout_on bytes.now).name && nat_lt 1
+        (generation_on bytes.now)) }
 {
     is_named(bytes) && generation_of(bytes) > 1
 }

@@ -1,5 +1,5 @@
-//! A replica of the protocol that is fed the bytes of a journal of the first generation, in pieces of any size. It holds no
-//! more of them than one header or one record that isn't whole.
+//! A replica of the protocol that is fed the bytes of a journal of the first generation, in pieces
+//! of any size. It holds no more of them than one header or one record that isn't whole.
 #![tactic(auto)]
 
 mod answers;

@@ -40,7 +40,8 @@ fn has_digest(raw: &[u8; RECORD], index: u64) -> bool
     &raw[96..] == record_digest(1, index, &body_of(raw)).as_slice()
 }
 
-// The command that the body spells, whatever the digest: none where it is no command, or a rotation.
+// The command that the body spells, whatever the digest: none where it is no command, or a
+// rotation.
 fn spelled(raw: &[u8; RECORD]) -> Option<Command>
     ensures spelled { IsSpelled raw.now result }
     ensures stays { IfSome result (λ c. is_rotate c.call ≡ false) }
@@ -54,8 +55,8 @@ fn spelled(raw: &[u8; RECORD]) -> Option<Command>
     }
 }
 
-// The command of the record of this number in the first generation: its digest is right, and its body is a command that is no
-// rotation.
+// The command of the record of this number in the first generation: its digest is right, and its
+// body is a command that is no rotation.
 fn tested(raw: &[u8; RECORD], index: u64) -> Option<Command>
     ensures tested { IsTested index raw.now result }
     ensures stays { IfSome result (λ c. is_rotate c.call ≡ false) }
@@ -91,7 +92,8 @@ fn make(protocol: &mut Guided, command: &Command) -> Redone
     redo::<Brand>(protocol, command, Blank::new(1))
 }
 
-// Makes the step of the command of a whole record of this number, if it has one and the rules allow it.
+// Makes the step of the command of a whole record of this number, if it has one and the rules allow
+// it.
 pub fn take(protocol: &mut Guided, raw: &[u8; RECORD], index: u64) -> Redone
     ensures { (s : State) → StandsFor protocol.old s → IsTaken s index raw.now protocol.new result }
 {

@@ -13,7 +13,8 @@ use Rattle.liq_gathered.specs.Gathering.{Gathers, ReadCause}
 
 module _ {X : Type 0} (Says : List ℕ → X → Type 0) where
   -- nothing was read
-  pub gathers_nothing : {T : Type 0} (Has : T → List X → Type 0) (before left : Option (List ℕ)) → Gathers Says Has (Err NoMemory) before left
+  pub gathers_nothing : {T : Type 0} (Has : T → List X → Type 0) (before left : Option (List ℕ))
+      → Gathers Says Has (Err NoMemory) before left
   gathers_nothing Has before left =
       record {
         said = [];
@@ -23,23 +24,40 @@ module _ {X : Type 0} (Says : List ℕ → X → Type 0) where
       }
 
   -- it stopped, whatever it was to give
-  pub gathers_stopped : {T U : Type 0} (Had : T → List X → Type 0) (Has : U → List X → Type 0) (stop : Stop) (before left : Option (List ℕ)) → Gathers Says Had (Err stop) before left → Gathers Says Has (Err stop) before left
+  pub gathers_stopped : {T U : Type 0} (Had : T → List X → Type 0) (Has : U → List X
+      → Type 0) (stop : Stop) (before left : Option (List ℕ)) → Gathers Says Had (Err stop) before left
+      → Gathers Says Has (Err stop) before left
   gathers_stopped Had Has stop before left h = record { said = h.said; few = h.few; has = tt; read = h.read }
 
   -- it came to the source's end, and gives what has the same
-  pub gathers_done : {T U : Type 0} (Had : T → List X → Type 0) (Has : U → List X → Type 0) (x : T) (y : U) (before left : Option (List ℕ)) → ((said : List X) → Had x said → Has y said) → Gathers Says Had (Ok x) before left → Gathers Says Has (Ok y) before left
-  gathers_done Had Has x y before left same h = record { said = h.said; few = h.few; has = same h.said h.has; read = h.read }
+  pub gathers_done : {T U : Type 0} (Had : T → List X → Type 0) (Has : U → List X
+      → Type 0) (x : T) (y : U) (before left : Option (List ℕ)) → ((said : List X) → Had x said → Has y said)
+      → Gathers Says Had (Ok x) before left → Gathers Says Has (Ok y) before left
+  gathers_done Had Has x y before left same h = record {
+    said = h.said;
+    few = h.few;
+    has = same h.said h.has;
+    read = h.read;
+  }
 
   -- ---- where each line says something
 
-  at_fault : (T : Type 0) (stop : Stop) (before after : ℕ) → (Rose before after → ⊥) → ReadCause {T = T} (Err stop) before after → (stop ≡ ReadFault) ⊎ (stop ≡ NoMemory) → stop ≡ NoMemory
-  at_fault T stop before after calm cause (inl fault) = absurd (calm (subst (λ (s : Stop). ReadCause {T = T} (Err s) before after) fault cause).1)
+  at_fault : (T : Type 0) (stop : Stop) (before after : ℕ) → (Rose before after → ⊥)
+      → ReadCause {T = T} (Err stop) before after → (stop ≡ ReadFault) ⊎ (stop ≡ NoMemory) → stop ≡ NoMemory
+  at_fault T stop before after calm cause (inl fault) =
+      absurd (calm (subst (λ (s : Stop). ReadCause {T = T} (Err s) before after) fault cause).1)
   at_fault T stop before after calm cause (inr none) = none
 
-  pub without_memory_alone : (T : Type 0) (stop : Stop) (bytes : List ℕ) (left : Option (List ℕ)) (said all : List X) (before after : ℕ) → AllZip Says (lines_in bytes) all → length all ≤ LINES_MOST → (Rose before after → ⊥) → ReadCause {T = T} (Err stop) before after → StopsAfter Says stop bytes left said → stop ≡ NoMemory
-  without_memory_alone T stop bytes left said all before after spelled few calm cause e = at_fault T stop before after calm cause (stops_outside Says stop bytes left said all spelled few e)
+  pub without_memory_alone : (T : Type 0) (stop : Stop) (bytes : List ℕ) (left : Option (List ℕ)) (said all : List X)
+      (before after : ℕ) → AllZip Says (lines_in bytes) all → length all ≤ LINES_MOST → (Rose before after → ⊥)
+      → ReadCause {T = T} (Err stop) before after → StopsAfter Says stop bytes left said → stop ≡ NoMemory
+  without_memory_alone T stop bytes left said all before after spelled few calm cause e =
+      at_fault T stop before after calm cause (stops_outside Says stop bytes left said all spelled few e)
 
-  pub calm_alone : {T : Type 0} (Has : T → List X → Type 0) (end : Result T Stop) (bytes : List ℕ) (start left : Option (List ℕ)) (all : List X) (before after : ℕ) → start ≡ Some bytes → AllZip Says (lines_in bytes) all → length all ≤ LINES_MOST → (Rose before after → ⊥) → ReadCause end before after → Gathers Says Has end start left → IsOkUnless end NoMemory
+  pub calm_alone : {T : Type 0} (Has : T → List X → Type 0) (end : Result T Stop) (bytes : List ℕ) (start left : Option
+      (List ℕ)) (all : List X) (before after : ℕ) → start ≡ Some bytes → AllZip Says (lines_in bytes) all
+      → length all ≤ LINES_MOST → (Rose before after → ⊥) → ReadCause end before after → Gathers Says Has end start left
+      → IsOkUnless end NoMemory
   calm_alone Has (Ok x) bytes start left all before after told spelled few calm cause h = tt
   calm_alone {T} Has (Err stop) bytes start left all before after told spelled few calm cause h =
       without_memory_alone T stop bytes left h.said all before after spelled few calm cause (h.read bytes told)

@@ -1,3 +1,3 @@
 pub mod Ends
-pub mod Gathered
+mod Gathered
 pub mod Residual

@@ -18,7 +18,8 @@ module _ {X T : Type 0} (Says : List ℕ → X → Type 0) where
 
   -- What was said was gathered. It is what the lines say, where the source told its bytes.
   pub record Gathers
-      (Has : T → List X → Type 0) (result : Result T Stop) (before left : Option (List ℕ)) : Type 0 where
+      (Has : T → List X → Type 0) (result : Result T Stop) (before left : Option (List ℕ)) :
+      Type 0 where
     pub said : List X
     pub few : length said ≤ LINES_MOST
     pub has : IfOk result (λ kept. Has kept said)

@@ -20,7 +20,8 @@ pub record HasRead
   pub unread_is : unread ≡ Some rest
 
 module _ {X G : Type 0} (Says : List ℕ → X → Type 0) (Holds : G → List X → Type 0) where
-  -- What the line of this number says stands behind what was gathered, or the line is bad, or there was no memory for it.
+  -- What the line of this number says stands behind what was gathered, or the line is bad, or there
+  -- was no memory for it.
   abbrev pub Keeps : List ℕ → ℕ → G → G → Result (Unit {0}) Stop → Type 0
   Keeps line number old new (Ok done) =
       (x : X) × Says line x × ((said : List X) → Holds old said → Holds new (said ++ x ∷ []))
@@ -29,7 +30,8 @@ module _ {X G : Type 0} (Says : List ℕ → X → Type 0) (Holds : G → List X
   Keeps line number old new (Err _) = ⊥
 
   -- n lines were read, and what they said is gathered
-  pub record HasGathered (start : Option (List ℕ)) (n : ℕ) (kept : G) (unread : Option (List ℕ)) : Type 0 where
+  pub record HasGathered (start : Option (List ℕ)) (n : ℕ) (kept : G) (unread : Option (List ℕ)) :
+      Type 0 where
     pub said : List X
     pub count : length said ≡ n
     pub holds : Holds kept said

@@ -32,7 +32,8 @@ pub trait Form {
     ghost short: { (line : List ℕ) (item : Self.Item) → says line item → length line ≤ LINE_BYTES };
 }
 
-/// Reads the source to its end, each line one of this form, and gives what they say, in order. It stops at the first of these:
+/// Reads the source to its end, each line one of this form, and gives what they say, in order. It
+/// stops at the first of these:
 ///
 /// - [`Stop::BadLine`]: the line of this number, counted from 1, is none of this form;
 /// - [`Stop::ReadFault`]: the source met a fault;
@@ -48,7 +49,8 @@ where
         (S.at input.new).left }
     ensures source { ReadCause result (S.at input.old).faults (S.at input.new).faults }
 
-    // Where each line says something, none is too many and the source meets no fault, memory alone can be missing.
+    // Where each line says something, none is too many and the source meets no fault, memory alone
+    // can be missing.
     ensures complete { (bytes : List ℕ) → (S.at input.old).left ≡ Some bytes → (said : List F.Item)
         → AllZip F.says (lines_in bytes) said → length said ≤ LINES_MOST
         → (Rose (S.at input.old).faults (S.at input.new).faults → ⊥)

@@ -17,7 +17,8 @@ pub trait Gatherer {
     /// This was gathered, in this order.
     ghost holds: { Self → List Self.Item → Type 0 };
 
-    /// Puts what the line of this number says behind what was gathered. [`Stop::BadLine`] comes exactly where it says nothing.
+    /// Puts what the line of this number says behind what was gathered. [`Stop::BadLine`] comes
+    /// exactly where it says nothing.
     fn keep(&mut self, line: &[u8], number: u64) -> Result<(), Stop>
         ensures { Keeps says holds line.now number self.old self.new result };
 

@@ -1,4 +1,5 @@
-//! Lines that say something, read to the end of a source: into a list, or into what else gathers them.
+//! Lines that say something, read to the end of a source: into a list, or into what else gathers
+//! them.
 #![tactic(auto)]
 
 mod form;

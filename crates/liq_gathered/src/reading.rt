@@ -15,7 +15,8 @@ use liq_types::NoMemory;
 use liq_types::amounts::{LINE_BYTES, LINES_MOST};
 use std::alloc::Global;
 
-/// Reads the source to its end and gathers what each line says, in order. It stops at the first of these:
+/// Reads the source to its end and gathers what each line says, in order. It stops at the first of
+/// these:
 ///
 /// - [`Stop::BadLine`]: the line of this number, counted from 1, says nothing;
 /// - [`Stop::ReadFault`]: the source met a fault;
@@ -34,7 +35,8 @@ pub fn gather_into<G: Gatherer, S: Source>(
         (S.at input.new).left }
     ensures source { ReadCause result (S.at input.old).faults (S.at input.new).faults }
 
-    // Where each line says something, none is too many and the source meets no fault, memory alone can be missing.
+    // Where each line says something, none is too many and the source meets no fault, memory alone
+    // can be missing.
     ensures complete { (bytes : List ℕ) → (S.at input.old).left ≡ Some bytes → (said : List G.Item)
         → AllZip G.says (lines_in bytes) said → length said ≤ LINES_MOST
         → (Rose (S.at input.old).faults (S.at input.new).faults → ⊥)
@@ -81,8 +83,8 @@ fn read_lines<G: Gatherer, S: Source>(
     }
 }
 
-/// Reads the next line, of which there are `read` before it, and says whether another may follow. Behind a line that says
-/// nothing, nothing is read.
+/// Reads the next line, of which there are `read` before it, and says whether another may follow.
+/// Behind a line that says nothing, nothing is read.
 fn read_next<G: Gatherer, S: Source>(
     reader: &mut Reader,
     line: &mut Vec<u8>,

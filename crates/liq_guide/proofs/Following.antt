@@ -45,14 +45,17 @@ ranked_is_eq e f =
     is_eq-then (int_cmp e.0 f.0) (nat_cmp e.1 f.1) ∙ ap (λ b. is_eq (int_cmp e.0 f.0) && b) (nat_cmp-eq e.1 f.1)
 
 -- an account was settled
-pub sent : (stands after : Parts) (account : ℕ) (key : Option ℤ) → ((a : ℕ) → stand_of after a ≡ moved (stand_of stands) account (settled_at key) a) → Sent (key_at stands) (key_at after) account key
+pub sent : (stands after : Parts) (account : ℕ) (key : Option ℤ)
+    → ((a : ℕ) → stand_of after a ≡ moved (stand_of stands) account (settled_at key) a)
+    → Sent (key_at stands) (key_at after) account key
 sent stands after account key h a = ap (λ (s : Stand). s.key) (h a) ∙ by (a == account) where
   by : (b : Bool) → (cond b (settled_at key) (stand_of stands a)).key ≡ cond b key (key_at stands a)
   by true = refl
   by false = refl
 
 -- an account is taken out
-pub gone : (key other : ℕ → Option ℤ) (list : List Ranked) (account : ℕ) → Sent key other account None → Follows key list → Follows other (without_ranked list account)
+pub gone : (key other : ℕ → Option ℤ) (list : List Ranked) (account : ℕ) → Sent key other account None
+    → Follows key list → Follows other (without_ranked list account)
 gone key other list account sent h =
     record { ascending = ascending_kept (λ (e : Ranked). not (e.1 == account)) list h.ascending; keyed = keyed } where
       keyed : (e : Ranked) → is_in (without_ranked list account) e ≡ is_key (other e.1) e.0
@@ -66,10 +69,14 @@ gone key other list account sent h =
             by false = refl
 
 -- an account is put
-pub put : (key other : ℕ → Option ℤ) (list : List Ranked) (account : ℕ) (place : ℤ) → Sent key other account (Some place) → Follows key list → Follows other (with_ranked (without_ranked list account) (place, account))
+pub put : (key other : ℕ → Option ℤ) (list : List Ranked) (account : ℕ) (place : ℤ)
+    → Sent key other account (Some place) → Follows key list
+    → Follows other (with_ranked (without_ranked list account) (place, account))
 put key other list account place sent h =
     record {
-      ascending = with_ascending rest (place, account) (without_is_in list account (place, account) ∙ ap (λ b. not b && is_in list (place, account)) (eq-eqb account account refl)) (ascending_kept (λ (e : Ranked). not (e.1 == account)) list h.ascending);
+      ascending = with_ascending rest (place, account) (without_is_in list account (place, account)
+          ∙ ap (λ b. not b && is_in list (place, account)) (eq-eqb account account refl))
+          (ascending_kept (λ (e : Ranked). not (e.1 == account)) list h.ascending);
       keyed = keyed;
     } where
       rest : List Ranked
@@ -79,7 +86,8 @@ put key other list account place sent h =
       keyed e =
           with_is_in rest (place, account) e
           ∙ ap (λ b. b || is_in rest e) (ranked_is_eq e (place, account))
-          ∙ ap (λ b. (is_eq (int_cmp e.0 place) && (e.1 == account)) || b) (without_is_in list account e ∙ ap (λ b. not (e.1 == account) && b) (h.keyed e))
+          ∙ ap (λ b. (is_eq (int_cmp e.0 place) && (e.1 == account)) || b) (without_is_in list account e
+          ∙ ap (λ b. not (e.1 == account) && b) (h.keyed e))
           ∙ by (e.1 == account)
           ∙ sym (ap (λ k. is_key k e.0) (sent e.1)) where
             own : (c : Bool) → ((c && true) || false) ≡ c
@@ -90,6 +98,7 @@ put key other list account place sent h =
             others true d = refl
             others false d = refl
 
-            by : (b : Bool) → ((is_eq (int_cmp e.0 place) && b) || (not b && is_key (key e.1) e.0)) ≡ is_key (cond b (Some place) (key e.1)) e.0
+            by : (b : Bool) → ((is_eq (int_cmp e.0 place) && b) || (not b && is_key (key e.1) e.0))
+                ≡ is_key (cond b (Some place) (key e.1)) e.0
             by true = own (is_eq (int_cmp e.0 place))
             by false = others (is_eq (int_cmp e.0 place)) (is_key (key e.1) e.0)

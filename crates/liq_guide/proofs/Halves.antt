@@ -15,30 +15,36 @@ abbrev pub halved_order : Long → Long → Ordering
 halved_order a b =
     ordering_then (int_cmp a.high b.high) (ordering_then (nat_cmp a.low b.low) (nat_cmp a.account b.account))
 
-key_order : (h k : ℤ) (l m : ℕ) → l < 2 ^ 64 → m < 2 ^ 64 → ordering_then (int_cmp h k) (nat_cmp l m) ≡ int_cmp (h *ℤ pos (2 ^ 64) +ℤ pos l) (k *ℤ pos (2 ^ 64) +ℤ pos m)
-key_order h k l m below beneath = by (int_cmp h k) (int_ranked h k (int_cmp h k) refl) (nat_cmp l m) (nat_ranked l m (nat_cmp l m) refl) (int_cmp a b) (int_ranked a b (int_cmp a b) refl) where
-  a : ℤ
-  a = h *ℤ pos (2 ^ 64) +ℤ pos l
+key_order : (h k : ℤ) (l m : ℕ) → l < 2 ^ 64 → m < 2 ^ 64 → ordering_then (int_cmp h k) (nat_cmp l m)
+    ≡ int_cmp (h *ℤ pos (2 ^ 64) +ℤ pos l) (k *ℤ pos (2 ^ 64) +ℤ pos m)
+key_order h k l m below beneath = by (int_cmp h k) (int_ranked h k (int_cmp h k) refl) (nat_cmp l m)
+    (nat_ranked l m (nat_cmp l m) refl) (int_cmp a b) (int_ranked a b (int_cmp a b) refl) where
+      a : ℤ
+      a = h *ℤ pos (2 ^ 64) +ℤ pos l
 
-  b : ℤ
-  b = k *ℤ pos (2 ^ 64) +ℤ pos m
+      b : ℤ
+      b = k *ℤ pos (2 ^ 64) +ℤ pos m
 
-  by : (o : Ordering) → MatchOrdering o (h <ℤ k) (h ≡ k) (k <ℤ h) → (p : Ordering) → MatchOrdering p (l < m) (l ≡ m) (m < l) → (q : Ordering) → MatchOrdering q ((h *ℤ pos (2 ^ 64) +ℤ pos l) <ℤ (k *ℤ pos (2 ^ 64) +ℤ pos m)) ((h *ℤ pos (2 ^ 64) +ℤ pos l) ≡ (k *ℤ pos (2 ^ 64) +ℤ pos m)) ((k *ℤ pos (2 ^ 64) +ℤ pos m) <ℤ (h *ℤ pos (2 ^ 64) +ℤ pos l)) → ordering_then o p ≡ q
-  by Less x p y Less z = refl
-  by Less x p y Equal z = absurd (omega (arith, ints))
-  by Less x p y Greater z = absurd (omega (arith, ints))
-  by Greater x p y Less z = absurd (omega (arith, ints))
-  by Greater x p y Equal z = absurd (omega (arith, ints))
-  by Greater x p y Greater z = refl
-  by Equal x Less y Less z = refl
-  by Equal x Less y Equal z = absurd (omega (arith, ints))
-  by Equal x Less y Greater z = absurd (omega (arith, ints))
-  by Equal x Equal y Less z = absurd (omega (arith, ints))
-  by Equal x Equal y Equal z = refl
-  by Equal x Equal y Greater z = absurd (omega (arith, ints))
-  by Equal x Greater y Less z = absurd (omega (arith, ints))
-  by Equal x Greater y Equal z = absurd (omega (arith, ints))
-  by Equal x Greater y Greater z = refl
+      by : (o : Ordering) → MatchOrdering o (h <ℤ k) (h ≡ k) (k <ℤ h) → (p : Ordering)
+          → MatchOrdering p (l < m) (l ≡ m) (m < l) → (q : Ordering)
+          → MatchOrdering q ((h *ℤ pos (2 ^ 64) +ℤ pos l) <ℤ (k *ℤ pos (2 ^ 64) +ℤ pos m)) ((h *ℤ pos (2 ^ 64) +ℤ pos l)
+          ≡ (k *ℤ pos (2 ^ 64) +ℤ pos m)) ((k *ℤ pos (2 ^ 64) +ℤ pos m) <ℤ (h *ℤ pos (2 ^ 64) +ℤ pos l))
+          → ordering_then o p ≡ q
+      by Less x p y Less z = refl
+      by Less x p y Equal z = absurd (omega (arith, ints))
+      by Less x p y Greater z = absurd (omega (arith, ints))
+      by Greater x p y Less z = absurd (omega (arith, ints))
+      by Greater x p y Equal z = absurd (omega (arith, ints))
+      by Greater x p y Greater z = refl
+      by Equal x Less y Less z = refl
+      by Equal x Less y Equal z = absurd (omega (arith, ints))
+      by Equal x Less y Greater z = absurd (omega (arith, ints))
+      by Equal x Equal y Less z = absurd (omega (arith, ints))
+      by Equal x Equal y Equal z = refl
+      by Equal x Equal y Greater z = absurd (omega (arith, ints))
+      by Equal x Greater y Less z = absurd (omega (arith, ints))
+      by Equal x Greater y Equal z = absurd (omega (arith, ints))
+      by Equal x Greater y Greater z = refl
 
 then_then : (o p q : Ordering) → ordering_then o (ordering_then p q) ≡ ordering_then (ordering_then o p) q
 then_then Less p q = refl

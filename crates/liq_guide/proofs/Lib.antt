@@ -1,10 +1,10 @@
-pub mod Beside
+mod Beside
 pub mod Following
-pub mod Halves
-pub mod Holding
+mod Halves
+mod Holding
 pub mod Members
-pub mod Parts
-pub mod Shifting
-pub mod Standing
-pub mod Stands
-pub mod Stored
+mod Parts
+mod Shifting
+mod Standing
+mod Stands
+mod Stored

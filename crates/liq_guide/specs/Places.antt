@@ -40,7 +40,8 @@ IsPartOf e (part.Short short) = (short ≡ e) × IsBetween e
 IsPartOf e part.Above = IsAbove e
 
 -- three ascending parts, each of its own keys
-pub record AreParted (below : List Ranked) (shorts : List Ranked) (above : List Ranked) : Type 0 where
+pub record AreParted (below : List Ranked) (shorts : List Ranked) (above : List Ranked) :
+    Type 0 where
   pub below_ascend : IsAscending below
   pub shorts_ascend : IsAscending shorts
   pub above_ascend : IsAscending above

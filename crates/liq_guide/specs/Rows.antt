@@ -1,5 +1,5 @@
--- The rows of a guide: the entries of the list, and for each account its key and its next one, which it has after the
--- changes that are being followed.
+-- The rows of a guide: the entries of the list, and for each account its key and its next one,
+-- which it has after the changes that are being followed.
 use Rattle.std.specs.Prelude.{◌≡◌, ◌≢◌, ◌==◌, ◌||◌, ℕ, ℤ, Bool, true, false}
 use Rattle.std.specs.Prelude.{List, [], ◌∷◌, Option, Some, None}
 use Rattle.std.specs.List.{AllByRecursion, list_any}
@@ -55,7 +55,8 @@ pub record Follows (key : ℕ → Option ℤ) (list : List Ranked) : Type 0 wher
 pub record Holds (keeps : ℕ → Option ℤ) (gives : ℕ → Option ℤ) (places : List Ranked) : Type 0 where
   pub ascending : IsAscending places
   pub held : (e : Ranked) → is_key (keeps e.1) e.0 ≡ true → is_in places e ≡ true
-  pub only : (e : Ranked) → is_in places e ≡ true → (is_key (keeps e.1) e.0 || is_key (gives e.1) e.0) ≡ true
+  pub only : (e : Ranked) → is_in places e ≡ true
+      → (is_key (keeps e.1) e.0 || is_key (gives e.1) e.0) ≡ true
 
 -- no account stands twice
 abbrev pub StandOnce : List Ranked → Type 0

@@ -17,4 +17,5 @@ account_aside side list e = account_of (entry_beside side (without_ranked list e
 -- the account of an entry, or of the next one on that side where it is one's own
 abbrev pub past_own : Side → List Ranked → ℕ → Option Ranked → Option ℕ
 past_own side list own None = None
-past_own side list own (Some e) = if e.1 == own then account_of (entry_beside side list e) else Some e.1
+past_own side list own (Some e) = if e.1 == own then account_of (entry_beside side list e)
+    else Some e.1

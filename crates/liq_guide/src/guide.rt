@@ -26,7 +26,8 @@ impl Model for Guide {
 
     ghost view = { λ g. g.rows.places };
 
-    ghost invariant = { λ g. Follows (key_at g.rows.stands) g.rows.places × AreSettledBeside g.rows.stands [] };
+    ghost invariant = { λ g. Follows (key_at g.rows.stands) g.rows.places
+        × AreSettledBeside g.rows.stands [] };
 }
 
 impl Guide {
@@ -43,7 +44,8 @@ impl Guide {
     ///
     /// After `NoMemory` all is as before.
     pub fn follow(&mut self, changes: &[ListChange]) -> Result<(), NoMemory>
-        ensures list { OnOk result ((v : View) → v.list ≡ self.old → self.new ≡ (all_followed v changes.now).list) }
+        ensures list { OnOk result ((v : View) → v.list ≡ self.old
+            → self.new ≡ (all_followed v changes.now).list) }
         ensures err { OnErr result (self.new ≡ self.old) }
     {
         if let Some(met) = self.rows.follow_one(changes) {
@@ -67,7 +69,8 @@ impl Guide {
         })
     }
 
-    /// The accounts between which an entry of this key and account stands or would stand, the account itself aside.
+    /// The accounts between which an entry of this key and account stands or would stand, the
+    /// account itself aside.
     pub fn neighbours(&self, key: i128, account: u32) -> (Option<u32>, Option<u32>)
         ensures { result ≡ neighbours self.now (key, account) }
     {

@@ -14,7 +14,8 @@ use std::ops::Bound;
 // One of the upper half of a key counts so many of the lower half.
 const UPPER: i128 = 1 << 64;
 
-// An entry: its key in two halves, so that it takes 24 bytes where a key of 128 bits beside an account takes 32.
+// An entry: its key in two halves, so that it takes 24 bytes where a key of 128 bits beside an
+// account takes 32.
 #[derive(Clone, Copy, PartialEq, Eq, PartialOrd, Ord)]
 struct Long {
     high: i64,
@@ -58,7 +59,8 @@ impl Model for Longs {
 
     ghost view = { λ p. map ranked_long p.entries.keys };
 
-    ghost invariant = { λ p. AreHalved p.entries.keys × IsAscending (map ranked_long p.entries.keys) };
+    ghost invariant = { λ p. AreHalved p.entries.keys
+        × IsAscending (map ranked_long p.entries.keys) };
 }
 
 impl Longs {

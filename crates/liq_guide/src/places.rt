@@ -21,8 +21,9 @@ enum Part {
     Above,
 }
 
-// The entries in their order. Contracts see the list. A key is what a trove owes over its stake, with 18 decimals, less what was spread
-// since: it fits an i64 up to 9,223 LUSD for each ether, so nearly all entries are short.
+// The entries in their order. Contracts see the list. A key is what a trove owes over its stake,
+// with 18 decimals, less what was spread since: it fits an i64 up to 9,223 LUSD for each ether, so
+// nearly all entries are short.
 #[derive(Drop)]
 pub(crate) struct Places {
     // Those whose keys are below all that an i64 can be.
@@ -96,8 +97,8 @@ impl Places {
         Ok(())
     }
 
-    // Puts a short entry in another's place where both are behind the first of one chunk, which takes no memory. Tells whether it did;
-    // where it didn't, all is as before.
+    // Puts a short entry in another's place where both are behind the first of one chunk, which
+    // takes no memory. Tells whether it did; where it didn't, all is as before.
     fn shift(&mut self, from: Entry, to: Entry) -> bool
         ensures ascending { IsAscending self.new }
         ensures shifted { result ≡ true → self.new ≡ with_entry (without_entry self.old from) to }
@@ -149,7 +150,8 @@ fn wide(entry: Entry) -> Place
 // An entry, or where there is none the first whose key is not below.
 fn or_first_not_below(found: Option<Place>, shorts: &Chunks, above: &Longs) -> Option<Place>
     ensures first { result ≡ option_or found (first_of (shorts.now ++ above.now)) }
-    ensures least { (key : ℤ) → key <ℤ i128.MIN → IfSome found (λ e. key <ℤ e.0) → IfSome result (λ e. key <ℤ e.0) }
+    ensures least { (key : ℤ) → key <ℤ i128.MIN → IfSome found (λ e. key <ℤ e.0)
+        → IfSome result (λ e. key <ℤ e.0) }
 {
     match found {
         None => or_first_above(shorts.first(), above),

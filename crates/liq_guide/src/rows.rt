@@ -31,16 +31,21 @@ impl Rows {
         }
     }
 
-    // Follows one change alone without notes: one that puts an account under a key that can be kept, where it is kept or stands nowhere,
-    // and one that takes out an account that is kept, also with new words behind it, as where a trove is liquidated. Others are not
-    // followed. Then, and where there is no memory, all is as before.
+    // Follows one change alone without notes: one that puts an account under a key that can be
+    // kept, where it is kept or stands nowhere, and one that takes out an account that is kept,
+    // also with new words behind it, as where a trove is liquidated. Others are not followed. Then,
+    // and where there is no memory, all is as before.
     pub(crate) fn follow_one(&mut self, changes: &[ListChange]) -> Option<Result<(), NoMemory>>
-        ensures followed { IfSome result (λ r. OnOk r (Follows (key_at self.old.stands) self.old.places
-            → Follows (key_at self.new.stands) self.new.places × (self.new.places ≡ all_listed self.old.places changes.now))) }
-        ensures settled { AreSettledBeside self.old.stands [] → AreSettledBeside self.new.stands [] }
+        ensures followed { IfSome result
+            (λ r. OnOk r (Follows (key_at self.old.stands) self.old.places
+            → Follows (key_at self.new.stands) self.new.places
+            × (self.new.places ≡ all_listed self.old.places changes.now))) }
+        ensures settled { AreSettledBeside self.old.stands []
+            → AreSettledBeside self.new.stands [] }
         ensures err { IfSome result (λ r. OnErr r (Follows (key_at self.old.stands) self.old.places
             → (self.new.places ≡ self.old.places) × (self.new.stands ≡ self.old.stands))) }
-        ensures stays { IfNone result ((self.new.places ≡ self.old.places) × (self.new.stands ≡ self.old.stands)) }
+        ensures stays { IfNone result ((self.new.places ≡ self.old.places)
+            × (self.new.stands ≡ self.old.stands)) }
     {
         match *changes {
             [ListChange::Put { key, account }] => self.put_one(key, account),
@@ -52,12 +57,16 @@ impl Rows {
 
     // Puts an account under a key that can be kept, where it is kept or stands nowhere.
     fn put_one(&mut self, key: i128, account: u32) -> Option<Result<(), NoMemory>>
-        ensures followed { IfSome result (λ r. OnOk r (Follows (key_at self.old.stands) self.old.places
-            → Follows (key_at self.new.stands) self.new.places × (self.new.places ≡ listed self.old.places (Put key account)))) }
-        ensures settled { AreSettledBeside self.old.stands [] → AreSettledBeside self.new.stands [] }
+        ensures followed { IfSome result
+            (λ r. OnOk r (Follows (key_at self.old.stands) self.old.places
+            → Follows (key_at self.new.stands) self.new.places
+            × (self.new.places ≡ listed self.old.places (Put key account)))) }
+        ensures settled { AreSettledBeside self.old.stands []
+            → AreSettledBeside self.new.stands [] }
         ensures err { IfSome result (λ r. OnErr r (Follows (key_at self.old.stands) self.old.places
             → (self.new.places ≡ self.old.places) × (self.new.stands ≡ self.old.stands))) }
-        ensures stays { IfNone result ((self.new.places ≡ self.old.places) × (self.new.stands ≡ self.old.stands)) }
+        ensures stays { IfNone result ((self.new.places ≡ self.old.places)
+            × (self.new.stands ≡ self.old.stands)) }
     {
         match self.put_kept(key, account) {
             None => self.open_kept(key, account),
@@ -67,12 +76,16 @@ impl Rows {
 
     // Gives an account that is kept another key that can be kept.
     fn put_kept(&mut self, key: i128, account: u32) -> Option<Result<(), NoMemory>>
-        ensures followed { IfSome result (λ r. OnOk r (Follows (key_at self.old.stands) self.old.places
-            → Follows (key_at self.new.stands) self.new.places × (self.new.places ≡ listed self.old.places (Put key account)))) }
-        ensures settled { AreSettledBeside self.old.stands [] → AreSettledBeside self.new.stands [] }
+        ensures followed { IfSome result
+            (λ r. OnOk r (Follows (key_at self.old.stands) self.old.places
+            → Follows (key_at self.new.stands) self.new.places
+            × (self.new.places ≡ listed self.old.places (Put key account)))) }
+        ensures settled { AreSettledBeside self.old.stands []
+            → AreSettledBeside self.new.stands [] }
         ensures err { IfSome result (λ r. OnErr r (Follows (key_at self.old.stands) self.old.places
             → (self.new.places ≡ self.old.places) × (self.new.stands ≡ self.old.stands))) }
-        ensures stays { IfNone result ((self.new.places ≡ self.old.places) × (self.new.stands ≡ self.old.stands)) }
+        ensures stays { IfNone result ((self.new.places ≡ self.old.places)
+            × (self.new.stands ≡ self.old.stands)) }
     {
         let (Some(stood), Some(kept)) = (self.stands.kept(account), Kept::of(key)) else {
             return None;
@@ -89,12 +102,16 @@ impl Rows {
 
     // Puts an account that stands nowhere under a key that can be kept.
     fn open_kept(&mut self, key: i128, account: u32) -> Option<Result<(), NoMemory>>
-        ensures followed { IfSome result (λ r. OnOk r (Follows (key_at self.old.stands) self.old.places
-            → Follows (key_at self.new.stands) self.new.places × (self.new.places ≡ listed self.old.places (Put key account)))) }
-        ensures settled { AreSettledBeside self.old.stands [] → AreSettledBeside self.new.stands [] }
+        ensures followed { IfSome result
+            (λ r. OnOk r (Follows (key_at self.old.stands) self.old.places
+            → Follows (key_at self.new.stands) self.new.places
+            × (self.new.places ≡ listed self.old.places (Put key account)))) }
+        ensures settled { AreSettledBeside self.old.stands []
+            → AreSettledBeside self.new.stands [] }
         ensures err { IfSome result (λ r. OnErr r (Follows (key_at self.old.stands) self.old.places
             → (self.new.places ≡ self.old.places) × (self.new.stands ≡ self.old.stands))) }
-        ensures stays { IfNone result ((self.new.places ≡ self.old.places) × (self.new.stands ≡ self.old.stands)) }
+        ensures stays { IfNone result ((self.new.places ≡ self.old.places)
+            × (self.new.stands ≡ self.old.stands)) }
     {
         let kept = Kept::of(key)?;
         if self.stands.stand(account).key.is_some() {
@@ -112,11 +129,15 @@ impl Rows {
 
     // Takes out an account that is kept. That needs no memory.
     fn take_kept(&mut self, account: u32) -> Option<Result<(), NoMemory>>
-        ensures followed { IfSome result (λ r. OnOk r (Follows (key_at self.old.stands) self.old.places
-            → Follows (key_at self.new.stands) self.new.places × (self.new.places ≡ listed self.old.places (Gone account)))) }
-        ensures settled { AreSettledBeside self.old.stands [] → AreSettledBeside self.new.stands [] }
+        ensures followed { IfSome result
+            (λ r. OnOk r (Follows (key_at self.old.stands) self.old.places
+            → Follows (key_at self.new.stands) self.new.places
+            × (self.new.places ≡ listed self.old.places (Gone account)))) }
+        ensures settled { AreSettledBeside self.old.stands []
+            → AreSettledBeside self.new.stands [] }
         ensures ok { IfSome result (λ r. IsOk r) }
-        ensures stays { IfNone result ((self.new.places ≡ self.old.places) × (self.new.stands ≡ self.old.stands)) }
+        ensures stays { IfNone result ((self.new.places ≡ self.old.places)
+            × (self.new.stands ≡ self.old.stands)) }
     {
         let stood = self.stands.kept(account)?;
         self.places.remove((i128::from(stood.key), account));
@@ -124,13 +145,18 @@ impl Rows {
         Some(Ok(()))
     }
 
-    // Makes ready for changes: notes where each account will stand, and puts in the entries that will. None is taken out.
+    // Makes ready for changes: notes where each account will stand, and puts in the entries that
+    // will. None is taken out.
     pub(crate) fn prepare(&mut self, changes: &[ListChange]) -> Result<(), NoMemory>
         ensures key { (a : ℕ) → key_at self.new.stands a ≡ key_at self.old.stands a }
-        ensures next { OnOk result ((list : List Ranked) → Follows (next_at self.old.stands) list → Follows (next_at self.new.stands) (all_listed list changes.now)) }
-        ensures settled { AreSettledBeside self.old.stands [] → AreSettledBeside self.new.stands changes.now }
-        ensures holds { AreSettledBeside self.old.stands [] → Holds (key_at self.old.stands) (next_at self.old.stands) self.old.places
-            → Holds (side_at (is_ok result) self.new.stands) (side_at (not (is_ok result)) self.new.stands) self.new.places }
+        ensures next { OnOk result ((list : List Ranked) → Follows (next_at self.old.stands) list
+            → Follows (next_at self.new.stands) (all_listed list changes.now)) }
+        ensures settled { AreSettledBeside self.old.stands []
+            → AreSettledBeside self.new.stands changes.now }
+        ensures holds { AreSettledBeside self.old.stands []
+            → Holds (key_at self.old.stands) (next_at self.old.stands) self.old.places
+            → Holds (side_at (is_ok result) self.new.stands)
+            (side_at (not (is_ok result)) self.new.stands) self.new.places }
     {
         self.aim(changes)?;
         self.enter(changes)
@@ -140,8 +166,10 @@ impl Rows {
     fn aim(&mut self, changes: &[ListChange]) -> Result<(), NoMemory>
         ensures places { self.new.places ≡ self.old.places }
         ensures key { (a : ℕ) → key_at self.new.stands a ≡ key_at self.old.stands a }
-        ensures next { OnOk result ((list : List Ranked) → Follows (next_at self.old.stands) list → Follows (next_at self.new.stands) (all_listed list changes.now)) }
-        ensures others { (a : ℕ) → names changes.now a ≡ false → stand_of self.new.stands a ≡ stand_of self.old.stands a }
+        ensures next { OnOk result ((list : List Ranked) → Follows (next_at self.old.stands) list
+            → Follows (next_at self.new.stands) (all_listed list changes.now)) }
+        ensures others { (a : ℕ) → names changes.now a ≡ false → stand_of self.new.stands a
+            ≡ stand_of self.old.stands a }
     {
         for change in changes {
             self.aim_one(change)?;
@@ -152,8 +180,10 @@ impl Rows {
     fn aim_one(&mut self, change: &ListChange) -> Result<(), NoMemory>
         ensures places { self.new.places ≡ self.old.places }
         ensures key { (a : ℕ) → key_at self.new.stands a ≡ key_at self.old.stands a }
-        ensures next { OnOk result ((list : List Ranked) → Follows (next_at self.old.stands) list → Follows (next_at self.new.stands) (listed list change.now)) }
-        ensures others { (a : ℕ) → named_by a change.now ≡ false → stand_of self.new.stands a ≡ stand_of self.old.stands a }
+        ensures next { OnOk result ((list : List Ranked) → Follows (next_at self.old.stands) list
+            → Follows (next_at self.new.stands) (listed list change.now)) }
+        ensures others { (a : ℕ) → named_by a change.now ≡ false → stand_of self.new.stands a
+            ≡ stand_of self.old.stands a }
     {
         match *change {
             ListChange::Put { key, account } => self.stands.aim(account, Some(key)),
@@ -165,9 +195,11 @@ impl Rows {
     // Puts in the entries that will stand. None is taken out.
     fn enter(&mut self, changes: &[ListChange]) -> Result<(), NoMemory>
         ensures stands { self.new.stands ≡ self.old.stands }
-        ensures holds { Holds (key_at self.old.stands) (next_at self.old.stands) self.old.places → Holds (key_at self.old.stands) (next_at self.old.stands) self.new.places }
+        ensures holds { Holds (key_at self.old.stands) (next_at self.old.stands) self.old.places
+            → Holds (key_at self.old.stands) (next_at self.old.stands) self.new.places }
         ensures entered { Holds (key_at self.old.stands) (next_at self.old.stands) self.old.places
-            → OnOk result ((e : Ranked) → names changes.now e.1 ≡ true → is_key (next_at self.old.stands e.1) e.0 ≡ true → is_in self.new.places e ≡ true) }
+            → OnOk result ((e : Ranked) → names changes.now e.1 ≡ true
+            → is_key (next_at self.old.stands e.1) e.0 ≡ true → is_in self.new.places e ≡ true) }
     {
         for change in changes {
             if let Some(account) = account_of(change) {
@@ -179,10 +211,13 @@ impl Rows {
 
     fn enter_one(&mut self, account: u32) -> Result<(), NoMemory>
         ensures stands { self.new.stands ≡ self.old.stands }
-        ensures holds { Holds (key_at self.old.stands) (next_at self.old.stands) self.old.places → Holds (key_at self.old.stands) (next_at self.old.stands) self.new.places }
-        ensures kept { (e : Ranked) → is_in self.old.places e ≡ true → is_in self.new.places e ≡ true }
+        ensures holds { Holds (key_at self.old.stands) (next_at self.old.stands) self.old.places
+            → Holds (key_at self.old.stands) (next_at self.old.stands) self.new.places }
+        ensures kept { (e : Ranked) → is_in self.old.places e ≡ true → is_in self.new.places e
+            ≡ true }
         ensures entered { Holds (key_at self.old.stands) (next_at self.old.stands) self.old.places
-            → OnOk result ((e : Ranked) → (account == e.1) ≡ true → is_key (next_at self.old.stands e.1) e.0 ≡ true → is_in self.new.places e ≡ true) }
+            → OnOk result ((e : Ranked) → (account == e.1) ≡ true
+            → is_key (next_at self.old.stands e.1) e.0 ≡ true → is_in self.new.places e ≡ true) }
     {
         let Stand { key, next } = self.stands.stand(account);
         match next {
@@ -191,12 +226,16 @@ impl Rows {
         }
     }
 
-    // Ends what was made ready: each account stands where it will, or, where the changes are not made, where it stood.
+    // Ends what was made ready: each account stands where it will, or, where the changes are not
+    // made, where it stood.
     pub(crate) fn settle(&mut self, changes: &[ListChange], made: bool)
         ensures same { (a : ℕ) → side_at made self.new.stands a ≡ side_at made self.old.stands a }
-        ensures settled { AreSettledBeside self.old.stands changes.now → AreSettledBeside self.new.stands [] }
-        ensures holds { Holds (side_at made self.old.stands) (side_at (not made) self.old.stands) self.old.places
-            → Holds (side_at made self.new.stands) (side_at (not made) self.new.stands) self.new.places }
+        ensures settled { AreSettledBeside self.old.stands changes.now
+            → AreSettledBeside self.new.stands [] }
+        ensures holds { Holds (side_at made self.old.stands) (side_at (not made) self.old.stands)
+            self.old.places
+            → Holds (side_at made self.new.stands) (side_at (not made) self.new.stands)
+            self.new.places }
     {
         for change in changes {
             if let Some(account) = account_of(change) {
@@ -208,9 +247,12 @@ impl Rows {
     fn settle_one(&mut self, account: u32, made: bool)
         ensures same { (a : ℕ) → side_at made self.new.stands a ≡ side_at made self.old.stands a }
         ensures settled { next_at self.new.stands account ≡ key_at self.new.stands account }
-        ensures others { (a : ℕ) → (account == a) ≡ false → stand_of self.new.stands a ≡ stand_of self.old.stands a }
-        ensures holds { Holds (side_at made self.old.stands) (side_at (not made) self.old.stands) self.old.places
-            → Holds (side_at made self.new.stands) (side_at (not made) self.new.stands) self.new.places }
+        ensures others { (a : ℕ) → (account == a) ≡ false → stand_of self.new.stands a
+            ≡ stand_of self.old.stands a }
+        ensures holds { Holds (side_at made self.old.stands) (side_at (not made) self.old.stands)
+            self.old.places
+            → Holds (side_at made self.new.stands) (side_at (not made) self.new.stands)
+            self.new.places }
     {
         let (stays, goes) = sides(self.stands.stand(account), made);
         if stays != goes {
@@ -223,7 +265,9 @@ impl Rows {
     fn clear(&mut self, account: u32, key: Option<i128>)
         ensures stands { self.new.stands ≡ self.old.stands }
         ensures none { key ≡ None → self.new.places ≡ self.old.places }
-        ensures some { (k : ℤ) → key ≡ Some k → IsAscending self.new.places × ((e : Ranked) → is_in self.new.places e ≡ (if is_eq (rank_order (k, account) e) then false else is_in self.old.places e)) }
+        ensures some { (k : ℤ) → key ≡ Some k → IsAscending self.new.places × ((e : Ranked)
+            → is_in self.new.places e ≡ (if is_eq (rank_order (k, account) e) then false
+            else is_in self.old.places e)) }
     {
         if let Some(key) = key {
             self.places.remove((key, account));
@@ -231,7 +275,8 @@ impl Rows {
     }
 }
 
-// The key that is kept and the one that is given up, where the changes are made and where they are not.
+// The key that is kept and the one that is given up, where the changes are made and where they are
+// not.
 fn sides(stand: Stand, made: bool) -> (Option<i128>, Option<i128>)
     ensures { result ≡ (side_of made stand, side_of (not made) stand) }
 {
@@ -244,7 +289,8 @@ fn sides(stand: Stand, made: bool) -> (Option<i128>, Option<i128>)
 
 // The account that a change moves, if it moves any.
 fn account_of(change: &ListChange) -> Option<u32>
-    ensures { MatchOption result ((a : ℕ) → named_by a change.now ≡ false) (λ account. (a : ℕ) → named_by a change.now ≡ (account == a)) }
+    ensures { MatchOption result ((a : ℕ) → named_by a change.now ≡ false) (λ account. (a : ℕ)
+        → named_by a change.now ≡ (account == a)) }
 {
     match *change {
         ListChange::Put { account, .. } | ListChange::Gone { account } => Some(account),

@@ -18,7 +18,10 @@ pub(crate) enum Side {
 pub(crate) fn accounts_aside(places: &Places, place: Place) -> (Option<u32>, Option<u32>)
     requires ascending { IsAscending places.now }
     requires once { StandOnce places.now }
-    ensures { result ≡ (account_aside Before places.now place, account_aside After places.now place) }
+    ensures { result ≡ (
+      account_aside Before places.now place,
+      account_aside After places.now place,
+    ) }
 {
     let (before, after) = places.beside(place);
     (
@@ -31,13 +34,18 @@ pub(crate) fn accounts_aside(places: &Places, place: Place) -> (Option<u32>, Opt
 pub(crate) fn first_account(places: &Places, aside: u32) -> Option<u32>
     requires ascending { IsAscending places.now }
     requires once { StandOnce places.now }
-    ensures prev { (key : ℤ) → key <ℤ i128.MIN → account_aside Before places.now (key, aside) ≡ None }
-    ensures next { (key : ℤ) → key <ℤ i128.MIN → result ≡ account_aside After places.now (key, aside) }
+    ensures prev { (key : ℤ) → key <ℤ i128.MIN → account_aside Before places.now (key, aside)
+        ≡ None }
+    ensures next { (key : ℤ) → key <ℤ i128.MIN → result ≡ account_aside After places.now (
+      key,
+      aside,
+    ) }
 {
     past_own(places, places.first(), aside, Side::After)
 }
 
-// The account of an entry that was found, or, where that is one's own, of the next one on that side.
+// The account of an entry that was found, or, where that is one's own, of the next one on that
+// side.
 fn past_own(places: &Places, found: Option<Place>, own: u32, side: Side) -> Option<u32>
     ensures { result ≡ past_own side places.now own found }
 {

@@ -12,12 +12,15 @@ use Rattle.liq_rules.proofs.Allowed.{effect-records}
 use Rattle.liq_rules.proofs.Generations.{effect-generation}
 
 -- a planned command is allowed
-pub planned_allowed : (s : State) (c : Command) (plan : Plan) → (plan.command ≡ c) × IsPlan s plan → ruling s c ≡ Allowed
+pub planned_allowed : (s : State) (c : Command) (plan : Plan) → (plan.command ≡ c) × IsPlan s plan
+    → ruling s c ≡ Allowed
 planned_allowed s c plan is = subst (λ (k : Command). ruling s k ≡ Allowed) is.0 is.1.allowed
 
-pub stepped : (done : Core) (s : State) (c : Command) (plan : Plan) → (plan.command ≡ c) × IsPlan s plan → StandsFor done (step s (Do plan.command)).0 → StandsFor done (after s c)
+pub stepped : (done : Core) (s : State) (c : Command) (plan : Plan) → (plan.command ≡ c) × IsPlan s plan
+    → StandsFor done (step s (Do plan.command)).0 → StandsFor done (after s c)
 stepped done s c plan is stands =
-    let here : StandsFor done (step s (Do c)).0 = subst (λ (k : Command). StandsFor done (step s (Do k)).0) is.0 stands in
+    let here : StandsFor done (step s (Do c)).0 = subst (λ (k : Command). StandsFor done (step s (Do k)).0) is.0 stands
+    in
     subst (λ r. StandsFor done (after_ruling s c r).0) (planned_allowed s c plan is) here
 
 -- ---- what a command leaves that is no rotation: one record more, of the same generation
@@ -28,9 +31,13 @@ after-records s c stays =
     ∙ ap (λ n. n + 1) (effect-records s c.call)
 
 -- the counters of a core that makes the command's step
-pub counts_on : (old new : Core) (s : State) (c : Command) → rotates c.call ≡ false → StandsFor old s → StandsFor new (after s c) → new.records ≡ old.records + 1
-counts_on old new s c stays before stands = stands.records ∙ after-records s c stays ∙ ap (λ n. n + 1) (sym before.records)
+pub counts_on : (old new : Core) (s : State) (c : Command) → rotates c.call ≡ false → StandsFor old s
+    → StandsFor new (after s c) → new.records ≡ old.records + 1
+counts_on old new s c stays before stands = stands.records ∙ after-records s c stays
+    ∙ ap (λ n. n + 1) (sym before.records)
 
-pub generation_stays : (old new : Core) (s : State) (c : Command) → rotates c.call ≡ false → StandsFor old s → StandsFor new (after s c) → new.image.generation ≡ old.image.generation
+pub generation_stays : (old new : Core) (s : State) (c : Command) → rotates c.call ≡ false → StandsFor old s
+    → StandsFor new (after s c) → new.image.generation ≡ old.image.generation
 generation_stays old new s c stays before stands =
-    ap (λ (i : Image). i.generation) stands.image ∙ effect-generation s c.call stays ∙ ap (λ (i : Image). i.generation) (sym before.image)
+    ap (λ (i : Image). i.generation) stands.image ∙ effect-generation s c.call stays
+    ∙ ap (λ (i : Image). i.generation) (sym before.image)

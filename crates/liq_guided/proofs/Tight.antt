@@ -144,7 +144,8 @@ neighbours_tight list e asc =
       above_prev =
           λ f is. is_less (rank_order f e) (first_passes (λ g. is_ahead e g ≡ true) (reverse before) f ahead is);
       below_next =
-          λ f is. is_less (rank_order e f) (first_passes (λ g. is_behind e g ≡ true) (after_entry others e) f behind is);
+          λ f is. is_less (rank_order e f) (first_passes (λ g. is_behind e g ≡ true) (after_entry others e) f
+          behind is);
     }
 
 -- ---- what a guide says
@@ -193,7 +194,8 @@ words_gone (Claim account) = refl
 words_gone Rotate = refl
 
 -- a command without its own words that is made with the guide's hint alone
-pub few_taken : (list made : List Ranked) (plan : Plan) (c : Command) (exact : Option Hint) (hints : Hints) (old new : ℕ)
+pub few_taken : (list made : List Ranked) (plan : Plan) (c : Command) (exact : Option Hint) (hints : Hints)
+    (old new : ℕ)
     → plan.command ≡ unhinted c → hints ≡ guides_alone exact → made ≡ list → IsExact list (last_put plan.changes) exact
     → TakesFew made (used_hint (words_of plan.command.call) (hint_used hints)) (last_put plan.changes) old new
     → new ≤ old + 4

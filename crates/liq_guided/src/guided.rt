@@ -80,7 +80,8 @@ impl Guided {
     /// Puts the opening under this limit in place of the opening under another.
     pub fn begin_under(&mut self, alloc: Global, limit: u64)
         requires { IsLimit limit }
-        ensures { (before : ℕ) → StandsFor self.old (opening_with before) → StandsFor self.new (opening_with limit) }
+        ensures { (before : ℕ) → StandsFor self.old (opening_with before)
+            → StandsFor self.new (opening_with limit) }
     {
         if self.protocol.limit() != limit {
             *self = Guided::with_limit(alloc, limit);
@@ -130,8 +131,8 @@ impl Guided {
         self.protocol.plan(command)
     }
 
-    /// Makes room for what the planned command writes. The guide follows it, and says between whom the
-    /// account will stand that it puts last, if it puts any.
+    /// Makes room for what the planned command writes. The guide follows it, and says between whom
+    /// the account will stand that it puts last, if it puts any.
     pub fn reserve(&mut self, planned: &Planned) -> Result<Option<Hint>, NoMemory>
         ensures same { SameContent self.old self.new }
         ensures room { OnOk result (HasRoom self.new planned.now) }
@@ -156,8 +157,10 @@ impl Guided {
     ) -> Done
         requires planned { IsPlannedOn self.old planned }
         requires room { HasRoom self.old planned }
-        ensures state { (s : State) → StandsFor self.old s → StandsFor self.new (step s (Do planned.command)).0 }
-        ensures reply { (s : State) → StandsFor self.old s → (step s (Do planned.command)).1 ≡ Said result }
+        ensures state { (s : State) → StandsFor self.old s
+            → StandsFor self.new (step s (Do planned.command)).0 }
+        ensures reply { (s : State) → StandsFor self.old s → (step s (Do planned.command)).1
+            ≡ Said result }
         ensures list { self.new.list ≡ all_listed self.old.list planned.changes }
         ensures few { TakesFew self.new.list
             (used_hint (words_of planned.command.call) (hint_used hints.now))
@@ -173,16 +176,19 @@ impl Guided {
     }
 
     /// Makes the step of a command that was accepted long ago, without its own hint words. Where it
-    /// makes none all is as before. However long the list is, the place of its trove takes at most four
-    /// steps.
+    /// makes none all is as before. However long the list is, the place of its trove takes at most
+    /// four steps.
     pub fn redo<L: Ledger>(
         &mut self,
         command: &Command,
         steps: &mut Steps<L>,
     ) -> Result<(), RedoFault>
-        ensures redone { (s : State) → StandsFor self.old s → IsRedone s command.now self.new result }
-        ensures counted { rotates command.now.call ≡ false → OnOk result (self.new.records ≡ self.old.records + 1) }
-        ensures generation { rotates command.now.call ≡ false → OnOk result (self.new.image.generation ≡ self.old.image.generation) }
+        ensures redone { (s : State) → StandsFor self.old s
+            → IsRedone s command.now self.new result }
+        ensures counted { rotates command.now.call ≡ false
+            → OnOk result (self.new.records ≡ self.old.records + 1) }
+        ensures generation { rotates command.now.call ≡ false
+            → OnOk result (self.new.image.generation ≡ self.old.image.generation) }
         ensures few { OnOk result (steps.new ≤ steps.old + 4) }
     {
         protocols_stand(&self.protocol);

@@ -28,8 +28,8 @@ impl Hints {
         }
     }
 
-    /// The one that counts: the guide's; else the command's own words, where one of them is there; else
-    /// the one that is given.
+    /// The one that counts: the guide's; else the command's own words, where one of them is there;
+    /// else the one that is given.
     pub fn used(&self) -> Hint
         ensures { result ≡ hint_used self.now }
     {

@@ -48,9 +48,9 @@ impl ListGuide {
         })
     }
 
-    /// Follows the changes that a command will make, and tells between whom the account will stand that
-    /// they put last, if any. A command that was followed before and has not been made since is
-    /// forgotten.
+    /// Follows the changes that a command will make, and tells between whom the account will stand
+    /// that they put last, if any. A command that was followed before and has not been made since
+    /// is forgotten.
     pub(crate) fn follow(
         &mut self,
         protocol: &Protocol,
@@ -117,8 +117,8 @@ fn guide_of(alloc: Global, protocol: &Protocol) -> Result<Guide, NoMemory>
     protocols_stand(protocol);
     let mut guide = Guide::new(alloc);
     let mut changes = protocol.list(alloc)?;
-    // One after the other, since of a single change nothing is noted aside, and from the last one on,
-    // since the place before all others is found at once.
+    // One after the other, since of a single change nothing is noted aside, and from the last one
+    // on, since the place before all others is found at once.
     while let Some(change) = changes.pop() {
         guide.follow(&[change])?;
     }

@@ -10,7 +10,9 @@ use Rattle.liq_header.specs.Layout.{Layout, fields_size, generation_on, layout_w
 use Rattle.liq_header.proofs.Versions.{has_version}
 
 -- the fields of a header of a version with a limit that may be
-pub fields_of_version : (limit : ℕ) → IsLimit limit → (head : Head) (bytes : List ℕ) → head.limit ≡ limit → head.generation ≡ generation_on bytes → head.size ≡ size_on bytes → head.fields ≡ piece 1 32 bytes → head.stored ≡ piece (1 + fields_size (layout_with limit)) 32 bytes → HasFields (layout_with limit) head bytes
+pub fields_of_version : (limit : ℕ) → IsLimit limit → (head : Head) (bytes : List ℕ) → head.limit ≡ limit
+    → head.generation ≡ generation_on bytes → head.size ≡ size_on bytes → head.fields ≡ piece 1 32 bytes
+    → head.stored ≡ piece (1 + fields_size (layout_with limit)) 32 bytes → HasFields (layout_with limit) head bytes
 fields_of_version limit is head bytes limit_is generation size fields stored =
     let has = has_version limit is in
     let n = fields_size (layout_with limit) in
@@ -30,14 +32,19 @@ pub record AreRight (layout : Layout) (odd : Bool) (bytes : List ℕ) : Type 0 w
   pub size : is_size (generation_on bytes) (size_on bytes) ≡ true
   pub own : bytes_eq (own_on layout bytes) layout.own ≡ true
 
-pub are_right : (layout : Layout) (odd : Bool) (bytes : List ℕ) → first_place (place_tests layout odd bytes) ≡ None → AreRight layout odd bytes
+pub are_right : (layout : Layout) (odd : Bool) (bytes : List ℕ) → first_place (place_tests layout odd bytes) ≡ None
+    → AreRight layout odd bytes
 are_right layout odd bytes fits =
-    let first = passed (bytes_eq (name_on bytes) layout.name) 1 (first_place (drop 1 (place_tests layout odd bytes))) fits in
-    let second = passed (is_generation odd (generation_on bytes)) 9 (first_place (drop 2 (place_tests layout odd bytes))) first.1 in
-    let third = passed (is_size (generation_on bytes) (size_on bytes)) 17 (first_place (drop 3 (place_tests layout odd bytes))) second.1 in
+    let first = passed (bytes_eq (name_on bytes) layout.name) 1
+    (first_place (drop 1 (place_tests layout odd bytes))) fits in
+    let second = passed (is_generation odd (generation_on bytes)) 9
+    (first_place (drop 2 (place_tests layout odd bytes))) first.1 in
+    let third = passed (is_size (generation_on bytes) (size_on bytes)) 17
+    (first_place (drop 3 (place_tests layout odd bytes))) second.1 in
     let fourth = passed (bytes_eq (own_on layout bytes) layout.own) 25 None third.1 in
     record { name = first.0; generation = second.0; size = third.0; own = fourth.0 }
   where
-    passed : (b : Bool) (place : ℕ) (others : Option ℕ) → (if not b then Some place else others) ≡ None → (b ≡ true) × (others ≡ None)
+    passed : (b : Bool) (place : ℕ) (others : Option ℕ) → (if not b then Some place else others) ≡ None → (b ≡ true)
+        × (others ≡ None)
     passed true place others is = (refl, is)
     passed false place others is = absurd (cc (is))

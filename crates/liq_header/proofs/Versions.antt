@@ -5,10 +5,24 @@ use Rattle.liq_types.specs.Image.{IsLimit}
 use Rattle.liq_header.specs.Layout.{IsVersion, version_1, version_2, layout_on, layout_with, name_on}
 
 pub is_version_1 : IsVersion version_1
-is_version_1 = record { named = refl; fields = omega arith; whole = omega arith; limit = inl refl; by_name = refl; by_limit = refl }
+is_version_1 = record {
+  named = refl;
+  fields = omega arith;
+  whole = omega arith;
+  limit = inl refl;
+  by_name = refl;
+  by_limit = refl;
+}
 
 pub is_version_2 : IsVersion version_2
-is_version_2 = record { named = refl; fields = omega arith; whole = omega arith; limit = inr refl; by_name = refl; by_limit = refl }
+is_version_2 = record {
+  named = refl;
+  fields = omega arith;
+  whole = omega arith;
+  limit = inr refl;
+  by_name = refl;
+  by_limit = refl;
+}
 
 -- a limit that may be is the one of its version
 pub record HasVersion (limit : ℕ) : Type 0 where

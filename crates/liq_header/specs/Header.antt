@@ -11,11 +11,13 @@ is_odd n = (n % 2) == 1
 
 -- The generations that a disk may have, from 1 on: the odd ones, or the even ones.
 abbrev pub is_generation : Bool → ℕ → Bool
-is_generation odd generation = nat_le 1 generation && (if odd then is_odd generation else not (is_odd generation))
+is_generation odd generation = nat_le 1 generation && (if odd then is_odd generation
+    else not (is_odd generation))
 
 -- The first generation begins with the opening state and has no checkpoint, every other has one.
 abbrev pub is_size : ℕ → ℕ → Bool
-is_size generation size = if generation == 1 then size == 0 else nat_lt 0 size && nat_lt size 68719476737
+is_size generation size = if generation == 1 then size == 0
+    else nat_lt 0 size && nat_lt size 68719476737
 
 -- what the fields of an open disk's header have to be, in the order of their places
 abbrev pub place_tests : Layout → Bool → List ℕ → List (Bool × ℕ)

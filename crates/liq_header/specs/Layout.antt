@@ -1,5 +1,6 @@
--- What stands where in a header. The gate is at place 0, the name from place 1 on, the generation at place 9, and the
--- checkpoint's length at place 17. Then come the fields that only one version has, the digest, and the checkpoint.
+-- What stands where in a header. The gate is at place 0, the name from place 1 on, the generation
+-- at place 9, and the checkpoint's length at place 17. Then come the fields that only one version
+-- has, the digest, and the checkpoint.
 use Rattle.std.specs.Prelude.{◌≡◌, ◌≤◌, ℕ, ◌+◌, ◌^◌, ◌==◌, if◌then◌else◌}
 use Rattle.std.specs.Prelude.{List, [], ◌∷◌, ◌++◌, length, take, drop}
 use Rattle.std.specs.Str.{bytes_eq}
@@ -9,8 +10,8 @@ use Rattle.liq_types.specs.declared.amounts.TheConstants.{LIM, LIM_OF_VERSION_1}
 use Rattle.liq_types.specs.Image.{IsLimit}
 use Rattle.liq_wire.specs.Fields.{number_at}
 
--- A version of the header: its name, the bytes of the fields of its own, which are the same in each header of it, and
--- the limit under which the commands behind it are.
+-- A version of the header: its name, the bytes of the fields of its own, which are the same in each
+-- header of it, and the limit under which the commands behind it are.
 pub record Layout : Type 0 where
   pub name : List ℕ
   pub own : List ℕ
@@ -18,11 +19,19 @@ pub record Layout : Type 0 where
 
 -- LIQJRNL1, with no field of its own
 abbrev pub version_1 : Layout
-version_1 = record { name = 76 ∷ 73 ∷ 81 ∷ 74 ∷ 82 ∷ 78 ∷ 76 ∷ 49 ∷ []; own = []; limit = LIM_OF_VERSION_1 }
+version_1 = record {
+  name = 76 ∷ 73 ∷ 81 ∷ 74 ∷ 82 ∷ 78 ∷ 76 ∷ 49 ∷ [];
+  own = [];
+  limit = LIM_OF_VERSION_1;
+}
 
 -- LIQJRNL2, with the limit as a field
 abbrev pub version_2 : Layout
-version_2 = record { name = 76 ∷ 73 ∷ 81 ∷ 74 ∷ 82 ∷ 78 ∷ 76 ∷ 50 ∷ []; own = big_bytes 8 LIM; limit = LIM }
+version_2 = record {
+  name = 76 ∷ 73 ∷ 81 ∷ 74 ∷ 82 ∷ 78 ∷ 76 ∷ 50 ∷ [];
+  own = big_bytes 8 LIM;
+  limit = LIM;
+}
 
 -- the version with this limit
 abbrev pub layout_with : ℕ → Layout
@@ -57,8 +66,9 @@ pub record StartsWithin (limit start : ℕ) : Type 0 where
   pub least : header_size (layout_with limit) ≤ start
   pub most : start ≤ header_size (layout_with limit) + 2 ^ 36
 
--- What a version has to meet: its name fills the places up to the generation, its fields end within the least header,
--- the header ends within the greatest, and the version is known by its name and by its limit.
+-- What a version has to meet: its name fills the places up to the generation, its fields end within
+-- the least header, the header ends within the greatest, and the version is known by its name and
+-- by its limit.
 pub record IsVersion (layout : Layout) : Type 0 where
   pub named : length layout.name ≡ 8
   pub fields : 1 + fields_size layout ≤ least_header
@@ -114,7 +124,8 @@ digest_on layout bytes = header_digest (fields_on layout bytes) (checkpoint_on l
 
 -- the fields of a header that is written
 abbrev pub fields_of : Layout → ℕ → ℕ → List ℕ
-fields_of layout generation size = layout.name ++ big_bytes 8 generation ++ big_bytes 8 size ++ layout.own
+fields_of layout generation size = layout.name ++ big_bytes 8 generation ++ big_bytes 8 size
+    ++ layout.own
 
 -- it, behind its gate
 abbrev pub header_of : Layout → ℕ → List ℕ → List ℕ

@@ -43,7 +43,8 @@ pub fn put(bytes: &mut [u8], at: usize, part: &[u8])
     bytes[at..at + part.len()].copy_from_slice(part);
 }
 
-// The fields of a header in front of its digest, from place 1 on: of version 2, which alone is written.
+// The fields of a header in front of its digest, from place 1 on: of version 2, which alone is
+// written.
 pub fn header_fields(generation: u64, size: u64) -> [u8; 32]
     ensures { result ≡ fields_of version_2 generation size }
 {

@@ -21,7 +21,8 @@ const NAME_2: [u8; 8] = [76, 73, 81, 74, 82, 78, 76, 50];
 // The name of version 1, LIQJRNL1.
 const NAME_1: [u8; 8] = [76, 73, 81, 74, 82, 78, 76, 49];
 
-/// The places of a header of the version with this limit, which the checkpoint follows: 65 for 10^19, and 57 for 10^18.
+/// The places of a header of the version with this limit, which the checkpoint follows: 65 for
+/// 10^19, and 57 for 10^18.
 pub fn header_size(limit: u64) -> u64
     ensures known { result ≡ header_size (layout_with limit) }
     ensures most { result ≤ 65 }
@@ -44,7 +45,8 @@ fn has_name(bytes: &[u8], name: &[u8; 8]) -> bool
     bytes.len() >= 9 && &bytes[1..9] == name.as_slice()
 }
 
-/// The limit of the version of a header that begins with these bytes: that of version 1 where the name of version 2 isn't there.
+/// The limit of the version of a header that begins with these bytes: that of version 1 where the
+/// name of version 2 isn't there.
 pub fn limit_on(bytes: &[u8]) -> u64
     ensures layout { layout_with result ≡ layout_on bytes.now }
     ensures limit { result ≡ (layout_on bytes.now).limit }
@@ -104,11 +106,14 @@ fn misplaced(bytes: &[u8], odd: bool, limit: u64) -> Option<u64>
     None
 }
 
-/// The fields of a header, all of whose bytes are there, or the first place whose field is wrong. `odd` says whether it has
-/// to be of an odd generation. The digest isn't tested.
+/// The fields of a header, all of whose bytes are there, or the first place whose field is wrong.
+/// `odd` says whether it has to be of an odd generation. The digest isn't tested.
 pub fn placed(bytes: &[u8], odd: bool) -> Result<Head, u64>
     requires { header_size (layout_on bytes.now) ≤ length bytes.now }
-    ensures placed { MatchResult result (λ head. (first_place (place_tests (layout_on bytes.now) odd bytes.now) ≡ None) × HasFields (layout_on bytes.now) head bytes.now) (λ place. first_place (place_tests (layout_on bytes.now) odd bytes.now) ≡ Some place) }
+    ensures placed { MatchResult result
+        (λ head. (first_place (place_tests (layout_on bytes.now) odd bytes.now) ≡ None)
+        × HasFields (layout_on bytes.now) head bytes.now) (λ place. first_place
+        (place_tests (layout_on bytes.now) odd bytes.now) ≡ Some place) }
     ensures limit { IfOk result (λ head. IsLimit head.limit) }
     ensures size { IfOk result (λ head. head.size ≤ 68719476736) }
     ensures generation { IfOk result (λ head. is_generation odd head.generation ≡ true) }
@@ -148,7 +153,8 @@ fn u64_at(bytes: &[u8], at: usize) -> u64
     BigEndian::read_u64(&bytes[at..])
 }
 
-// Whether this is a generation of the disk that has the odd ones, or of the one that has the even ones.
+// Whether this is a generation of the disk that has the odd ones, or of the one that has the even
+// ones.
 fn may_have(odd: bool, generation: u64) -> bool
     ensures { result ≡ is_generation odd generation }
 {
@@ -165,8 +171,8 @@ fn may_be_long(generation: u64, size: u64) -> bool
     }
 }
 
-/// Whether no journal is open on a disk from whose front so many bytes were read, which are these: fewer than the least header
-/// has, or a gate that isn't open.
+/// Whether no journal is open on a disk from whose front so many bytes were read, which are these:
+/// fewer than the least header has, or a gate that isn't open.
 pub fn is_absent(bytes: &[u8; 65], count: usize) -> bool
     ensures { result ≡ (nat_lt count least_header || not (get_or bytes.now 0 0 == 1)) }
 {

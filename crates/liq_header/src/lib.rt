@@ -1,5 +1,6 @@
-//! The header of a journal, of either version: its bytes, read and written, and its digest; and the bytes and the digest of
-//! a record. Headers of both versions are read, and version 2 alone is written. Nothing here calls a device.
+//! The header of a journal, of either version: its bytes, read and written, and its digest; and the
+//! bytes and the digest of a record. Headers of both versions are read, and version 2 alone is
+//! written. Nothing here calls a device.
 #![tactic(auto)]
 
 mod digests;

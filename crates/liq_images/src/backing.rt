@@ -20,8 +20,10 @@ pub fn is_backed(image: &Image) -> bool
 
 /// What is due to all troves before any rounding, in collateral and in debt, over 10^18.
 fn dues_of_troves(rows: &[TroveRow], sum_coll: u128, sum_debt: u128) -> (u128, u128)
-    ensures coll { result.0 ≡ capped (sum_by (coll_due sum_coll) (values_of (map trove_row rows.now))) }
-    ensures debt { result.1 ≡ capped (sum_by (debt_due sum_debt) (values_of (map trove_row rows.now))) }
+    ensures coll { result.0
+        ≡ capped (sum_by (coll_due sum_coll) (values_of (map trove_row rows.now))) }
+    ensures debt { result.1
+        ≡ capped (sum_by (debt_due sum_debt) (values_of (map trove_row rows.now))) }
 {
     let mut coll = 0_u128;
     let mut debt = 0_u128;

@@ -9,7 +9,8 @@ use liq_types::amounts::{
     RECORDS_MOST,
 };
 
-/// Rule 1: whether price, minutes, base rate, generation, records, limit and collateral inside lie within their bounds.
+/// Rule 1: whether price, minutes, base rate, generation, records, limit and collateral inside lie
+/// within their bounds.
 pub fn has_ranges(image: &Image, records: u64) -> bool
     ensures { result ≡ has_ranges image.now records }
 {

@@ -11,8 +11,9 @@ use liq_rows::{
 };
 use liq_types::Image;
 
-/// The number of the first rule, from 1, that an image breaks beside so many records of its generation, of which a
-/// checkpoint has none. `None` is a sound image, where its tables are in form.
+/// The number of the first rule, from 1, that an image breaks beside so many records of its
+/// generation, of which a checkpoint has none. `None` is a sound image, where its tables are in
+/// form.
 pub fn first_unsound(image: &Image, records: u64) -> Option<u8>
     ensures { result ≡ first_unsound image.now records }
 {

@@ -30,13 +30,16 @@ pub write_leaves_shut : {D : Type 0} (at : D → DiskAt) (old new : D) (place n 
     → 1 ≤ place → Elapses at old new → Follows (Torn place n) (LeftNow at old) (LeftNow at new)
     → ((image : List ℕ) → LeftNow at old image → IsShut image) → LeavesOnly at old new IsShut
 write_leaves_shut at old new place n behind time follows shut =
-    call at old new IsShut time shut (λ image left. let from = follows image left in shut_stays place n from.0 image behind (shut from.0 from.1) from.2)
+    call at old new IsShut time shut (λ image left. let from = follows image left
+    in shut_stays place n from.0 image behind (shut from.0 from.1) from.2)
 
 -- a write behind a front
-over_front : (front back bytes : List ℕ) (at : ℕ) → length front ≡ at → overwritten (front ++ back) at bytes ≡ front ++ bytes ++ drop (length bytes) back
+over_front : (front back bytes : List ℕ) (at : ℕ) → length front ≡ at → overwritten (front ++ back) at bytes
+    ≡ front ++ bytes ++ drop (length bytes) back
 over_front front back bytes at size =
     let a : take at (front ++ back) ≡ front = take_at front back at size in
-    let b : drop (at + length bytes) (front ++ back) ≡ drop (length bytes) back = sym (drop-drop (length bytes) at (front ++ back)) ∙ ap (drop (length bytes)) (drop_at front back at size) in
+    let b : drop (at + length bytes) (front ++ back) ≡ drop (length bytes) back =
+    sym (drop-drop (length bytes) at (front ++ back)) ∙ ap (drop (length bytes)) (drop_at front back at size) in
     (λ i. a i ++ bytes ++ b i)
 
 -- a header that is written, of a version that meets what it has to
@@ -58,7 +61,8 @@ module _ (layout : Layout) (version : IsVersion layout) (generation : ℕ) (chec
       omega (arith, version.named)
 
   length-header : 1 + length header ≡ header_size layout
-  length-header = let e = length-append fields (header_digest fields checkpoint) in let d = length-header_digest fields checkpoint in let f = length-fields in omega arith
+  length-header = let e = length-append fields (header_digest fields checkpoint)
+      in let d = length-header_digest fields checkpoint in let f = length-fields in omega arith
 
   abbrev rest_of : List ℕ → List ℕ
   rest_of held = drop 1 (drop size (drop (length header) (drop 1 held)))
@@ -69,14 +73,22 @@ module _ (layout : Layout) (version : IsVersion layout) (generation : ℕ) (chec
   length-front : length front ≡ header_size layout + size
   length-front = let a = length-append ((0 ∷ []) ++ header) checkpoint in let h = length-header in omega arith
 
-  filled_is : (held : List ℕ) → IsShut held → filled layout generation checkpoint held ≡ front ++ (0 ∷ []) ++ rest_of held
+  filled_is : (held : List ℕ) → IsShut held → filled layout generation checkpoint held ≡ front ++ (0 ∷ [])
+      ++ rest_of held
   filled_is held shut =
-      let parts : held ≡ (0 ∷ []) ++ drop 1 held = sym (take-append-drop 1 held) ∙ ap (λ (l : List ℕ). l ++ drop 1 held) shut in
+      let parts : held ≡ (0 ∷ []) ++ drop 1 held = sym (take-append-drop 1 held)
+      ∙ ap (λ (l : List ℕ). l ++ drop 1 held) shut in
       let h = length-header in
-      let one : overwritten held 1 header ≡ ((0 ∷ []) ++ header) ++ drop (length header) (drop 1 held) = ap (λ (l : List ℕ). overwritten l 1 header) parts ∙ over_front (0 ∷ []) (drop 1 held) header 1 refl in
-      let two : overwritten (overwritten held 1 header) (header_size layout) checkpoint ≡ front ++ drop size (drop (length header) (drop 1 held)) =
-      ap (λ (l : List ℕ). overwritten l (header_size layout) checkpoint) one ∙ over_front ((0 ∷ []) ++ header) (drop (length header) (drop 1 held)) checkpoint (header_size layout) (omega arith) in
-      ap (λ (l : List ℕ). overwritten l (header_size layout + size) (0 ∷ [])) two ∙ over_front front (drop size (drop (length header) (drop 1 held))) (0 ∷ []) (header_size layout + size) length-front
+      let one : overwritten held 1 header ≡ ((0 ∷ []) ++ header) ++ drop (length header) (drop 1 held) =
+      ap (λ (l : List ℕ). overwritten l 1 header) parts ∙ over_front (0 ∷ []) (drop 1 held) header 1 refl in
+      let two : overwritten (overwritten held 1 header) (header_size layout) checkpoint
+      ≡ front ++ drop size (drop (length header) (drop 1 held)) =
+      ap (λ (l : List ℕ). overwritten l (header_size layout) checkpoint) one
+      ∙ over_front ((0 ∷ []) ++ header) (drop (length header) (drop 1 held)) checkpoint (header_size layout)
+      (omega arith) in
+      ap (λ (l : List ℕ). overwritten l (header_size layout + size) (0 ∷ [])) two
+      ∙ over_front front (drop size (drop (length header) (drop 1 held))) (0 ∷ []) (header_size layout + size)
+      length-front
 
   abbrev digest : List ℕ
   digest = header_digest fields checkpoint
@@ -85,23 +97,28 @@ module _ (layout : Layout) (version : IsVersion layout) (generation : ℕ) (chec
   abbrev created : List ℕ → List ℕ
   created rest = 1 ∷ (fields ++ (digest ++ (checkpoint ++ (0 ∷ rest))))
 
-  created_is : (held : List ℕ) → IsShut held → opened 0 (filled layout generation checkpoint held) ≡ created (rest_of held)
+  created_is : (held : List ℕ) → IsShut held → opened 0 (filled layout generation checkpoint held)
+      ≡ created (rest_of held)
   created_is held shut =
       ap (opened 0) (filled_is held shut)
-      ∙ ap (λ (l : List ℕ). 1 ∷ l) (append_assoc (header ++ checkpoint) (0 ∷ []) (rest_of held) ∙ append_assoc header checkpoint (0 ∷ rest_of held) ∙ append_assoc fields digest (checkpoint ++ (0 ∷ rest_of held)))
+      ∙ ap (λ (l : List ℕ). 1 ∷ l) (append_assoc (header ++ checkpoint) (0 ∷ []) (rest_of held)
+      ∙ append_assoc header checkpoint (0 ∷ rest_of held)
+      ∙ append_assoc fields digest (checkpoint ++ (0 ∷ rest_of held)))
 
   module _ (small : generation < 2 ^ 64) (small_size : size < 2 ^ 64) (rest : List ℕ) where
     abbrev behind : List ℕ
     behind = digest ++ (checkpoint ++ (0 ∷ rest))
 
-    fields_there : drop 1 (created rest) ≡ layout.name ++ (big_bytes 8 generation ++ (big_bytes 8 size ++ (layout.own ++ behind)))
+    fields_there : drop 1 (created rest) ≡ layout.name ++ (big_bytes 8 generation ++ (big_bytes 8 size
+        ++ (layout.own ++ behind)))
     fields_there =
         append_assoc (layout.name ++ big_bytes 8 generation ++ big_bytes 8 size) layout.own behind
         ∙ append_assoc (layout.name ++ big_bytes 8 generation) (big_bytes 8 size) (layout.own ++ behind)
         ∙ append_assoc layout.name (big_bytes 8 generation) (big_bytes 8 size ++ (layout.own ++ behind))
 
     behind_name : drop 9 (created rest) ≡ big_bytes 8 generation ++ (big_bytes 8 size ++ (layout.own ++ behind))
-    behind_name = sym (drop-drop 8 1 (created rest)) ∙ ap (drop 8) fields_there ∙ drop_at layout.name (big_bytes 8 generation ++ (big_bytes 8 size ++ (layout.own ++ behind))) 8 version.named
+    behind_name = sym (drop-drop 8 1 (created rest)) ∙ ap (drop 8) fields_there
+        ∙ drop_at layout.name (big_bytes 8 generation ++ (big_bytes 8 size ++ (layout.own ++ behind))) 8 version.named
 
     behind_generation : drop 17 (created rest) ≡ big_bytes 8 size ++ (layout.own ++ behind)
     behind_generation = sym (drop-drop 8 9 (created rest)) ∙ ap (drop 8) behind_name
@@ -110,22 +127,28 @@ module _ (layout : Layout) (version : IsVersion layout) (generation : ℕ) (chec
     behind_size = sym (drop-drop 8 17 (created rest)) ∙ ap (drop 8) behind_generation
 
     behind_fields : drop (1 + fields_size layout) (created rest) ≡ behind
-    behind_fields = sym (drop-drop (fields_size layout) 1 (created rest)) ∙ drop_at fields behind (fields_size layout) length-fields
+    behind_fields = sym (drop-drop (fields_size layout) 1 (created rest))
+        ∙ drop_at fields behind (fields_size layout) length-fields
 
     behind_header : drop (header_size layout) (created rest) ≡ checkpoint ++ (0 ∷ rest)
     behind_header =
-        (let e : header_size layout ≡ 1 + fields_size layout + 32 = omega arith in ap (λ (n : ℕ). drop n (created rest)) e)
-        ∙ sym (drop-drop 32 (1 + fields_size layout) (created rest)) ∙ ap (drop 32) behind_fields ∙ drop_at digest (checkpoint ++ (0 ∷ rest)) 32 (length-header_digest fields checkpoint)
+        (let e : header_size layout ≡ 1 + fields_size layout + 32 = omega arith
+        in ap (λ (n : ℕ). drop n (created rest)) e)
+        ∙ sym (drop-drop 32 (1 + fields_size layout) (created rest)) ∙ ap (drop 32) behind_fields
+        ∙ drop_at digest (checkpoint ++ (0 ∷ rest)) 32 (length-header_digest fields checkpoint)
 
     behind_checkpoint : drop (header_size layout + size) (created rest) ≡ 0 ∷ rest
-    behind_checkpoint = sym (drop-drop size (header_size layout) (created rest)) ∙ ap (drop size) behind_header ∙ drop_at checkpoint (0 ∷ rest) size refl
+    behind_checkpoint = sym (drop-drop size (header_size layout) (created rest)) ∙ ap (drop size) behind_header
+        ∙ drop_at checkpoint (0 ∷ rest) size refl
 
     reads_name : name_on (created rest) ≡ layout.name
-    reads_name = ap (take 8) fields_there ∙ take_at layout.name (big_bytes 8 generation ++ (big_bytes 8 size ++ (layout.own ++ behind))) 8 version.named
+    reads_name = ap (take 8) fields_there
+        ∙ take_at layout.name (big_bytes 8 generation ++ (big_bytes 8 size ++ (layout.own ++ behind))) 8 version.named
 
     reads_generation : generation_on (created rest) ≡ generation
     unfolding number_at
-    reads_generation = ap (big_number 8) behind_name ∙ big_number-reads_back 8 generation (big_bytes 8 size ++ (layout.own ++ behind)) small
+    reads_generation = ap (big_number 8) behind_name ∙ big_number-reads_back 8 generation (big_bytes 8 size
+        ++ (layout.own ++ behind)) small
 
     reads_size : size_on (created rest) ≡ size
     unfolding number_at
@@ -138,18 +161,22 @@ module _ (layout : Layout) (version : IsVersion layout) (generation : ℕ) (chec
     reads_fields = take_at fields behind (fields_size layout) length-fields
 
     reads_stored : stored_on layout (created rest) ≡ digest
-    reads_stored = ap (take 32) behind_fields ∙ take_at digest (checkpoint ++ (0 ∷ rest)) 32 (length-header_digest fields checkpoint)
+    reads_stored = ap (take 32) behind_fields ∙ take_at digest (checkpoint ++ (0 ∷ rest)) 32
+        (length-header_digest fields checkpoint)
 
     reads_checkpoint : checkpoint_on layout (created rest) ≡ checkpoint
-    reads_checkpoint = ap (λ (n : ℕ). piece (header_size layout) n (created rest)) reads_size ∙ ap (take size) behind_header ∙ take_at checkpoint (0 ∷ rest) size refl
+    reads_checkpoint = ap (λ (n : ℕ). piece (header_size layout) n (created rest)) reads_size
+        ∙ ap (take size) behind_header ∙ take_at checkpoint (0 ∷ rest) size refl
 
     long : header_size layout + size < length (created rest)
-    long = let e = ap length behind_checkpoint in let d = length-drop (header_size layout + size) (created rest) in omega arith
+    long = let e = ap length behind_checkpoint in let d = length-drop (header_size layout + size) (created rest)
+        in omega arith
 
     starts : start_on layout (created rest) ≡ header_size layout + size
     starts = ap (λ (n : ℕ). header_size layout + n) reads_size
 
-    created_headed : (odd : Bool) → is_generation odd generation ≡ true → is_size generation size ≡ true → Headed layout odd (created rest) generation checkpoint (header_size layout + size)
+    created_headed : (odd : Bool) → is_generation odd generation ≡ true → is_size generation size ≡ true
+        → Headed layout odd (created rest) generation checkpoint (header_size layout + size)
     created_headed odd fits fits_size = record {
       layout_is = ap layout_named reads_name ∙ version.by_name;
       gate = (let l = long in grind (arith, nat_tests));
@@ -162,9 +189,11 @@ module _ (layout : Layout) (version : IsVersion layout) (generation : ℕ) (chec
             (
               equal (own_on layout (created rest)) layout.own reads_own,
               (
-                not_short (created rest) (start_on layout (created rest)) (let s = starts in let l = long in omega arith),
+                not_short (created rest) (start_on layout (created rest)) (let s = starts in let l = long
+                    in omega arith),
                 (
-                  equal (stored_on layout (created rest)) (digest_on layout (created rest)) (reads_stored ∙ (λ i. header_digest (sym reads_fields i) (sym reads_checkpoint i))),
+                  equal (stored_on layout (created rest)) (digest_on layout (created rest)) (reads_stored
+                      ∙ (λ i. header_digest (sym reads_fields i) (sym reads_checkpoint i))),
                   tt,
                 ),
               ),
@@ -185,13 +214,18 @@ module _ (layout : Layout) (version : IsVersion layout) (generation : ℕ) (chec
         not_short l n le = grind (arith, nat_tests)
 
     no_records : records most_records (drop (header_size layout + size) (created rest)) ≡ []
-    no_records = ap (records most_records) behind_checkpoint ∙ records_none most_records (0 ∷ rest) (isnt_open (0 ∷ rest) (λ is. absurd (cc (is))))
+    no_records = ap (records most_records) behind_checkpoint
+        ∙ records_none most_records (0 ∷ rest) (isnt_open (0 ∷ rest) (λ is. absurd (cc (is))))
 
     shut_behind : get_or (created rest) (header_size layout + size) 0 ≡ 0
-    shut_behind = (let z : header_size layout + size ≡ header_size layout + size + 0 = omega arith in ap (λ (n : ℕ). get_or (created rest) n 0) z) ∙ sym (get_or-drop (header_size layout + size) (created rest) 0 0) ∙ ap (λ (l : List ℕ). get_or l 0 0) behind_checkpoint
+    shut_behind = (let z : header_size layout + size ≡ header_size layout + size + 0 = omega arith
+        in ap (λ (n : ℕ). get_or (created rest) n 0) z) ∙ sym (get_or-drop (header_size layout + size) (created rest) 0 0)
+        ∙ ap (λ (l : List ℕ). get_or l 0 0) behind_checkpoint
 
 -- what was filled stands once its gate is opened
-module _ (generation : ℕ) (checkpoint : List ℕ) (small : generation < 2 ^ 64) (small_size : length checkpoint < 2 ^ 64) (odd : Bool) (fits : is_generation odd generation ≡ true) (fits_size : is_size generation (length checkpoint) ≡ true) where
+module _ (generation : ℕ) (checkpoint : List ℕ) (small : generation < 2 ^ 64) (small_size : length checkpoint
+    < 2 ^ 64) (odd : Bool) (fits : is_generation odd generation ≡ true) (fits_size :
+    is_size generation (length checkpoint) ≡ true) where
   abbrev new : Written
   new = beginning generation checkpoint
 
@@ -200,13 +234,23 @@ module _ (generation : ℕ) (checkpoint : List ℕ) (small : generation < 2 ^ 64
       let e : end_of new ≡ start_of new = omega arith in
       let l = long version_2 is_version_2 generation checkpoint small small_size rest in
       record {
-        found = found_behind_it version_2 odd (created version_2 is_version_2 generation checkpoint rest) generation checkpoint (start_of new) (created_headed version_2 is_version_2 generation checkpoint small small_size rest odd fits fits_size)
-            ∙ ap (found_records generation LIM checkpoint 1 (start_of new)) (no_records version_2 is_version_2 generation checkpoint small small_size rest);
-        ended = record { there = omega arith; is = ap (λ (n : ℕ). get_or (created version_2 is_version_2 generation checkpoint rest) n 0) e ∙ shut_behind version_2 is_version_2 generation checkpoint small small_size rest };
+        found = found_behind_it version_2 odd (created version_2 is_version_2 generation checkpoint rest) generation
+            checkpoint (start_of new) (created_headed version_2 is_version_2 generation checkpoint small small_size rest
+            odd fits fits_size)
+            ∙ ap (found_records generation LIM checkpoint 1 (start_of new))
+            (no_records version_2 is_version_2 generation checkpoint small small_size rest);
+        ended = record {
+          there = omega arith;
+          is = ap (λ (n : ℕ). get_or (created version_2 is_version_2 generation checkpoint rest) n 0) e
+              ∙ shut_behind version_2 is_version_2 generation checkpoint small small_size rest;
+        };
       }
 
-  pub filled_stands : (held : List ℕ) → IsShut held → Stands odd (opened 0 (filled version_2 generation checkpoint held)) new
-  filled_stands held shut = subst (λ (l : List ℕ). Stands odd l new) (sym (created_is version_2 is_version_2 generation checkpoint held shut)) (created_stands (rest_of version_2 is_version_2 generation checkpoint held))
+  pub filled_stands : (held : List ℕ) → IsShut held
+      → Stands odd (opened 0 (filled version_2 generation checkpoint held)) new
+  filled_stands held shut = subst (λ (l : List ℕ). Stands odd l new)
+      (sym (created_is version_2 is_version_2 generation checkpoint held shut))
+      (created_stands (rest_of version_2 is_version_2 generation checkpoint held))
 
 -- what a creation leaves, part by part
 module _ (odd : Bool) (held : List ℕ) (w : Written) where
@@ -224,8 +268,10 @@ module _ (odd : Bool) (held : List ℕ) (w : Written) where
       first_zero [] is = refl
       first_zero (x ∷ l) is = cc
 
-  pub of_opening : (before image : List ℕ) → Stands odd (opened 0 before) w → Torn 0 1 before image → CreateLeaves odd held w image
-  of_opening before image stands torn = inr (inr (subst (λ (l : List ℕ). Stands odd (1 ∷ l) w) (sym torn.behind) stands))
+  pub of_opening : (before image : List ℕ) → Stands odd (opened 0 before) w → Torn 0 1 before image
+      → CreateLeaves odd held w image
+  of_opening before image stands torn =
+      inr (inr (subst (λ (l : List ℕ). Stands odd (1 ∷ l) w) (sym torn.behind) stands))
 
 -- a shut gate at place 0
 pub gate_shut : (told : Option (List ℕ)) → IfSome told (HasGate 0) → IfSome told IsShut
@@ -241,8 +287,11 @@ pub some_is : (o : Option (List ℕ)) (x : List ℕ) → o ≡ Some x → IsSome
 some_is o x is = let s : IsSome (Some x) = search rules in subst (λ (p : Option (List ℕ)). IsSome p) (sym is) s
 
 -- how long a disk is after a write
-pub long_after : (o new : Option (List ℕ)) (at n : ℕ) (bytes : List ℕ) → new ≡ option_map (λ held. overwritten held at bytes) o → IfSome o (λ held. at ≤ length held) → n ≡ at + length bytes → IfSome new (λ held. n ≤ length held)
-long_after None new at n bytes is inside so = subst (λ (o : Option (List ℕ)). IfSome o (λ held. n ≤ length held)) (sym is) tt
+pub long_after : (o new : Option (List ℕ)) (at n : ℕ) (bytes : List ℕ)
+    → new ≡ option_map (λ held. overwritten held at bytes) o → IfSome o (λ held. at ≤ length held)
+    → n ≡ at + length bytes → IfSome new (λ held. n ≤ length held)
+long_after None new at n bytes is inside so = subst (λ (o : Option (List ℕ)). IfSome o (λ held. n ≤ length held))
+    (sym is) tt
 long_after (Some held) new at n bytes is inside so =
     let long : n ≤ length (overwritten held at bytes) = simp (length-append, length-take, length-drop) (omega arith) in
     subst (λ (o : Option (List ℕ)). IfSome o (λ l. n ≤ length l)) (sym is) long
@@ -255,18 +304,26 @@ module _ (layout : Layout) (generation : ℕ) (checkpoint : List ℕ) where
   abbrev gate_put : List ℕ → List ℕ
   gate_put held = overwritten held (header_size layout + length checkpoint) (0 ∷ [])
 
-  put_all : (header_2 : List ℕ) (o : Option (List ℕ)) → header_2 ≡ header_of layout generation checkpoint → option_map gate_put (option_map checkpoint_put (option_map (λ held. overwritten held 1 header_2) o)) ≡ option_map (filled layout generation checkpoint) o
+  put_all : (header_2 : List ℕ) (o : Option (List ℕ)) → header_2 ≡ header_of layout generation checkpoint
+      → option_map gate_put (option_map checkpoint_put (option_map (λ held. overwritten held 1 header_2) o))
+      ≡ option_map (filled layout generation checkpoint) o
   put_all header_2 None is = refl
   put_all header_2 (Some held) is = ap (λ (h : List ℕ). Some (gate_put (checkpoint_put (overwritten held 1 h)))) is
 
-  pub filled_told : (header_2 : List ℕ) (o a b d : Option (List ℕ)) → header_2 ≡ header_of layout generation checkpoint → a ≡ option_map (λ held. overwritten held 1 header_2) o → b ≡ option_map checkpoint_put a → d ≡ option_map gate_put b → d ≡ option_map (filled layout generation checkpoint) o
-  filled_told header_2 o a b d is ia ib id = id ∙ ap (option_map gate_put) (ib ∙ ap (option_map checkpoint_put) ia) ∙ put_all header_2 o is
+  pub filled_told : (header_2 : List ℕ) (o a b d : Option (List ℕ)) → header_2 ≡ header_of layout generation checkpoint
+      → a ≡ option_map (λ held. overwritten held 1 header_2) o → b ≡ option_map checkpoint_put a
+      → d ≡ option_map gate_put b → d ≡ option_map (filled layout generation checkpoint) o
+  filled_told header_2 o a b d is ia ib id = id ∙ ap (option_map gate_put) (ib ∙ ap (option_map checkpoint_put) ia)
+      ∙ put_all header_2 o is
 
 module _ {D : Type 0} (at : D → DiskAt) where
-  pub shut_on : (old mid new : D) → LeavesOnly at old mid IsShut → (((image : List ℕ) → LeftNow at mid image → IsShut image) → LeavesOnly at mid new IsShut) → LeavesOnly at old new IsShut
+  pub shut_on : (old mid new : D) → LeavesOnly at old mid IsShut → (((image : List ℕ) → LeftNow at mid image
+      → IsShut image) → LeavesOnly at mid new IsShut) → LeavesOnly at old new IsShut
   shut_on old mid new first second = chained at old mid new IsShut first (second (at_last at old mid IsShut first))
 
-  pub only_shut : (disk : D) (told : Option (List ℕ)) → IfSome told IsShut → IfSome told (λ after. Only after (LeftNow at disk)) → IsSome told → (image : List ℕ) → LeftNow at disk image → IsShut image
+  pub only_shut : (disk : D) (told : Option (List ℕ)) → IfSome told IsShut
+      → IfSome told (λ after. Only after (LeftNow at disk)) → IsSome told → (image : List ℕ) → LeftNow at disk image
+      → IsShut image
   only_shut disk None shut only is image left = absurd (search rules)
   only_shut disk (Some held) shut only is image left = subst IsShut (sym (only image left)) shut
 
@@ -276,31 +333,61 @@ module _ {D : Type 0} (at : D → DiskAt) where
     Leaves = CreateLeaves (is_odd generation) held (beginning generation checkpoint)
 
     pub after_shut : LeavesOnly at old mid (SettleLeaves 0 held) → LeavesOnly at old mid Leaves
-    after_shut first = weaker at old mid (SettleLeaves 0 held) Leaves first (of_shutting (is_odd generation) held (beginning generation checkpoint))
+    after_shut first = weaker at old mid (SettleLeaves 0 held) Leaves first (of_shutting (is_odd generation) held
+        (beginning generation checkpoint))
 
-    pub after_fill : LeavesOnly at old mid (SettleLeaves 0 held) → LeavesOnly at mid full IsShut → LeavesOnly at old full Leaves
-    after_fill first second = chained at old mid full Leaves (after_shut first) (weaker at mid full IsShut Leaves second (of_filling (is_odd generation) held (beginning generation checkpoint)))
+    pub after_fill : LeavesOnly at old mid (SettleLeaves 0 held) → LeavesOnly at mid full IsShut
+        → LeavesOnly at old full Leaves
+    after_fill first second = chained at old mid full Leaves (after_shut first) (weaker at mid full IsShut Leaves second
+        (of_filling (is_odd generation) held (beginning generation checkpoint)))
 
-    module _ (small : generation < 2 ^ 64) (small_size : length checkpoint < 2 ^ 64) (fits : is_generation (is_odd generation) generation ≡ true) (fits_size : is_size generation (length checkpoint) ≡ true) (shut : IfSome (at mid).seen IsShut) (is : IsSome (at mid).seen) (written : (at full).seen ≡ option_map (filled version_2 generation checkpoint) (at mid).seen) where
+    module _ (small : generation < 2 ^ 64) (small_size : length checkpoint
+        < 2 ^ 64) (fits : is_generation (is_odd generation) generation ≡ true) (fits_size :
+        is_size generation (length checkpoint) ≡ true) (shut : IfSome (at mid).seen IsShut) (is : IsSome (at mid).seen)
+        (written : (at full).seen ≡ option_map (filled version_2 generation checkpoint) (at mid).seen) where
       pub full_is : (s : List ℕ) × (IsShut s × ((at full).seen ≡ Some (filled version_2 generation checkpoint s)))
       full_is =
-          let s = some_of (at mid).seen is in
-          (s.0, (subst (λ (o : Option (List ℕ)). IfSome o IsShut) s.1 shut, written ∙ ap (option_map (filled version_2 generation checkpoint)) s.1))
+          let s = some_of (at mid).seen is in (
+            s.0,
+            (
+              subst (λ (o : Option (List ℕ)). IfSome o IsShut) s.1 shut,
+              written
+                  ∙ ap (option_map (filled version_2 generation checkpoint)) s.1,
+            ),
+          )
 
-      pub stands_then : (s : List ℕ) → IsShut s → Stands (is_odd generation) (opened 0 (filled version_2 generation checkpoint s)) (beginning generation checkpoint)
-      stands_then s shut_s = filled_stands generation checkpoint small small_size (is_odd generation) fits fits_size s shut_s
+      pub stands_then : (s : List ℕ) → IsShut s
+          → Stands (is_odd generation) (opened 0 (filled version_2 generation checkpoint s))
+          (beginning generation checkpoint)
+      stands_then s shut_s = filled_stands generation checkpoint small small_size (is_odd generation) fits fits_size
+          s shut_s
 
-      pub after_open : LeavesOnly at old full Leaves → IfSome (at full).seen (λ after. Only after (LeftNow at full)) → ((f : List ℕ) → (at full).seen ≡ Some f → Only f (LeftNow at full) → LeavesOnly at full new (Torn 0 1 f)) → LeavesOnly at old new Leaves
+      pub after_open : LeavesOnly at old full Leaves → IfSome (at full).seen (λ after. Only after (LeftNow at full))
+          → ((f : List ℕ) → (at full).seen ≡ Some f → Only f (LeftNow at full) → LeavesOnly at full new (Torn 0 1 f))
+          → LeavesOnly at old new Leaves
       after_open first durable third =
           let f = full_is in
           let told = f.1.1 in
           let only = subst (λ (o : Option (List ℕ)). IfSome o (λ after. Only after (LeftNow at full))) told durable in
-          chained at old full new Leaves first (weaker at full new (Torn 0 1 (filled version_2 generation checkpoint f.0)) Leaves (third (filled version_2 generation checkpoint f.0) told only)
-          (λ image torn. of_opening (is_odd generation) held (beginning generation checkpoint) (filled version_2 generation checkpoint f.0) image (stands_then f.0 f.1.0) torn))
+          chained at old full new Leaves first (weaker at full new
+          (Torn 0 1 (filled version_2 generation checkpoint f.0)) Leaves
+          (third (filled version_2 generation checkpoint f.0) told only)
+          (λ image torn. of_opening (is_odd generation) held (beginning generation checkpoint)
+          (filled version_2 generation checkpoint f.0) image (stands_then f.0 f.1.0) torn))
 
-      pub made : (at new).seen ≡ option_map (λ l. overwritten l 0 (1 ∷ [])) (at full).seen → (after : List ℕ) × ((at new).seen ≡ Some after) × Stands (is_odd generation) after (beginning generation checkpoint)
-      made gate = let f = full_is in (opened 0 (filled version_2 generation checkpoint f.0), gate ∙ ap (option_map (λ (l : List ℕ). overwritten l 0 (1 ∷ []))) f.1.1, stands_then f.0 f.1.0)
+      pub made : (at new).seen ≡ option_map (λ l. overwritten l 0 (1 ∷ [])) (at full).seen → (after : List ℕ)
+          × ((at new).seen ≡ Some after) × Stands (is_odd generation) after (beginning generation checkpoint)
+      made gate = let f = full_is in (
+        opened 0 (filled version_2 generation checkpoint f.0),
+        gate
+            ∙ ap (option_map (λ (l : List ℕ). overwritten l 0 (1 ∷ []))) f.1.1,
+        stands_then f.0 f.1.0,
+      )
 
   -- what is read at the end is what a crash may leave then
-  pub reads_then : (old new : D) (generation : ℕ) (checkpoint : List ℕ) → ((held : List ℕ) → (at new).seen ≡ Some held → LeftNow at new held) → CrashOfCreate at old new generation checkpoint → ReadsOfCreate at old new generation checkpoint
-  reads_then old new generation checkpoint stays crash held after told only told_after = at_last at old new (CreateLeaves (is_odd generation) held (beginning generation checkpoint)) (crash held told only) after (stays after told_after)
+  pub reads_then : (old new : D) (generation : ℕ) (checkpoint : List ℕ) → ((held : List ℕ) → (at new).seen ≡ Some held
+      → LeftNow at new held) → CrashOfCreate at old new generation checkpoint
+      → ReadsOfCreate at old new generation checkpoint
+  reads_then old new generation checkpoint stays crash held after told only told_after =
+      at_last at old new (CreateLeaves (is_odd generation) held (beginning generation checkpoint))
+      (crash held told only) after (stays after told_after)

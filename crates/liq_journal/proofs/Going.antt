@@ -8,14 +8,19 @@ use Rattle.liq_outside.proofs.Moments.{joined, unmoved}
 use Rattle.liq_journal.specs.Called.{Called, Lasts}
 
 -- what it tells is there as before
-pub telling_on : (first mid last : Option (List ℕ)) → (IsSome mid ↔ IsSome first) → (IsSome last ↔ IsSome mid) → (IsSome last ↔ IsSome first)
+pub telling_on : (first mid last : Option (List ℕ)) → (IsSome mid ↔ IsSome first) → (IsSome last ↔ IsSome mid)
+    → (IsSome last ↔ IsSome first)
 telling_on first mid last one two = ((λ is. one.0 (two.0 is)), (λ is. two.1 (one.1 is)))
 
 pub telling_same : (first last : Option (List ℕ)) → last ≡ first → (IsSome last ↔ IsSome first)
-telling_same first last same = subst (λ (o : Option (List ℕ)). IsSome o ↔ IsSome first) (sym same) ((λ is. is), (λ is. is))
+telling_same first last same = subst (λ (o : Option (List ℕ)). IsSome o ↔ IsSome first) (sym same) (
+  (λ is. is),
+  (λ is. is),
+)
 
 -- the count before the calls that met no fault is that before the last
-pub cause_on : {T E : Type 0} (first mid last : ℕ) (result : Result T E) → mid ≡ first → HasCause mid last result → HasCause first last result
+pub cause_on : {T E : Type 0} (first mid last : ℕ) (result : Result T E) → mid ≡ first → HasCause mid last result
+    → HasCause first last result
 cause_on first mid last result same cause = subst (λ (n : ℕ). HasCause n last result) same cause
 
 -- before the first call
@@ -23,7 +28,8 @@ pub lasts_none : {D : Type 0} (at : D → DiskAt) (disk : D) → Lasts at disk d
 lasts_none at disk = record { telling = ((λ is. is), (λ is. is)); time = unmoved at disk }
 
 -- calls behind others
-pub lasts_on : {D : Type 0} (at : D → DiskAt) (first mid last : D) → Lasts at first mid → Lasts at mid last → Lasts at first last
+pub lasts_on : {D : Type 0} (at : D → DiskAt) (first mid last : D) → Lasts at first mid → Lasts at mid last
+    → Lasts at first last
 lasts_on at first mid last one two = record {
   telling = telling_on (at first).seen (at mid).seen (at last).seen one.telling two.telling;
   time = joined at first mid last one.time two.time;
@@ -38,7 +44,8 @@ lasts_looked at old new looked = record {
 
 -- calls behind some that met no fault
 pub called_on : {D S T E F : Type 0} (at : D → DiskAt) (first mid last : D) (before : Result S F) (result : Result T E)
-    → Called at first mid before → (at mid).faults ≡ (at first).faults → Called at mid last result → Called at first last result
+    → Called at first mid before → (at mid).faults ≡ (at first).faults → Called at mid last result
+    → Called at first last result
 called_on at first mid last before result one same two = record {
   lasts = lasts_on at first mid last one.lasts two.lasts;
   cause = cause_on (at first).faults (at mid).faults (at last).faults result same two.cause;
@@ -46,7 +53,8 @@ called_on at first mid last before result one same two = record {
 
 -- calls behind some that only looked
 pub called_behind : {D T E : Type 0} (at : D → DiskAt) (first mid last : D) (result : Result T E)
-    → Looked at first mid → (at mid).faults ≡ (at first).faults → Called at mid last result → Called at first last result
+    → Looked at first mid → (at mid).faults ≡ (at first).faults → Called at mid last result
+    → Called at first last result
 called_behind at first mid last result looked same calls = record {
   lasts = lasts_on at first mid last (lasts_looked at first mid looked) calls.lasts;
   cause = cause_on (at first).faults (at mid).faults (at last).faults result same calls.cause;

@@ -16,7 +16,8 @@ either : (b : Bool) → (if b then b else not b) ≡ true
 either true = refl
 either false = refl
 
-tests : (odd : Bool) (generation : ℕ) → is_generation odd generation ≡ true → (nat_le 1 generation ≡ true) × ((if odd then is_odd generation else not (is_odd generation)) ≡ true)
+tests : (odd : Bool) (generation : ℕ) → is_generation odd generation ≡ true → (nat_le 1 generation ≡ true)
+    × ((if odd then is_odd generation else not (is_odd generation)) ≡ true)
 tests odd generation is = both (nat_le 1 generation) (if odd then is_odd generation else not (is_odd generation)) is
 
 -- it is the disk's
@@ -31,7 +32,8 @@ from_one odd generation is = let first = (tests odd generation is).0 in grind (a
 pub of_its_parity : (generation : ℕ) → 1 ≤ generation → is_generation (is_odd generation) generation ≡ true
 of_its_parity generation first =
     let some : nat_le 1 generation ≡ true = grind (arith, nat_tests) in
-    ap (λ (b : Bool). b && (if is_odd generation then is_odd generation else not (is_odd generation))) some ∙ either (is_odd generation)
+    ap (λ (b : Bool). b && (if is_odd generation then is_odd generation else not (is_odd generation))) some
+    ∙ either (is_odd generation)
 
 -- the next one is the other disk's
 pub next_parity : (generation : ℕ) → is_odd (generation + 1) ≡ not (is_odd generation)

@@ -8,7 +8,8 @@ abbrev pub follows : Option ℕ → ℕ → Bool
 follows None key = true
 follows (Some last) key = nat_lt last key
 
--- a place comes behind the one before it; its epoch is told where that is below the last one already
+-- a place comes behind the one before it; its epoch is told where that is below the last one
+-- already
 abbrev pub epoch_follows : Option Place → ℕ → Bool
 epoch_follows None epoch = true
 epoch_follows (Some last) epoch = nat_le last.0 epoch

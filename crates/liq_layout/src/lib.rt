@@ -1,5 +1,5 @@
-//! Rules for the bytes of a checkpoint, by which they are read and written: the name that they begin with, which key may stand
-//! behind the one before it, and where a fault is told.
+//! Rules for the bytes of a checkpoint, by which they are read and written: the name that they
+//! begin with, which key may stand behind the one before it, and where a fault is told.
 #![tactic(auto)]
 
 mod keys;

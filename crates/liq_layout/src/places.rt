@@ -9,8 +9,8 @@ pub fn place_of(end: u64, last: &[u8]) -> u64
     end.saturating_sub(last.len() as u64)
 }
 
-/// Where a wallet is told in which there is nothing: at its LUSD, behind the 4 bytes of its account and the 8 of its
-/// collateral. `row` are the last bytes, from the first of its row on.
+/// Where a wallet is told in which there is nothing: at its LUSD, behind the 4 bytes of its account
+/// and the 8 of its collateral. `row` are the last bytes, from the first of its row on.
 pub fn place_of_empty_wallet(end: u64, row: &[u8]) -> u64
     ensures { result ≡ end - (length row.now - 12) }
 {

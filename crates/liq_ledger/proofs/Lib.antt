@@ -1,1 +1,1 @@
-pub mod Exchanging
+mod Exchanging

@@ -12,7 +12,8 @@ funding had coll = where_above (had.coll + coll) LIM AmountLimit ∷ []
 
 -- a payment out of this wallet
 abbrev pub charging : Wallet → ℕ → ℕ → List Rule
-charging had coll lusd = where_short coll had.coll ShortCollateral ∷ where_short lusd had.lusd ShortTokens ∷ []
+charging had coll lusd = where_short coll had.coll ShortCollateral
+    ∷ where_short lusd had.lusd ShortTokens ∷ []
 
 -- the first of the refusals, if any comes
 abbrev pub ruled : List Rule → Result (Unit {0}) Refusal

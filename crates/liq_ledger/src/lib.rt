@@ -1,4 +1,5 @@
-//! What accounts have outside troves and deposits: wallets, what owners may claim, and what each pool holds.
+//! What accounts have outside troves and deposits: wallets, what owners may claim, and what each
+//! pool holds.
 #![tactic(auto)]
 
 mod pools;

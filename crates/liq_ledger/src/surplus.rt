@@ -15,7 +15,8 @@ use liq_types::{NoMemory, SurplusRow, SurplusRows};
 use std::alloc::Global;
 use std::marker::Model;
 
-/// The collateral (gwei) that each owner of a closed trove may claim. Only [`Surplus::reserve`] takes memory.
+/// The collateral (gwei) that each owner of a closed trove may claim. Only [`Surplus::reserve`]
+/// takes memory.
 #[derive(Drop)]
 pub struct Surplus {
     table: Reserved<u64>,
@@ -68,8 +69,8 @@ impl Surplus {
         self.table.count()
     }
 
-    /// Makes room for these accounts. What may be claimed stays, also where there is no memory, and so does all room that
-    /// there was. Where there was room for all none is wanted.
+    /// Makes room for these accounts. What may be claimed stays, also where there is no memory, and
+    /// so does all room that there was. Where there was room for all none is wanted.
     pub fn reserve(&mut self, accounts: &[u32]) -> Result<(), NoMemory>
         ensures rows { self.new.rows ≡ self.old.rows }
         ensures room { OnOk result (All (HasRoom self.new) accounts.now) }
@@ -93,7 +94,8 @@ impl Surplus {
         self.table.write(account, sum);
     }
 
-    /// Takes all that an account may claim, 0 where there is nothing. What the others may claim stays.
+    /// Takes all that an account may claim, 0 where there is nothing. What the others may claim
+    /// stays.
     pub fn take(&mut self, account: u32) -> u64
         ensures claimed { result ≡ surplus_in self.old.rows account }
         ensures taken { self.new.rows ≡ surplus_taken_in self.old.rows account }

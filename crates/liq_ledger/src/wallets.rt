@@ -71,8 +71,8 @@ impl Wallets {
         self.table.count()
     }
 
-    /// Makes room for an account's wallet. What the accounts have stays, and so does all room that there was. Where there is
-    /// no memory nothing changes; where there was room none is wanted.
+    /// Makes room for an account's wallet. What the accounts have stays, and so does all room that
+    /// there was. Where there is no memory nothing changes; where there was room none is wanted.
     pub fn reserve(&mut self, account: u32) -> Result<(), NoMemory>
         ensures rows { self.new.rows ≡ self.old.rows }
         ensures room { OnOk result (HasRoom self.new account) }
@@ -83,7 +83,8 @@ impl Wallets {
         self.table.reserve(account)
     }
 
-    /// What an account has: collateral in gwei, LUSD in micro-LUSD. Where it has anything there is room for its wallet.
+    /// What an account has: collateral in gwei, LUSD in micro-LUSD. Where it has anything there is
+    /// room for its wallet.
     pub fn read(&self, account: u32) -> Wallet
         ensures wallet { result ≡ wallet_in self.now.rows account }
         ensures room { is_used_wallet result ≡ true → HasRoom self.now account }
@@ -95,8 +96,8 @@ impl Wallets {
         }
     }
 
-    /// Collateral (gwei) into an account's wallet. `AmountLimit` comes where the wallet would have more than may be inside,
-    /// and nothing changes then. The other wallets stay.
+    /// Collateral (gwei) into an account's wallet. `AmountLimit` comes where the wallet would have
+    /// more than may be inside, and nothing changes then. The other wallets stay.
     pub fn fund(&mut self, account: u32, coll: u64) -> Result<(), Refusal>
         requires { HasRoom self.old account }
         ensures refused { result ≡ ruled (funding (wallet_in self.old.rows account) coll) }
@@ -114,8 +115,8 @@ impl Wallets {
         Ok(())
     }
 
-    /// Collateral (gwei) out of an account's wallet. `ShortCollateral` comes where there is less, and nothing changes then.
-    /// The other wallets stay.
+    /// Collateral (gwei) out of an account's wallet. `ShortCollateral` comes where there is less,
+    /// and nothing changes then. The other wallets stay.
     pub fn take(&mut self, account: u32, coll: u64) -> Result<(), Refusal>
         ensures refused { result ≡ ruled (charging (wallet_in self.old.rows account) coll 0) }
         ensures moved { OnOk result (self.new.rows ≡ charged_in self.old.rows account coll 0) }
@@ -125,13 +126,16 @@ impl Wallets {
         self.charge(account, coll, 0)
     }
 
-    /// LUSD (micro-LUSD) from one account's wallet into another's, which may be the same. `ShortTokens` comes where the first
-    /// has less, and nothing changes then. The other wallets stay.
+    /// LUSD (micro-LUSD) from one account's wallet into another's, which may be the same.
+    /// `ShortTokens` comes where the first has less, and nothing changes then. The other wallets
+    /// stay.
     pub fn send(&mut self, from: u32, to: u32, lusd: u64) -> Result<(), Refusal>
         requires room { HasRoom self.old to }
-        requires limit { lusd ≤ (wallet_in self.old.rows from).lusd → (wallet_in (charged_in self.old.rows from 0 lusd) to).lusd + lusd ≤ LIM }
+        requires limit { lusd ≤ (wallet_in self.old.rows from).lusd
+            → (wallet_in (charged_in self.old.rows from 0 lusd) to).lusd + lusd ≤ LIM }
         ensures refused { result ≡ ruled (charging (wallet_in self.old.rows from) 0 lusd) }
-        ensures moved { OnOk result (self.new.rows ≡ credited_in (charged_in self.old.rows from 0 lusd) to 0 lusd) }
+        ensures moved { OnOk result (self.new.rows
+            ≡ credited_in (charged_in self.old.rows from 0 lusd) to 0 lusd) }
         ensures room { self.new.room ≡ self.old.room }
         ensures err { OnErr result (self.new ≡ self.old) }
     {
@@ -142,8 +146,9 @@ impl Wallets {
         Ok(())
     }
 
-    /// Collateral (gwei) and LUSD (micro-LUSD) out of an account's wallet. `ShortCollateral` and then `ShortTokens` come where
-    /// there is less, and nothing changes then. The other wallets stay.
+    /// Collateral (gwei) and LUSD (micro-LUSD) out of an account's wallet. `ShortCollateral` and
+    /// then `ShortTokens` come where there is less, and nothing changes then. The other wallets
+    /// stay.
     pub fn charge(&mut self, account: u32, coll: u64, lusd: u64) -> Result<(), Refusal>
         ensures refused { result ≡ ruled (charging (wallet_in self.old.rows account) coll lusd) }
         ensures moved { OnOk result (self.new.rows ≡ charged_in self.old.rows account coll lusd) }
@@ -187,14 +192,18 @@ impl Wallets {
         self.table.write(account, sum);
     }
 
-    /// What an owner gives leaves the wallet, and then what the owner gets comes into it. The other wallets stay.
+    /// What an owner gives leaves the wallet, and then what the owner gets comes into it. The other
+    /// wallets stay.
     pub fn exchange(&mut self, account: u32, given: &Wallet, got: &Wallet)
         requires room { HasRoom self.old account }
         requires coll { given.now.coll ≤ (wallet_in self.old.rows account).coll }
         requires lusd { given.now.lusd ≤ (wallet_in self.old.rows account).lusd }
-        requires coll_limit { (wallet_in (charged_in self.old.rows account given.now.coll given.now.lusd) account).coll + got.now.coll ≤ LIM }
-        requires lusd_limit { (wallet_in (charged_in self.old.rows account given.now.coll given.now.lusd) account).lusd + got.now.lusd ≤ LIM }
-        ensures rows { self.new.rows ≡ credited_in (charged_in self.old.rows account given.now.coll given.now.lusd) account got.now.coll got.now.lusd }
+        requires coll_limit { (wallet_in (charged_in self.old.rows account given.now.coll
+            given.now.lusd) account).coll + got.now.coll ≤ LIM }
+        requires lusd_limit { (wallet_in (charged_in self.old.rows account given.now.coll
+            given.now.lusd) account).lusd + got.now.lusd ≤ LIM }
+        ensures rows { self.new.rows ≡ credited_in (charged_in self.old.rows account given.now.coll
+            given.now.lusd) account got.now.coll got.now.lusd }
         ensures room { self.new.room ≡ self.old.room }
     {
         let had = self.read(account);

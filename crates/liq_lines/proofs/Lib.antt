@@ -2,8 +2,8 @@ pub mod Bytes
 pub mod Few
 pub mod LinesRead
 pub mod Parts
-pub mod ReadOn
+mod ReadOn
 pub mod Readings
 pub mod Sayings
-pub mod Taken
+mod Taken
 pub mod Told

@@ -9,7 +9,8 @@ use Rattle.liq_lines.specs.Lines.{lines_in}
 use Rattle.liq_lines.specs.Saying.{IsBadLine, StopsAfter}
 
 module _ {X : Type 0} (Says : List ℕ → X → Type 0) where
-  bad_among : (front : List (List ℕ)) (line : List ℕ) (more : List (List ℕ)) (said : List X) → AllZip Says (front ++ line ∷ more) said → IsBadLine Says line → ⊥
+  bad_among : (front : List (List ℕ)) (line : List ℕ) (more : List (List ℕ)) (said : List X)
+      → AllZip Says (front ++ line ∷ more) said → IsBadLine Says line → ⊥
   bad_among [] line more [] h bad = h
   bad_among [] line more (x ∷ said) h bad = bad x h.0
   bad_among (l ∷ front) line more [] h bad = h
@@ -22,10 +23,13 @@ module _ {X : Type 0} (Says : List ℕ → X → Type 0) where
   same_length (l ∷ lines) (x ∷ said) h = ap suc (same_length lines said h.1)
 
   -- reading them stops at a fault or for want of memory alone
-  pub stops_outside : (stop : Stop) (bytes : List ℕ) (left : Option (List ℕ)) (said all : List X) → AllZip Says (lines_in bytes) all → length all ≤ LINES_MOST → StopsAfter Says stop bytes left said → (stop ≡ ReadFault) ⊎ (stop ≡ NoMemory)
+  pub stops_outside : (stop : Stop) (bytes : List ℕ) (left : Option (List ℕ)) (said all : List X)
+      → AllZip Says (lines_in bytes) all → length all ≤ LINES_MOST → StopsAfter Says stop bytes left said
+      → (stop ≡ ReadFault) ⊎ (stop ≡ NoMemory)
   stops_outside (BadLine at) bytes left said all spelled few e =
       let bad = e.2 in
-      absurd (bad_among bad.2.1.0 bad.0 bad.2.0 all (subst (λ (ls : List (List ℕ)). AllZip Says ls all) bad.2.1.2 spelled) bad.1)
+      absurd (bad_among bad.2.1.0 bad.0 bad.2.0 all (subst (λ (ls : List (List ℕ)). AllZip Says ls all) bad.2.1.2
+      spelled) bad.1)
   stops_outside ReadFault bytes left said all spelled few e = inl refl
   stops_outside NoMemory bytes left said all spelled few e = inr refl
   stops_outside Limit bytes left said all spelled few e =

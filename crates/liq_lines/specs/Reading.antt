@@ -8,7 +8,8 @@ use Rattle.liq_lines.specs.declared.reader.LineEnd.TheVariants.{Ended, Unended, 
 use Rattle.liq_lines.specs.Lines.{IsWithinLine}
 use Rattle.liq_types.specs.declared.amounts.TheConstants.{LINE_BYTES}
 
--- what is unread: bytes that were taken already, and those that the source has left, where it tells them
+-- what is unread: bytes that were taken already, and those that the source has left, where it tells
+-- them
 abbrev pub unread : List ℕ → Option (List ℕ) → Option (List ℕ)
 unread taken left = option_map (λ bytes. taken ++ bytes) left
 
@@ -21,12 +22,14 @@ abbrev pub ReadsAtMost : ℕ → Option (List ℕ) → Option (List ℕ) → Typ
 ReadsAtMost most before after =
     (bytes : List ℕ) × (before ≡ option_map (λ rest. bytes ++ rest) after) × (length bytes ≤ most)
 
--- the most that is taken of a source for so many lines: each with its line end, and what one read asks for
+-- the most that is taken of a source for so many lines: each with its line end, and what one read
+-- asks for
 abbrev pub taken_most : ℕ → ℕ
 taken_most lines = lines * (LINE_BYTES + 1) + READ_BYTES
 
 -- at most n lines were read, and no more is held than one read asks for
-pub record ReadsFew (before : Option (List ℕ)) (n : ℕ) (reader : List ℕ) (left : Option (List ℕ)) : Type 0 where
+pub record ReadsFew (before : Option (List ℕ)) (n : ℕ) (reader : List ℕ) (left : Option (List ℕ)) :
+    Type 0 where
   pub few : ReadsAtMost (n * (LINE_BYTES + 1)) before (unread reader left)
   pub held : length reader ≤ READ_BYTES
 
@@ -37,7 +40,8 @@ IsOver unread = IfSome unread (λ bytes. bytes ≡ [])
 -- a line was read, or what stood in its place
 abbrev pub ReadsLine :
     Option (List ℕ) → List ℕ → Option (List ℕ) → List ℕ → Result LineEnd Failed → Type 0
-ReadsLine before line after taken (Ok Ended) = Reads before (line ++ 10 ∷ []) after × IsWithinLine line
+ReadsLine before line after taken (Ok Ended) = Reads before (line ++ 10 ∷ []) after
+    × IsWithinLine line
 ReadsLine before line after taken (Ok Unended) =
     Reads before line after × IsWithinLine line × (line ≢ []) × IsOver after
 ReadsLine before line after taken (Ok Nothing) = Reads before [] after × IsOver after

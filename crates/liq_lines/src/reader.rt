@@ -1,4 +1,5 @@
-//! Reading lines from chunks that the source gives: at once where one stands whole in a chunk, else byte by byte.
+//! Reading lines from chunks that the source gives: at once where one stands whole in a chunk, else
+//! byte by byte.
 
 ghost use Rattle.std.specs.Prelude.{◌≡◌, ◌≤◌, ◌<◌, ◌+◌, ◌∷◌, [], Contains, IsTrue, IsFalse, ◌++◌, take, drop, OnOk, OnErr, IfOk, IsOk, Ok, Some, None, List, ℕ, IfSome, MatchOption, length, vec_len, vec_capacity};
 ghost use Rattle.liq_outside.specs.Faults.{HasCause};
@@ -46,7 +47,8 @@ impl Model for Reader {
 
     ghost view = { λ r. slice_range r.chunk.items r.start r.end };
 
-    ghost invariant = { λ r. (r.start ≤ r.end) × (r.end ≤ vec_len r.chunk) × (vec_len r.chunk ≡ READ_BYTES) };
+    ghost invariant = { λ r. (r.start ≤ r.end) × (r.end ≤ vec_len r.chunk)
+        × (vec_len r.chunk ≡ READ_BYTES) };
 }
 
 impl Reader {
@@ -120,8 +122,9 @@ impl Reader {
         Ok(self.pop())
     }
 
-    /// Reads the next line into `line`, without its line end. A line that is too long is read no further than one byte
-    /// past its limit. Of the source no more is taken than this and what one read asks for: the rest is held.
+    /// Reads the next line into `line`, without its line end. A line that is too long is read no
+    /// further than one byte past its limit. Of the source no more is taken than this and what one
+    /// read asks for: the rest is held.
     pub fn next_line<S: Source>(
         &mut self,
         input: &mut S,
@@ -146,7 +149,8 @@ impl Reader {
         self.read_line(input, line)
     }
 
-    /// How long the next line is, where it was taken from the source to its line end and is no longer than a line may be.
+    /// How long the next line is, where it was taken from the source to its line end and is no
+    /// longer than a line may be.
     pub fn whole_line(&self) -> Option<usize>
         ensures line { IfSome result (λ size. IsWholeLine size self.now) }
         ensures none { result ≡ None → (size : ℕ) → IsWholeLine size self.now → ⊥ }
@@ -174,7 +178,8 @@ impl Reader {
         self.start += size + 1;
     }
 
-    /// Takes the next line whole, where it was taken from the source to its line end and is no longer than a line may be.
+    /// Takes the next line whole, where it was taken from the source to its line end and is no
+    /// longer than a line may be.
     fn take_line(&mut self, line: &mut Vec<u8>) -> bool
         requires { LINE_BYTES ≤ vec_capacity line.old }
         ensures taken { IsTrue result

@@ -29,15 +29,22 @@ pub record IsDue (b left : Books) (total : ℕ) (made : One) : Type 0 where
   pub coll : left.active_coll + left.default_coll + made.spread_coll ≤ b.active_coll + b.default_coll
   pub debt : left.active_debt + left.default_debt + made.spread_debt ≤ b.active_debt + b.default_debt
 
-within_limits : (a c : ℕ) → a ≤ SUM_MOST → c ≤ SUM_MOST → cond (nat_lt SUM_MOST a) (Some (SumLimit a)) (cond (nat_lt SUM_MOST c) (Some (SumLimit c)) None) ≡ None
+within_limits : (a c : ℕ) → a ≤ SUM_MOST → c ≤ SUM_MOST
+    → cond (nat_lt SUM_MOST a) (Some (SumLimit a)) (cond (nat_lt SUM_MOST c) (Some (SumLimit c)) None) ≡ None
 within_limits a c h k =
     let first : nat_lt SUM_MOST a ≡ false = grind (arith, nat_tests, h) in
     let second : nat_lt SUM_MOST c ≡ false = grind (arith, nat_tests, k) in
-    ap (λ t. cond t (Some (SumLimit a)) (cond (nat_lt SUM_MOST c) (Some (SumLimit c)) None)) first ∙ ap (λ t. cond t (Some (SumLimit c)) None) second
+    ap (λ t. cond t (Some (SumLimit a)) (cond (nat_lt SUM_MOST c) (Some (SumLimit c)) None)) first
+    ∙ ap (λ t. cond t (Some (SumLimit c)) None) second
 
-due_of : (b : Books) (total : ℕ) (v : Victim) (p : IsPlannedOn b total v) (t : Trove) → at b.troves v.account ≡ Some t → one_by p.market b.sums t total ≡ Ok v.one → IsDue b (lifted_row b v.account (Some t)) total v.one
+due_of : (b : Books) (total : ℕ) (v : Victim) (p : IsPlannedOn b total v) (t : Trove) → at b.troves v.account ≡ Some t
+    → one_by p.market b.sums t total ≡ Ok v.one → IsDue b (lifted_row b v.account (Some t)) total v.one
 due_of b total v p t there made =
-    let m : Market = record p.market { total_coll = b.active_coll + b.default_coll; total_debt = b.active_debt + b.default_debt } in
+    let m : Market = record p.market {
+      total_coll = b.active_coll + b.default_coll;
+      total_debt = b.active_debt
+          + b.default_debt;
+    } in
     let h : Hold m b = record { stands = p.stands; coll = refl; debt = refl } in
     let q = planned p.market b.sums t total v.one made in
     let w = trove_within b v.account t there p.stands in
@@ -45,10 +52,12 @@ due_of b total v p t there made =
     record {
       served = q.served;
       worth = q.worth p.price;
-      stands = subst (λ (o : Option Trove). TrovesStand (lifted_row b v.account o)) there (lift_stands b v.account p.stands);
+      stands = subst (λ (o : Option Trove). TrovesStand (lifted_row b v.account o)) there
+          (lift_stands b v.account p.stands);
       some = others_stake m b total v.account t there h (omega (arith, q.several, p.counted));
       fits =
-          within_limits (sum_after b.sums.coll v.one.spread_coll (stakes_in (without b.troves v.account))) (sum_after b.sums.debt v.one.spread_debt (stakes_in (without b.troves v.account)))
+          within_limits (sum_after b.sums.coll v.one.spread_coll (stakes_in (without b.troves v.account)))
+          (sum_after b.sums.debt v.one.spread_debt (stakes_in (without b.troves v.account)))
           (subst (λ n. sum_after b.sums.coll v.one.spread_coll n ≤ SUM_MOST) (sym stakes) q.coll_fits)
           (subst (λ n. sum_after b.sums.debt v.one.spread_debt n ≤ SUM_MOST) (sym stakes) q.debt_fits);
       coll = omega (arith, w.coll, w.pending_coll, q.coll);
@@ -56,17 +65,22 @@ due_of b total v p t there made =
     }
 
 -- beside the books that are left when its trove leaves
-pub due : (b left : Books) (total : ℕ) (v : Victim) → IsPlannedOn b total v → left ≡ lift b v.account → IsDue b left total v.one
+pub due : (b left : Books) (total : ℕ) (v : Victim) → IsPlannedOn b total v → left ≡ lift b v.account
+    → IsDue b left total v.one
 due b left total v p is = by (at b.troves v.account) refl p.planned where
-  by : (o : Option Trove) → at b.troves v.account ≡ o → one_in p.market b.sums total v.account o ≡ Ok v.one → IsDue b left total v.one
+  by : (o : Option Trove) → at b.troves v.account ≡ o → one_in p.market b.sums total v.account o ≡ Ok v.one
+      → IsDue b left total v.one
   by None there made = cc
   by (Some t) there made =
-      subst (λ (x : Books). IsDue b x total v.one) (sym (is ∙ ap (lifted_row b v.account) there)) (due_of b total v p t there made)
+      subst (λ (x : Books). IsDue b x total v.one) (sym (is ∙ ap (lifted_row b v.account) there))
+      (due_of b total v p t there made)
 
 -- ---- where the pool takes over something, and where nothing
 
 pub taken : {X : Type 0} (debt : ℕ) (stays after : X) → 0 < debt → cond (debt == 0) stays after ≡ after
-taken debt stays after some = let e : (debt == 0) ≡ false = grind (arith, nat_tests, some) in ap (λ b. cond b stays after) e
+taken debt stays after some = let e : (debt == 0) ≡ false = grind (arith, nat_tests, some)
+    in ap (λ b. cond b stays after) e
 
 pub not_taken : {X : Type 0} (debt : ℕ) (stays after : X) → debt ≤ 0 → cond (debt == 0) stays after ≡ stays
-not_taken debt stays after none = let e : (debt == 0) ≡ true = grind (arith, nat_tests, none) in ap (λ b. cond b stays after) e
+not_taken debt stays after none = let e : (debt == 0) ≡ true = grind (arith, nat_tests, none)
+    in ap (λ b. cond b stays after) e

@@ -30,46 +30,88 @@ module _ (s : State) (v : Victim) (liquidator : ℕ) where
   pooled o b = cond b (left o) (offset (left o) v.one.offset_debt v.one.offset_coll)
 
   abbrev after : Option TroveEntry → Bool → State
-  after o b = rewarded (surplus_added (snapped (redistributed (pooled o b) v.one.spread_coll v.one.spread_debt)) v.account v.one.surplus) liquidator v.one.gas
+  after o b = rewarded (surplus_added (snapped (redistributed (pooled o b) v.one.spread_coll v.one.spread_debt))
+      v.account v.one.surplus) liquidator v.one.gas
 
   same_pool : (o : Option TroveEntry) → pool_words (left o) ≡ pool_words s
   same_pool None = refl
   same_pool (Some t) = refl
 
-  words_by : (o : Option TroveEntry) (b : Bool) → AreFinished s.start → IsPoolCovered s → pool_words (after o b) ≡ cond b (pool_words s) (words_after (pool_words s) v.one.offset_debt v.one.offset_coll)
+  words_by : (o : Option TroveEntry) (b : Bool) → AreFinished s.start → IsPoolCovered s
+      → pool_words (after o b) ≡ cond b (pool_words s) (words_after (pool_words s) v.one.offset_debt v.one.offset_coll)
   words_by o true f c = same_pool o
   words_by None false f c = offset-words s f c v.one.offset_debt v.one.offset_coll
   words_by (Some t) false f c = offset-words (left (Some t)) f c v.one.offset_debt v.one.offset_coll
 
-  sums_by : (o : Option TroveEntry) (b : Bool) → finished_sums (after o b).start (after o b).offsets ≡ finished_with (finished_sums s.start s.offsets) (cond b None (finished_by (pool_words s) v.one.offset_debt v.one.offset_coll))
+  sums_by : (o : Option TroveEntry) (b : Bool) → finished_sums (after o b).start (after o b).offsets
+      ≡ finished_with (finished_sums s.start s.offsets)
+      (cond b None (finished_by (pool_words s) v.one.offset_debt v.one.offset_coll))
   sums_by None true = refl
   sums_by (Some t) true = refl
   sums_by None false = offset-finishes s v.one.offset_debt v.one.offset_coll
   sums_by (Some t) false = offset-finishes (left (Some t)) v.one.offset_debt v.one.offset_coll
 
   beside_by : (o : Option TroveEntry) (b : Bool) → AreLeft s (after o b) liquidator v
-  beside_by None true = record { wallets = refl; reserve = refl; surplus = refl; surplus_rows = refl; fee_coll = refl; fee_lusd = refl; deposits = refl }
-  beside_by None false = record { wallets = refl; reserve = refl; surplus = refl; surplus_rows = refl; fee_coll = refl; fee_lusd = refl; deposits = refl }
-  beside_by (Some t) true = record { wallets = refl; reserve = refl; surplus = refl; surplus_rows = refl; fee_coll = refl; fee_lusd = refl; deposits = refl }
-  beside_by (Some t) false = record { wallets = refl; reserve = refl; surplus = refl; surplus_rows = refl; fee_coll = refl; fee_lusd = refl; deposits = refl }
+  beside_by None true = record {
+    wallets = refl;
+    reserve = refl;
+    surplus = refl;
+    surplus_rows = refl;
+    fee_coll = refl;
+    fee_lusd = refl;
+    deposits = refl;
+  }
+  beside_by None false = record {
+    wallets = refl;
+    reserve = refl;
+    surplus = refl;
+    surplus_rows = refl;
+    fee_coll = refl;
+    fee_lusd = refl;
+    deposits = refl;
+  }
+  beside_by (Some t) true = record {
+    wallets = refl;
+    reserve = refl;
+    surplus = refl;
+    surplus_rows = refl;
+    fee_coll = refl;
+    fee_lusd = refl;
+    deposits = refl;
+  }
+  beside_by (Some t) false = record {
+    wallets = refl;
+    reserve = refl;
+    surplus = refl;
+    surplus_rows = refl;
+    fee_coll = refl;
+    fee_lusd = refl;
+    deposits = refl;
+  }
 
   pub left_beside : AreLeft s (liquidated s liquidator v) liquidator v
   left_beside = beside_by (at s.troves v.account) (v.one.offset_debt == 0)
 
-  pub left_books : TrovesAreMarked (length s.redistributions) s.troves → books_of (liquidated s liquidator v) ≡ struck_books (books_of s) v
+  pub left_books : TrovesAreMarked (length s.redistributions) s.troves → books_of (liquidated s liquidator v)
+      ≡ struck_books (books_of s) v
   left_books h = books_struck s v h
 
-  pub left_words : AreFinished s.start → IsPoolCovered s → pool_words (liquidated s liquidator v) ≡ words_left (pool_words s) v.one
+  pub left_words : AreFinished s.start → IsPoolCovered s → pool_words (liquidated s liquidator v)
+      ≡ words_left (pool_words s) v.one
   left_words f c = words_by (at s.troves v.account) (v.one.offset_debt == 0) f c
 
-  pub left_sums : finished_sums (liquidated s liquidator v).start (liquidated s liquidator v).offsets ≡ finished_with (finished_sums s.start s.offsets) (finished_in (pool_words s) v.one)
+  pub left_sums : finished_sums (liquidated s liquidator v).start (liquidated s liquidator v).offsets
+      ≡ finished_with (finished_sums s.start s.offsets) (finished_in (pool_words s) v.one)
   left_sums = sums_by (at s.troves v.account) (v.one.offset_debt == 0)
 
-  rows_by : (o : Option Trove) → at (trove_rows s) v.account ≡ o → one_in (market_of s) (sums_words s) (pool_total s) v.account o ≡ Ok v.one → (struck_books (books_of s) v).troves ≡ without (trove_rows s) v.account
+  rows_by : (o : Option Trove) → at (trove_rows s) v.account ≡ o
+      → one_in (market_of s) (sums_words s) (pool_total s) v.account o ≡ Ok v.one → (struck_books (books_of s) v).troves
+      ≡ without (trove_rows s) v.account
   rows_by None there h = cc
   rows_by (Some t) there h = ap (λ (o : Option Trove). (lifted_row (books_of s) v.account o).troves) there
 
-  pub left_list : TrovesAreMarked (length s.redistributions) s.troves → Ascends (trove_rows s) → one s v.account ≡ Ok v.one → trove_order (liquidated s liquidator v) ≡ without_ranked (trove_order s) v.account
+  pub left_list : TrovesAreMarked (length s.redistributions) s.troves → Ascends (trove_rows s)
+      → one s v.account ≡ Ok v.one → trove_order (liquidated s liquidator v) ≡ without_ranked (trove_order s) v.account
   left_list m a h =
       ap (λ (b : Books). order_by b.troves) (left_books m)
       ∙ ap (λ (t : Table Trove). order_by t) (rows_by (at (trove_rows s) v.account) refl h)

@@ -16,7 +16,9 @@ fits price coll debt h =
     let enough : 110 * debt * 1000000000 ≤ coll * price * 100 = grind (arith, nat_tests, h) in
     div-le_of_le-mul price (omega (arith, enough))
 
-in_table : (normal whole below under : Bool) → cond normal (cond below Plain Kept) (cond whole Redistributed (cond below Plain (cond under Capped Kept))) ≡ Capped → below ≡ false
+in_table : (normal whole below under : Bool)
+    → cond normal (cond below Plain Kept) (cond whole Redistributed (cond below Plain (cond under Capped Kept)))
+    ≡ Capped → below ≡ false
 in_table true whole true under h = cc
 in_table true whole false under h = refl
 in_table false true true under h = cc
@@ -27,7 +29,8 @@ in_table false false false under h = refl
 pub cap_fits : (m : Market) (coll debt : ℕ) → treatment m coll debt ≡ Capped → cap_of m.price debt ≤ coll
 cap_fits m coll debt h =
     fits m.price coll debt
-    (in_table (is_normal m) (is_at_most_whole coll debt m.price) (is_below_percent coll debt m.price MCR) (is_ratio_below coll debt m.total_coll m.total_debt) h)
+    (in_table (is_normal m) (is_at_most_whole coll debt m.price) (is_below_percent coll debt m.price MCR)
+    (is_ratio_below coll debt m.total_coll m.total_debt) h)
 
 -- ---- the sums
 
@@ -53,20 +56,25 @@ add_capped coll cap gas h k = omega arith
 add_spread : (coll gas : ℕ) → gas ≤ coll → gas + 0 + (coll - gas) + 0 ≡ coll
 add_spread coll gas h = omega arith
 
-treated_coll : (t : Treatment) (price coll debt total : ℕ) → is_kept t ≡ false → (t ≡ Capped → cap_of price debt ≤ coll) → one_total_coll (treated t price coll debt total) ≡ coll
+treated_coll : (t : Treatment) (price coll debt total : ℕ) → is_kept t ≡ false → (t ≡ Capped → cap_of price debt ≤ coll)
+    → one_total_coll (treated t price coll debt total) ≡ coll
 treated_coll Plain price coll debt total h k = plain_coll coll debt total
 treated_coll Redistributed price coll debt total h k = add_spread coll (gas_of coll) (gas_within coll)
-treated_coll Capped price coll debt total h k = add_capped coll (cap_of price debt) (gas_of (cap_of price debt)) (gas_within (cap_of price debt)) (k refl)
+treated_coll Capped price coll debt total h k = add_capped coll (cap_of price debt) (gas_of (cap_of price debt))
+    (gas_within (cap_of price debt)) (k refl)
 treated_coll Kept price coll debt total h k = cc
 
-pub parts_coll : (m : Market) (coll debt total : ℕ) → is_kept (treatment m coll debt) ≡ false → one_total_coll (treated (treatment m coll debt) m.price coll debt total) ≡ coll
+pub parts_coll : (m : Market) (coll debt total : ℕ) → is_kept (treatment m coll debt) ≡ false
+    → one_total_coll (treated (treatment m coll debt) m.price coll debt total) ≡ coll
 parts_coll m coll debt total h = treated_coll (treatment m coll debt) m.price coll debt total h (cap_fits m coll debt)
 
-treated_debt : (t : Treatment) (price coll debt total : ℕ) → is_kept t ≡ false → one_total_debt (treated t price coll debt total) ≡ debt
+treated_debt : (t : Treatment) (price coll debt total : ℕ) → is_kept t ≡ false
+    → one_total_debt (treated t price coll debt total) ≡ debt
 treated_debt Plain price coll debt total h = omega arith
 treated_debt Redistributed price coll debt total h = omega arith
 treated_debt Capped price coll debt total h = omega arith
 treated_debt Kept price coll debt total h = cc
 
-pub parts_debt : (m : Market) (coll debt total : ℕ) → is_kept (treatment m coll debt) ≡ false → one_total_debt (treated (treatment m coll debt) m.price coll debt total) ≡ debt
+pub parts_debt : (m : Market) (coll debt total : ℕ) → is_kept (treatment m coll debt) ≡ false
+    → one_total_debt (treated (treatment m coll debt) m.price coll debt total) ≡ debt
 parts_debt m coll debt total h = treated_debt (treatment m coll debt) m.price coll debt total h

@@ -22,14 +22,16 @@ use Rattle.std.proofs.lemmas.Bool.{ltb-false, leb-false}
 
 -- ---- what the pool takes over
 
-served : (kind : Treatment) (price coll debt total : ℕ) → (is_capped kind && nat_lt total debt) ≡ false → (treated kind price coll debt total).offset_debt ≤ total
+served : (kind : Treatment) (price coll debt total : ℕ) → (is_capped kind && nat_lt total debt) ≡ false
+    → (treated kind price coll debt total).offset_debt ≤ total
 served Plain price coll debt total h = omega arith
 served Redistributed price coll debt total h = omega arith
 served Capped price coll debt total h = ltb-false total debt h
 served Kept price coll debt total h = omega arith
 
 -- collateral below 110 percent is at most 11 gwei for each micro-LUSD
-pub below_worth : (coll debt price : ℕ) → PRICE_LEAST ≤ price → is_below_percent coll debt price MCR ≡ true → coll ≤ OFFSET_MOST * debt
+pub below_worth : (coll debt price : ℕ) → PRICE_LEAST ≤ price → is_below_percent coll debt price MCR ≡ true
+    → coll ≤ OFFSET_MOST * debt
 below_worth coll debt price least below =
     let under : worth coll price < asked MCR debt = grind (arith, nat_tests, below) in
     let more : coll * PRICE_LEAST ≤ coll * price = mul-le-mul_left coll least in
@@ -40,7 +42,8 @@ some_debt coll debt price below =
     let under : worth coll price < asked MCR debt = grind (arith, nat_tests, below) in
     omega (arith, under)
 
-pub plain_worth : (coll debt total price : ℕ) → PRICE_LEAST ≤ price → is_below_percent coll debt price MCR ≡ true → (plain coll debt total).offset_coll ≤ OFFSET_MOST * (plain coll debt total).offset_debt
+pub plain_worth : (coll debt total price : ℕ) → PRICE_LEAST ≤ price → is_below_percent coll debt price MCR ≡ true
+    → (plain coll debt total).offset_coll ≤ OFFSET_MOST * (plain coll debt total).offset_debt
 plain_worth coll debt total price least below =
     let offset_debt = min debt total in
     let rest = coll - gas_of coll in
@@ -58,7 +61,8 @@ capped_worth coll debt price least =
     omega (arith, low, more)
 
 -- plain is below 110 percent
-pub plain_below : (n w b r : Bool) → cond n (cond b Plain Kept) (cond w Redistributed (cond b Plain (cond r Capped Kept))) ≡ Plain → b ≡ true
+pub plain_below : (n w b r : Bool)
+    → cond n (cond b Plain Kept) (cond w Redistributed (cond b Plain (cond r Capped Kept))) ≡ Plain → b ≡ true
 plain_below true w true r h = refl
 plain_below true w false r h = cc
 plain_below false true b r h = cc
@@ -66,10 +70,13 @@ plain_below false false true r h = refl
 plain_below false false false true h = cc
 plain_below false false false false h = cc
 
-worth_within : (m : Market) (coll debt total : ℕ) (kind : Treatment) → treatment m coll debt ≡ kind → PRICE_LEAST ≤ m.price → (treated kind m.price coll debt total).offset_coll ≤ OFFSET_MOST * (treated kind m.price coll debt total).offset_debt
+worth_within : (m : Market) (coll debt total : ℕ) (kind : Treatment) → treatment m coll debt ≡ kind
+    → PRICE_LEAST ≤ m.price → (treated kind m.price coll debt total).offset_coll
+    ≤ OFFSET_MOST * (treated kind m.price coll debt total).offset_debt
 worth_within m coll debt total Plain is least =
     plain_worth coll debt total m.price least
-    (plain_below (is_normal m) (is_at_most_whole coll debt m.price) (is_below_percent coll debt m.price MCR) (is_ratio_below coll debt m.total_coll m.total_debt) is)
+    (plain_below (is_normal m) (is_at_most_whole coll debt m.price) (is_below_percent coll debt m.price MCR)
+    (is_ratio_below coll debt m.total_coll m.total_debt) is)
 worth_within m coll debt total Redistributed is least = omega arith
 worth_within m coll debt total Capped is least = capped_worth coll debt m.price least
 worth_within m coll debt total Kept is least = omega arith
@@ -85,12 +92,14 @@ pub record IsPlanned (m : Market) (sums : Sums) (t : Trove) (total : ℕ) (made 
   pub coll_fits : sum_after sums.coll made.spread_coll (sums.stakes - t.stake) ≤ SUM_MOST
   pub debt_fits : sum_after sums.debt made.spread_debt (sums.stakes - t.stake) ≤ SUM_MOST
 
-pub planned : (m : Market) (sums : Sums) (t : Trove) (total : ℕ) (made : One) → one_by m sums t total ≡ Ok made → IsPlanned m sums t total made
+pub planned : (m : Market) (sums : Sums) (t : Trove) (total : ℕ) (made : One) → one_by m sums t total ≡ Ok made
+    → IsPlanned m sums t total made
 planned m sums t total made h =
     let own = entire_by sums t in
     let kind = treatment m own.0 own.1 in
     let others = without_stake sums t in
-    let ok = made_by (first_refusal (one_rules m others own.0 own.1 total)) (treated kind m.price own.0 own.1 total) made h in
+    let ok = made_by (first_refusal (one_rules m others own.0 own.1 total)) (treated kind m.price own.0 own.1 total)
+    made h in
     let rules = all_false (one_rules m others own.0 own.1 total) ok.0 in
     let same = ok.1 in
     record {
@@ -98,7 +107,10 @@ planned m sums t total made h =
       coll = subst (λ (x : One). one_total_coll x ≡ own.0) same (parts_coll m own.0 own.1 total rules.1.0);
       debt = subst (λ (x : One). one_total_debt x ≡ own.1) same (parts_debt m own.0 own.1 total rules.1.0);
       served = subst (λ (x : One). x.offset_debt ≤ total) same (served kind m.price own.0 own.1 total rules.1.1.0);
-      worth = λ least. subst (λ (x : One). x.offset_coll ≤ OFFSET_MOST * x.offset_debt) same (worth_within m own.0 own.1 total kind refl least);
-      coll_fits = ltb-false SUM_MOST _ (subst (λ (x : One). nat_lt SUM_MOST (sum_after sums.coll x.spread_coll (sums.stakes - t.stake)) ≡ false) same rules.1.1.1.0);
-      debt_fits = ltb-false SUM_MOST _ (subst (λ (x : One). nat_lt SUM_MOST (sum_after sums.debt x.spread_debt (sums.stakes - t.stake)) ≡ false) same rules.1.1.1.1.0);
+      worth = λ least. subst (λ (x : One). x.offset_coll ≤ OFFSET_MOST * x.offset_debt) same
+          (worth_within m own.0 own.1 total kind refl least);
+      coll_fits = ltb-false SUM_MOST _ (subst (λ (x : One). nat_lt SUM_MOST (sum_after sums.coll x.spread_coll
+          (sums.stakes - t.stake)) ≡ false) same rules.1.1.1.0);
+      debt_fits = ltb-false SUM_MOST _ (subst (λ (x : One). nat_lt SUM_MOST (sum_after sums.debt x.spread_debt
+          (sums.stakes - t.stake)) ≡ false) same rules.1.1.1.1.0);
     }

@@ -19,23 +19,29 @@ refused : {X Y : Type 0} (o : Option Refusal) (x : X) (y : Y) (e : Refusal) → 
 refused None x y e h = cc
 refused (Some refusal) x y e h = cc
 
-refused_before : {X Y : Type 0} (rules rest : List Rule) (x : X) (y : Y) (e : Refusal) → outcome (first_refusal rules) x ≡ Err e → outcome (first_refusal (rules ++ rest)) y ≡ Err e
+refused_before : {X Y : Type 0} (rules rest : List Rule) (x : X) (y : Y) (e : Refusal) → outcome (first_refusal rules) x
+    ≡ Err e → outcome (first_refusal (rules ++ rest)) y ≡ Err e
 refused_before [] rest x y e h = cc
 refused_before {X} {Y} (rule ∷ rules) rest x y e h = by rule.0 h (refused_before rules rest x y e) where
-  by : (b : Bool) → outcome (cond b (Some rule.1) (first_refusal rules)) x ≡ Err e → (outcome (first_refusal rules) x ≡ Err e → outcome (first_refusal (rules ++ rest)) y ≡ Err e) → outcome (cond b (Some rule.1) (first_refusal (rules ++ rest))) y ≡ Err e
+  by : (b : Bool) → outcome (cond b (Some rule.1) (first_refusal rules)) x ≡ Err e
+      → (outcome (first_refusal rules) x ≡ Err e → outcome (first_refusal (rules ++ rest)) y ≡ Err e)
+      → outcome (cond b (Some rule.1) (first_refusal (rules ++ rest))) y ≡ Err e
   by true k later = refused (Some rule.1) x y e k
   by false k later = later k
 
 passed : (rules rest : List Rule) → first_refusal rules ≡ None → first_refusal (rules ++ rest) ≡ first_refusal rest
 passed [] rest h = refl
 passed (rule ∷ rules) rest h = by rule.0 h (passed rules rest) where
-  by : (b : Bool) → cond b (Some rule.1) (first_refusal rules) ≡ None → (first_refusal rules ≡ None → first_refusal (rules ++ rest) ≡ first_refusal rest) → cond b (Some rule.1) (first_refusal (rules ++ rest)) ≡ first_refusal rest
+  by : (b : Bool) → cond b (Some rule.1) (first_refusal rules) ≡ None → (first_refusal rules ≡ None
+      → first_refusal (rules ++ rest) ≡ first_refusal rest) → cond b (Some rule.1) (first_refusal (rules ++ rest))
+      ≡ first_refusal rest
   by true k later = cc
   by false k later = later k
 
 -- ---- a trove of several, which has these entire amounts
 
-module _ (m : Market) (sums : Sums) (t : Trove) (total : ℕ) (own : ℕ × ℕ) (own_is : own ≡ entire_by sums t) (several : 1 < m.troves) where
+module _ (m : Market) (sums : Sums) (t : Trove) (total : ℕ) (own : ℕ × ℕ) (own_is : own ≡ entire_by sums t) (several : 1
+    < m.troves) where
   abbrev whole : One
   whole = treated (treatment m own.0 own.1) m.price own.0 own.1 total
 
@@ -45,14 +51,17 @@ module _ (m : Market) (sums : Sums) (t : Trove) (total : ℕ) (own : ℕ × ℕ)
   abbrev spreading : One → List Rule
   spreading one = spread_rules others one.spread_coll one.spread_debt
 
-  behind_last : one_by m sums t total ≡ outcome (first_refusal (treated_rules m own.0 own.1 total ++ spreading whole)) whole
+  behind_last : one_by m sums t total ≡ outcome (first_refusal (treated_rules m own.0 own.1 total
+      ++ spreading whole)) whole
   behind_last =
       let e : nat_le m.troves 1 ≡ false = grind (arith, nat_tests, several) in
       ap (λ (o : ℕ × ℕ). one_of m others o.0 o.1 total) (sym own_is)
-      ∙ ap (λ b. outcome (cond b (Some (LastTrove m.troves)) (first_refusal (treated_rules m own.0 own.1 total ++ spreading whole))) whole) e
+      ∙ ap (λ b. outcome (cond b (Some (LastTrove m.troves)) (first_refusal (treated_rules m own.0 own.1 total
+      ++ spreading whole))) whole) e
 
   pub treated_refuses : (e : Refusal) → treated_of m own.0 own.1 total ≡ Err e → one_by m sums t total ≡ Err e
-  treated_refuses e h = behind_last ∙ refused_before (treated_rules m own.0 own.1 total) (spreading whole) whole whole e h
+  treated_refuses e h = behind_last ∙ refused_before (treated_rules m own.0 own.1 total) (spreading whole) whole
+      whole e h
 
   module _ (one : One) (is : treated_of m own.0 own.1 total ≡ Ok one) where
     behind_treated : one_by m sums t total ≡ outcome (first_refusal (spreading one)) one
@@ -68,17 +77,23 @@ module _ (m : Market) (sums : Sums) (t : Trove) (total : ℕ) (own : ℕ × ℕ)
     abbrev debt_after : ℕ
     debt_after = sum_after sums.debt one.spread_debt (sums.stakes - t.stake)
 
-    pub coll_refuses : (e : Refusal) → outcome (first_refusal (sum_limit coll_after ∷ [])) coll_after ≡ Err e → one_by m sums t total ≡ Err e
-    coll_refuses e h = behind_treated ∙ refused_before (sum_limit coll_after ∷ []) (sum_limit debt_after ∷ []) coll_after one e h
+    pub coll_refuses : (e : Refusal) → outcome (first_refusal (sum_limit coll_after ∷ [])) coll_after ≡ Err e
+        → one_by m sums t total ≡ Err e
+    coll_refuses e h = behind_treated ∙ refused_before (sum_limit coll_after ∷ []) (sum_limit debt_after
+        ∷ []) coll_after one e h
 
     module _ (coll : ℕ) (fits : outcome (first_refusal (sum_limit coll_after ∷ [])) coll_after ≡ Ok coll) where
       behind_coll : one_by m sums t total ≡ outcome (first_refusal (sum_limit debt_after ∷ [])) one
       behind_coll =
           let none = made_by (first_refusal (sum_limit coll_after ∷ [])) coll_after coll fits in
-          behind_treated ∙ ap (λ o. outcome o one) (passed (sum_limit coll_after ∷ []) (sum_limit debt_after ∷ []) none.0)
+          behind_treated ∙ ap (λ o. outcome o one) (passed (sum_limit coll_after ∷ []) (sum_limit debt_after
+          ∷ []) none.0)
 
-      pub debt_refuses : (e : Refusal) → outcome (first_refusal (sum_limit debt_after ∷ [])) debt_after ≡ Err e → one_by m sums t total ≡ Err e
+      pub debt_refuses : (e : Refusal) → outcome (first_refusal (sum_limit debt_after ∷ [])) debt_after ≡ Err e
+          → one_by m sums t total ≡ Err e
       debt_refuses e h = behind_coll ∙ refused (first_refusal (sum_limit debt_after ∷ [])) debt_after one e h
 
-      pub allowed : (debt : ℕ) → outcome (first_refusal (sum_limit debt_after ∷ [])) debt_after ≡ Ok debt → one_by m sums t total ≡ Ok one
-      allowed debt h = behind_coll ∙ ap (λ o. outcome o one) (made_by (first_refusal (sum_limit debt_after ∷ [])) debt_after debt h).0
+      pub allowed : (debt : ℕ) → outcome (first_refusal (sum_limit debt_after ∷ [])) debt_after ≡ Ok debt
+          → one_by m sums t total ≡ Ok one
+      allowed debt h = behind_coll
+          ∙ ap (λ o. outcome o one) (made_by (first_refusal (sum_limit debt_after ∷ [])) debt_after debt h).0

@@ -38,12 +38,19 @@ use Rattle.liq_liquidation.proofs.Walking.{Found, found, last_has_row, no_end}
 module _ (s : State) (v : Victim) where
   -- by the trove that leaves, if there is one, and whether the pool takes over nothing
   abbrev left_by : Option TroveEntry → Bool → State
-  left_by o b = cond b (lifted_entry s v.account o) (offset (lifted_entry s v.account o) v.one.offset_debt v.one.offset_coll)
+  left_by o b = cond b (lifted_entry s v.account o) (offset (lifted_entry s v.account o) v.one.offset_debt
+      v.one.offset_coll)
 
   abbrev struck_by : Option TroveEntry → Bool → State
-  struck_by o b = surplus_added (snapped (redistributed (left_by o b) v.one.spread_coll v.one.spread_debt)) v.account v.one.surplus
+  struck_by o b = surplus_added (snapped (redistributed (left_by o b) v.one.spread_coll v.one.spread_debt)) v.account
+      v.one.surplus
 
-  market_by : (o : Option TroveEntry) (b : Bool) → market_of (struck_by o b) ≡ record (market_of s) { total_coll = total_coll (struck_by o b); total_debt = total_debt (struck_by o b); troves = trove_count (struck_by o b) }
+  market_by : (o : Option TroveEntry) (b : Bool) → market_of (struck_by o b)
+      ≡ record (market_of s) {
+        total_coll = total_coll (struck_by o b);
+        total_debt = total_debt (struck_by o b);
+        troves = trove_count (struck_by o b);
+      }
   market_by None true = refl
   market_by None false = refl
   market_by (Some t) true = refl
@@ -53,22 +60,29 @@ module _ (s : State) (v : Victim) where
   total_alike None = refl
   total_alike (Some t) = refl
 
-  total_by : (o : Option TroveEntry) (b : Bool) → (v.one.offset_debt == 0) ≡ b → pool_total (left_by o b) ≡ pool_total s - v.one.offset_debt
-  total_by o true is = let none : v.one.offset_debt ≡ 0 = grind (arith, nat_tests, is) in omega (arith, none, total_alike o)
-  total_by o false is = let law = offset-total (lifted_entry s v.account o) v.one.offset_debt v.one.offset_coll in omega (arith, law, total_alike o)
+  total_by : (o : Option TroveEntry) (b : Bool) → (v.one.offset_debt == 0) ≡ b → pool_total (left_by o b)
+      ≡ pool_total s - v.one.offset_debt
+  total_by o true is = let none : v.one.offset_debt ≡ 0 = grind (arith, nat_tests, is)
+      in omega (arith, none, total_alike o)
+  total_by o false is = let law = offset-total (lifted_entry s v.account o) v.one.offset_debt v.one.offset_coll
+      in omega (arith, law, total_alike o)
 
   books_by : (o : Option TroveEntry) (b : Bool) → books_of (left_by o b) ≡ books_of (lifted_entry s v.account o)
   books_by o true = refl
   books_by o false = refl
 
-  marked_by : (o : Option TroveEntry) (b : Bool) → TrovesAreMarked (length s.redistributions) s.troves → TrovesAreMarked (length (left_by o b).redistributions) (left_by o b).troves
+  marked_by : (o : Option TroveEntry) (b : Bool) → TrovesAreMarked (length s.redistributions) s.troves
+      → TrovesAreMarked (length (left_by o b).redistributions) (left_by o b).troves
   marked_by None true h = h
   marked_by None false h = h
-  marked_by (Some t) true h = all-without (λ (e : TroveEntry). IsMoment (length s.redistributions) e.mark) s.troves v.account h
-  marked_by (Some t) false h = all-without (λ (e : TroveEntry). IsMoment (length s.redistributions) e.mark) s.troves v.account h
+  marked_by (Some t) true h = all-without (λ (e : TroveEntry). IsMoment (length s.redistributions) e.mark) s.troves
+      v.account h
+  marked_by (Some t) false h = all-without (λ (e : TroveEntry). IsMoment (length s.redistributions) e.mark) s.troves
+      v.account h
 
   -- the books after it
-  pub books_struck : TrovesAreMarked (length s.redistributions) s.troves → books_of (struck s v) ≡ struck_books (books_of s) v
+  pub books_struck : TrovesAreMarked (length s.redistributions) s.troves
+      → books_of (struck s v) ≡ struck_books (books_of s) v
   books_struck h =
       let o = at s.troves v.account in
       let b = v.one.offset_debt == 0 in
@@ -77,12 +91,19 @@ module _ (s : State) (v : Victim) where
       ∙ ap (λ (x : Books). snap x) (spread_books pooled v.one.spread_coll v.one.spread_debt (marked_by o b h))
       ∙ ap (λ (x : Books). snap (spread x v.one.spread_coll v.one.spread_debt)) (books_by o b ∙ lift_books s v.account)
 
-  marked_more : TrovesAreMarked (length s.redistributions) s.troves → TrovesAreMarked (length (struck s v).redistributions) (struck s v).troves
+  marked_more : TrovesAreMarked (length s.redistributions) s.troves
+      → TrovesAreMarked (length (struck s v).redistributions) (struck s v).troves
   marked_more h =
       let pooled = left_by (at s.troves v.account) (v.one.offset_debt == 0) in
-      let more = length-more pooled.redistributions (record { coll = v.one.spread_coll; debt = v.one.spread_debt; stakes = stakes_of pooled }) in
-      all-weaken (λ (e : TroveEntry). IsMoment (length pooled.redistributions) e.mark) (λ e. IsMoment (length (struck s v).redistributions) e.mark)
-      (λ e k. moment-more (length pooled.redistributions) (length (struck s v).redistributions) more e.mark k) pooled.troves
+      let more = length-more pooled.redistributions (record {
+        coll = v.one.spread_coll;
+        debt = v.one.spread_debt;
+        stakes = stakes_of pooled;
+      }) in
+      all-weaken (λ (e : TroveEntry). IsMoment (length pooled.redistributions) e.mark)
+      (λ e. IsMoment (length (struck s v).redistributions) e.mark)
+      (λ e k. moment-more (length pooled.redistributions) (length (struck s v).redistributions) more e.mark k)
+      pooled.troves
       (marked_by (at s.troves v.account) (v.one.offset_debt == 0) h)
 
   module _ (sound : TrovesAreSound s) (f : Found (moment_of s) v) where
@@ -96,21 +117,33 @@ module _ (s : State) (v : Victim) where
     counted = sym (map-length (trove_row s) s.troves)
 
     struck_holds : Hold (left_market (market_of s) v.one) (struck_books (books_of s) v)
-    struck_holds = struck_hold (market_of s) (books_of s) (pool_total s) v.account f.trove f.there hold v.one plan counted
+    struck_holds = struck_hold (market_of s) (books_of s) (pool_total s) v.account f.trove f.there hold v.one
+        plan counted
 
     -- and its troves are sound
     pub sound_struck : TrovesAreSound (struck s v)
-    sound_struck = record { troves = subst (λ (x : Books). TrovesStand x) (sym (books_struck sound.marked)) struck_holds.stands; marked = marked_more sound.marked }
+    sound_struck = record {
+      troves = subst (λ (x : Books). TrovesStand x) (sym (books_struck sound.marked))
+          struck_holds.stands;
+      marked = marked_more sound.marked;
+    }
 
     market_struck : market_of (struck s v) ≡ left_market (market_of s) v.one
     market_struck =
         let books = books_struck sound.marked in
-        let coll : total_coll (struck s v) ≡ (left_market (market_of s) v.one).total_coll = ap (λ (x : Books). x.active_coll + x.default_coll) books ∙ struck_holds.coll in
-        let debt : total_debt (struck s v) ≡ (left_market (market_of s) v.one).total_debt = ap (λ (x : Books). x.active_debt + x.default_debt) books ∙ struck_holds.debt in
+        let coll : total_coll (struck s v) ≡ (left_market (market_of s) v.one).total_coll =
+        ap (λ (x : Books). x.active_coll + x.default_coll) books ∙ struck_holds.coll in
+        let debt : total_debt (struck s v) ≡ (left_market (market_of s) v.one).total_debt =
+        ap (λ (x : Books). x.active_debt + x.default_debt) books ∙ struck_holds.debt in
         let rows : trove_count (struck s v) ≡ trove_count s - 1 =
-        sym (map-length (trove_row (struck s v)) (struck s v).troves) ∙ ap (λ (x : Books). length x.troves) books ∙ rows_left (market_of s) (books_of s) (pool_total s) v.account f.trove f.there hold v.one plan counted in
+        sym (map-length (trove_row (struck s v)) (struck s v).troves) ∙ ap (λ (x : Books). length x.troves) books
+        ∙ rows_left (market_of s) (books_of s) (pool_total s) v.account f.trove f.there hold v.one plan counted in
         market_by (at s.troves v.account) (v.one.offset_debt == 0)
-        ∙ ap (λ n. record (market_of s) { total_coll = n; total_debt = total_debt (struck s v); troves = trove_count (struck s v) }) coll
+        ∙ ap (λ n. record (market_of s) {
+          total_coll = n;
+          total_debt = total_debt (struck s v);
+          troves = trove_count (struck s v);
+        }) coll
         ∙ ap (λ n. record (left_market (market_of s) v.one) { total_debt = n; troves = trove_count (struck s v) }) debt
         ∙ ap (λ n. record (left_market (market_of s) v.one) { troves = n }) rows
 
@@ -118,8 +151,10 @@ module _ (s : State) (v : Victim) where
     pub moment_struck : moment_of (struck s v) ≡ moment_after (moment_of s) v
     moment_struck =
         ap (λ (m : Market). moment_with m (books_of (struck s v)) (pool_total (struck s v))) market_struck
-        ∙ ap (λ (x : Books). moment_with (left_market (market_of s) v.one) x (pool_total (struck s v))) (books_struck sound.marked)
-        ∙ ap (moment_with (left_market (market_of s) v.one) (struck_books (books_of s) v)) (total_by (at s.troves v.account) (v.one.offset_debt == 0) refl)
+        ∙ ap (λ (x : Books). moment_with (left_market (market_of s) v.one) x (pool_total (struck s v)))
+        (books_struck sound.marked)
+        ∙ ap (moment_with (left_market (market_of s) v.one) (struck_books (books_of s) v))
+        (total_by (at s.troves v.account) (v.one.offset_debt == 0) refl)
         ∙ sym (after_is (market_of s) (books_of s) (pool_total s) v.account f.trove f.there hold v.one plan counted)
 
 -- ---- the lowest troves
@@ -148,12 +183,16 @@ moment_by more now next = elim next [ Err refusal ↦ [] | Ok v ↦ v ∷ lowest
 
 pub lowest_is : (count : ℕ) (s : State) → TrovesAreSound s → lowest s count ≡ lowest_from (moment_of s) count
 lowest_is zero s h = refl
-lowest_is (suc more) s h = ap (state_by more s) (next_is s) ∙ by (next_at (moment_of s)) refl (λ v k. lowest_is more (struck s v) k) where
-  by : (r : Result Victim Refusal) → next_at (moment_of s) ≡ r → ((v : Victim) → TrovesAreSound (struck s v) → lowest (struck s v) more ≡ lowest_from (moment_of (struck s v)) more) → state_by more s (told r) ≡ moment_by more (moment_of s) r
-  by (Err refusal) is later = refl
-  by (Ok v) is later =
-      let f = found (moment_of s) v is in
-      ap (λ (l : List Victim). v ∷ l) (later v (sound_struck s v h f) ∙ ap (λ (x : Moment). lowest_from x more) (moment_struck s v h f))
+lowest_is (suc more) s h = ap (state_by more s) (next_is s)
+    ∙ by (next_at (moment_of s)) refl (λ v k. lowest_is more (struck s v) k) where
+      by : (r : Result Victim Refusal) → next_at (moment_of s) ≡ r → ((v : Victim) → TrovesAreSound (struck s v)
+          → lowest (struck s v) more ≡ lowest_from (moment_of (struck s v)) more) → state_by more s (told r)
+          ≡ moment_by more (moment_of s) r
+      by (Err refusal) is later = refl
+      by (Ok v) is later =
+          let f = found (moment_of s) v is in
+          ap (λ (l : List Victim). v ∷ l) (later v (sound_struck s v h f)
+          ∙ ap (λ (x : Moment). lowest_from x more) (moment_struck s v h f))
 
 -- ---- what is planned
 
@@ -186,24 +225,41 @@ plan_is s count h = by (last_trove s) refl where
   counted : trove_count s ≡ length (trove_rows s)
   counted = sym (map-length (trove_row s) s.troves)
 
-  made : (account : ℕ) (r : Result One Refusal) → (nat_le (trove_count s) 1 ≡ true → r ≡ Err (LastTrove (trove_count s))) → (b : Bool) → nat_le (trove_count s) 1 ≡ b
-      → outcome (cond b (Some (LastTrove (trove_count s))) (first_refusal (refusal_of r))) (lowest s count) ≡ elim (with_account account r) [ Err refusal ↦ Err refusal | Ok v ↦ Ok (lowest_from (moment_of s) count) ]
-  made account r last true is = ap (λ (x : Result One Refusal). elim (with_account account x) [ Err refusal ↦ Err refusal | Ok v ↦ Ok (lowest_from (moment_of s) count) ]) (sym (last is))
+  made : (account : ℕ) (r : Result One Refusal) → (nat_le (trove_count s) 1 ≡ true
+      → r ≡ Err (LastTrove (trove_count s))) → (b : Bool) → nat_le (trove_count s) 1 ≡ b
+      → outcome (cond b (Some (LastTrove (trove_count s))) (first_refusal (refusal_of r))) (lowest s count)
+      ≡ elim (with_account account r) [ Err refusal ↦ Err refusal | Ok v ↦ Ok (lowest_from (moment_of s) count) ]
+  made account r last true is =
+      ap (λ (x : Result One Refusal). elim (with_account account x) [
+        | Err refusal ↦ Err refusal
+        | Ok v ↦ Ok (lowest_from (moment_of s) count)
+      ]) (sym (last is))
   made account (Ok one) last false is = ap (λ (l : List Victim). Ok l) (lowest_is count s h)
   made account (Err refusal) last false is = refl
 
   by_row : (account : ℕ) → last_trove s ≡ Some account → (o : Option Trove) → at (trove_rows s) account ≡ o
-      → outcome (first_refusal (last_trove_stays (market_of s) ∷ refusal_of (one_in (market_of s) (sums_words s) (pool_total s) account o))) (lowest s count)
-      ≡ elim (with_account account (one_in (market_of s) (sums_words s) (pool_total s) account o)) [ Err refusal ↦ Err refusal | Ok v ↦ Ok (lowest_from (moment_of s) count) ]
+      → outcome (first_refusal (last_trove_stays (market_of s) ∷ refusal_of (one_in (market_of s) (sums_words s)
+      (pool_total s) account o))) (lowest s count)
+      ≡ elim (with_account account (one_in (market_of s) (sums_words s) (pool_total s) account o))
+      [ Err refusal ↦ Err refusal | Ok v ↦ Ok (lowest_from (moment_of s) count) ]
   by_row account last None there = absurd (last_has_row (trove_rows s) account last there)
-  by_row account last (Some t) there = made account (one_by (market_of s) (sums_words s) t (pool_total s)) (refused_first t) (nat_le (trove_count s) 1) refl where
-    refused_first : (t : Trove) → nat_le (trove_count s) 1 ≡ true → one_by (market_of s) (sums_words s) t (pool_total s) ≡ Err (LastTrove (trove_count s))
-    refused_first t is =
-        let own = entire_by (sums_words s) t in
-        let rest = first_refusal (rest_of (one_rules (market_of s) (without_stake (sums_words s) t) own.0 own.1 (pool_total s))) in
-        ap (λ b. outcome (cond b (Some (LastTrove (trove_count s))) rest) (treated (treatment (market_of s) own.0 own.1) s.price own.0 own.1 (pool_total s))) is
+  by_row account last (Some t) there = made account (one_by (market_of s) (sums_words s) t (pool_total s))
+      (refused_first t) (nat_le (trove_count s) 1) refl where
+        refused_first : (t : Trove) → nat_le (trove_count s) 1 ≡ true → one_by (market_of s) (sums_words s) t (pool_total s)
+            ≡ Err (LastTrove (trove_count s))
+        refused_first t is =
+            let own = entire_by (sums_words s) t in
+            let rest = first_refusal (rest_of (one_rules (market_of s) (without_stake (sums_words s) t) own.0 own.1
+            (pool_total s))) in
+            ap (λ b. outcome (cond b (Some (LastTrove (trove_count s))) rest) (treated (treatment (market_of s) own.0 own.1)
+            s.price own.0 own.1 (pool_total s))) is
 
-  by : (o : Option ℕ) → last_trove s ≡ o → outcome (first_refusal (last_trove_stays (market_of s) ∷ first_of_lowest s o)) (lowest s count) ≡ elim (victim_from (moment_of s).figures (moment_of s).troves o) [ Err refusal ↦ Err refusal | Ok v ↦ Ok (lowest_from (moment_of s) count) ]
+  by : (o : Option ℕ) → last_trove s ≡ o
+      → outcome (first_refusal (last_trove_stays (market_of s) ∷ first_of_lowest s o)) (lowest s count)
+      ≡ elim (victim_from (moment_of s).figures (moment_of s).troves o) [
+        | Err refusal ↦ Err refusal
+        | Ok v ↦ Ok (lowest_from (moment_of s) count)
+      ]
   by None last =
       let none = none_left (trove_rows s) last in
       let few : nat_le (trove_count s) 1 ≡ true = grind (arith, nat_tests, none, counted) in

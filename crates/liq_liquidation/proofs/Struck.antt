@@ -40,7 +40,8 @@ left_market m made =
       troves = m.troves - 1;
     }
 
-module _ (m : Market) (b : Books) (total : ℕ) (account : ℕ) (t : Trove) (there : at b.troves account ≡ Some t) (h : Hold m b) where
+module _ (m : Market) (b : Books) (total : ℕ) (account : ℕ) (t : Trove) (there : at b.troves account
+    ≡ Some t) (h : Hold m b) where
   gone : Books
   gone = lifted_row b account (Some t)
 
@@ -48,10 +49,12 @@ module _ (m : Market) (b : Books) (total : ℕ) (account : ℕ) (t : Trove) (the
   gone_is = ap (lifted_row b account) there
 
   gone_stands : TrovesStand (lifted_row b account (Some t))
-  gone_stands = subst (λ (o : Option Trove). TrovesStand (lifted_row b account o)) there (lift_stands b account h.stands)
+  gone_stands = subst (λ (o : Option Trove). TrovesStand (lifted_row b account o)) there
+      (lift_stands b account h.stands)
 
   pub stakes_left : stakes_in (without b.troves account) ≡ b.sums.stakes - t.stake
-  stakes_left = let law = sum_taken (λ (x : Trove). x.stake) b.troves account t there in omega (arith, law, h.stands.stakes)
+  stakes_left = let law = sum_taken (λ (x : Trove). x.stake) b.troves account t there
+      in omega (arith, law, h.stands.stakes)
 
   -- where there are other troves they have a stake
   pub others_stake : 2 ≤ length b.troves → 1 ≤ stakes_in (without b.troves account)
@@ -59,7 +62,8 @@ module _ (m : Market) (b : Books) (total : ℕ) (account : ℕ) (t : Trove) (the
       let rows = length-without b.troves account t there in
       some_stake (lifted_row b account (Some t)) (omega (arith, rows, several)) gone_stands
 
-  pub struck_of : m.troves ≡ length b.troves → m.total_coll ≤ LIM → m.total_debt ≤ LIM → IsStruckOf (record { market = m; sums = b.sums; pool_total = total }) t
+  pub struck_of : m.troves ≡ length b.troves → m.total_coll ≤ LIM → m.total_debt ≤ LIM
+      → IsStruckOf (record { market = m; sums = b.sums; pool_total = total }) t
   struck_of counted coll_limit debt_limit =
       let w = trove_within b account t there h.stands in
       let own = entire_within b account t there h.stands in
@@ -88,27 +92,43 @@ module _ (m : Market) (b : Books) (total : ℕ) (account : ℕ) (t : Trove) (the
         snap_stands (spread (lifted_row b account (Some t)) made.spread_coll made.spread_debt) some_left
         (spread_stands (lifted_row b account (Some t)) made.spread_coll made.spread_debt coll debt gone_stands)
 
-    row_is : struck_books b (victim account made) ≡ snap (spread (lifted_row b account (Some t)) made.spread_coll made.spread_debt)
+    row_is : struck_books b (victim account made)
+        ≡ snap (spread (lifted_row b account (Some t)) made.spread_coll made.spread_debt)
     row_is = ap (λ (x : Books). snap (spread x made.spread_coll made.spread_debt)) gone_is
 
-    coll_left : (b.active_coll - t.coll) + (b.default_coll - pending t.stake b.sums.coll t.mark_coll + made.spread_coll) ≡ m.total_coll - (made.gas + made.offset_coll + made.surplus)
+    coll_left : (b.active_coll - t.coll) + (b.default_coll - pending t.stake b.sums.coll t.mark_coll + made.spread_coll)
+        ≡ m.total_coll - (made.gas + made.offset_coll + made.surplus)
     coll_left =
         let w = trove_within b account t there h.stands in
         omega (arith, w.coll, w.pending_coll, h.coll, p.coll)
 
-    debt_left : (b.active_debt - t.debt) + (b.default_debt - pending t.stake b.sums.debt t.mark_debt + made.spread_debt) ≡ m.total_debt - made.offset_debt
+    debt_left : (b.active_debt - t.debt) + (b.default_debt - pending t.stake b.sums.debt t.mark_debt + made.spread_debt)
+        ≡ m.total_debt - made.offset_debt
     debt_left =
         let w = trove_within b account t there h.stands in
         omega (arith, w.debt, w.pending_debt, h.debt, p.debt)
 
     -- the books after it hold the totals that are left
     pub struck_hold : Hold (left_market m made) (struck_books b (victim account made))
-    struck_hold = subst (λ (x : Books). Hold (left_market m made) x) (sym row_is) (record { stands = row_stands; coll = coll_left; debt = debt_left })
+    struck_hold = subst (λ (x : Books). Hold (left_market m made) x) (sym row_is) (record {
+      stands = row_stands;
+      coll = coll_left;
+      debt = debt_left;
+    })
 
     -- and are those of the moment after it
-    pub after_is : moment_after (moment_with m b total) (victim account made) ≡ moment_with (left_market m made) (struck_books b (victim account made)) (total - made.offset_debt)
+    pub after_is : moment_after (moment_with m b total) (victim account made) ≡ moment_with (left_market m made)
+        (struck_books b (victim account made)) (total - made.offset_debt)
     after_is =
-        ap (λ c. record { figures = record { market = left_market m made; sums = sums_snapped (sums_spread (record b.sums { stakes = stakes_in (without b.troves account) }) made.spread_coll made.spread_debt) c; pool_total = total - made.offset_debt }; troves = without b.troves account }) (sym coll_left)
+        ap (λ c. record {
+          figures = record {
+            market = left_market m made;
+            sums = sums_snapped (sums_spread (record b.sums { stakes = stakes_in (without b.troves account) })
+                made.spread_coll made.spread_debt) c;
+            pool_total = total - made.offset_debt;
+          };
+          troves = without b.troves account;
+        }) (sym coll_left)
         ∙ ap (λ (x : Books). moment_with (left_market m made) x (total - made.offset_debt)) (sym row_is)
 
     pub rows_left : length (struck_books b (victim account made)).troves ≡ m.troves - 1
@@ -118,7 +138,8 @@ module _ (m : Market) (b : Books) (total : ℕ) (account : ℕ) (t : Trove) (the
 
 -- ---- moments
 
-pub sound_from : (m : Market) (b : Books) (total : ℕ) → IsMarket m → m.troves ≡ length b.troves → m.total_coll ≤ LIM → m.total_debt ≤ LIM → Hold m b → IsSoundMoment (moment_with m b total)
+pub sound_from : (m : Market) (b : Books) (total : ℕ) → IsMarket m → m.troves ≡ length b.troves → m.total_coll ≤ LIM
+    → m.total_debt ≤ LIM → Hold m b → IsSoundMoment (moment_with m b total)
 sound_from m b total market counted coll_limit debt_limit h =
     let s = h.stands in
     let coll : b.default_coll ≡ m.total_coll - added_up (λ t. t.coll) b.troves = omega (arith, h.coll, s.active_coll) in
@@ -148,7 +169,9 @@ sound_from m b total market counted coll_limit debt_limit h =
 pub held : (now : Moment) → IsSoundMoment now → Hold now.figures.market (books_at now)
 held now s = record { stands = s.troves; coll = omega (arith, s.coll); debt = omega (arith, s.debt) }
 
-pub sound_after : (now : Moment) (account : ℕ) (t : Trove) (made : One) → IsSoundMoment now → at now.troves account ≡ Some t → one_by now.figures.market now.figures.sums t now.figures.pool_total ≡ Ok made → IsSoundMoment (moment_after now (victim account made))
+pub sound_after : (now : Moment) (account : ℕ) (t : Trove) (made : One) → IsSoundMoment now
+    → at now.troves account ≡ Some t → one_by now.figures.market now.figures.sums t now.figures.pool_total ≡ Ok made
+    → IsSoundMoment (moment_after now (victim account made))
 sound_after now account t made s there is =
     let m = now.figures.market in
     let b = books_at now in

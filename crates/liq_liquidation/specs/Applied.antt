@@ -1,4 +1,5 @@
--- A planned liquidation on what is kept: on what it was planned, what must have room, and what it makes of each part.
+-- A planned liquidation on what is kept: on what it was planned, what must have room, and what it
+-- makes of each part.
 use Rattle.std.specs.Prelude.{◌≡◌, ℕ, ◌+◌, ◌-◌, ◌≤◌, ◌^◌, ◌==◌, Option, None, Ok, length, if◌then◌else◌}
 use Rattle.liq_types.specs.declared.amounts.TheConstants.{LIM, PRICE_LEAST, RESERVE}
 use Rattle.liq_types.specs.declared.figures.Market.{Market}
@@ -27,8 +28,10 @@ pub record IsPlannedOn (b : Books) (total : ℕ) (v : Victim) : Type 0 where
   pub counted : market.troves ≡ length b.troves
   pub planned : one_in market b.sums total v.account (at b.troves v.account) ≡ Ok v.one
 
--- in each place that gets some, collateral and LUSD stay within their limit, and the pool's place can be counted on
-pub record StayWithin (v : Victim) (wallet : Wallet) (owner : ℕ) (pools : Pools) (words : PoolWords) : Type 0 where
+-- in each place that gets some, collateral and LUSD stay within their limit, and the pool's place
+-- can be counted on
+pub record StayWithin (v : Victim) (wallet : Wallet) (owner : ℕ) (pools : Pools)
+    (words : PoolWords) : Type 0 where
   pub coll : pools.active_coll + pools.default_coll ≤ LIM
   pub debt : pools.active_debt + pools.default_debt ≤ LIM
   pub wallet_coll : wallet.coll + v.one.gas ≤ LIM
@@ -41,7 +44,8 @@ pub record StayWithin (v : Victim) (wallet : Wallet) (owner : ℕ) (pools : Pool
   pub epoch : words.epoch ≤ 2 ^ 64 - 4
 
 -- room was made for all that is written
-pub record HasRoomFor (v : Victim) (liquidator : ℕ) (wallets : WithRoom Wallet) (surplus : WithRoom ℕ) (spare : ℕ) : Type 0 where
+pub record HasRoomFor (v : Victim) (liquidator : ℕ) (wallets : WithRoom Wallet)
+    (surplus : WithRoom ℕ) (spare : ℕ) : Type 0 where
   pub wallet : HasRoom wallets liquidator
   pub owner : HasRoom surplus v.account
   -- where the Stability Pool takes over something, for the sum that this may finish
@@ -51,11 +55,13 @@ pub record HasRoomFor (v : Victim) (liquidator : ℕ) (wallets : WithRoom Wallet
 
 -- where the Stability Pool takes over nothing it stays
 abbrev pub words_left : PoolWords → One → PoolWords
-words_left words one = if one.offset_debt == 0 then words else words_after words one.offset_debt one.offset_coll
+words_left words one = if one.offset_debt == 0 then words
+    else words_after words one.offset_debt one.offset_coll
 
 -- the sum that it finishes, if any
 abbrev pub finished_in : PoolWords → One → Option FinishedSum
-finished_in words one = if one.offset_debt == 0 then None else finished_by words one.offset_debt one.offset_coll
+finished_in words one = if one.offset_debt == 0 then None
+    else finished_by words one.offset_debt one.offset_coll
 
 -- the other pools: these books, and what moves beside them
 abbrev pub pools_left : Pools → Books → One → Pools

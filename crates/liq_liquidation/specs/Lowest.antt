@@ -1,4 +1,5 @@
--- The lowest troves: single liquidations of the last trove of the order, each by the mode of its moment.
+-- The lowest troves: single liquidations of the last trove of the order, each by the mode of its
+-- moment.
 use Rattle.std.specs.Prelude.{◌≡◌, ℕ, zero, suc, true, Option, Some, None, Result, Ok, Err, List, [], ◌∷◌}
 use Rattle.liq_types.specs.declared.figures.Market.{Market}
 use Rattle.liq_types.specs.declared.figures.Trove.{Trove}
@@ -56,7 +57,8 @@ lowest_plan s count = outcome (first_refusal (lowest_rules s)) (lowest s count)
 -- ---- what a plan is told of a state
 
 -- these are the parts of one state
-pub record AreParts (s : State) (m : Market) (sums : Sums) (troves : Table Trove) (order : List Ranked) (words : PoolWords) : Type 0 where
+pub record AreParts (s : State) (m : Market) (sums : Sums) (troves : Table Trove)
+    (order : List Ranked) (words : PoolWords) : Type 0 where
   pub market : m ≡ market_of s
   pub sums_are : sums ≡ sums_words s
   pub troves_are : troves ≡ trove_rows s

@@ -37,12 +37,16 @@ moment_of s =
 
 abbrev pub moment_by : Market → Sums → Table Trove → PoolWords → Moment
 moment_by m sums troves words =
-    record { figures = record { market = m; sums = sums; pool_total = words.total }; troves = troves }
+    record {
+      figures = record { market = m; sums = sums; pool_total = words.total };
+      troves = troves;
+    }
 
 -- ---- what is left after a liquidation
 
--- Others than the troves get the gas, what the pool takes over and the surplus. The stakes are those of the troves that are
--- left, which take over the rest; new stakes are made by them from then on.
+-- Others than the troves get the gas, what the pool takes over and the surplus. The stakes are
+-- those of the troves that are left, which take over the rest; new stakes are made by them from
+-- then on.
 abbrev pub figures_after : Figures → ℕ → One → Figures
 figures_after f stakes one =
     let coll = f.market.total_coll - (one.gas + one.offset_coll + one.surplus) in
@@ -52,7 +56,8 @@ figures_after f stakes one =
         total_debt = f.market.total_debt - one.offset_debt;
         troves = f.market.troves - 1;
       };
-      sums = sums_snapped (sums_spread (record f.sums { stakes = stakes }) one.spread_coll one.spread_debt) coll;
+      sums = sums_snapped (sums_spread (record f.sums { stakes = stakes }) one.spread_coll
+          one.spread_debt) coll;
       pool_total = f.pool_total - one.offset_debt;
     }
 
@@ -80,13 +85,20 @@ next_at now = victim_from now.figures now.troves (last_account (order_by now.tro
 -- so many at most, up to the first that may not be liquidated
 abbrev pub lowest_from : Moment → ℕ → List Victim
 lowest_from now zero = []
-lowest_from now (suc more) = elim (next_at now) [ Err refusal ↦ [] | Ok v ↦ v ∷ lowest_from (moment_after now v) more ]
+lowest_from now (suc more) = elim (next_at now) [
+  | Err refusal ↦ []
+  | Ok v ↦ v ∷ lowest_from (moment_after now v) more
+]
 
 -- the victims in order, or why there is not even one
 abbrev pub plan_from : Moment → ℕ → Result (List Victim) Refusal
-plan_from now count = elim (next_at now) [ Err refusal ↦ Err refusal | Ok v ↦ Ok (lowest_from now count) ]
+plan_from now count = elim (next_at now) [
+  | Err refusal ↦ Err refusal
+  | Ok v ↦ Ok (lowest_from now count)
+]
 
--- an answer that is no plan: this is refused, or there was no memory, where the first of them may be liquidated
+-- an answer that is no plan: this is refused, or there was no memory, where the first of them may
+-- be liquidated
 abbrev pub IsFaultOf : Result (List Victim) Refusal → LowestFault → Type 0
 IsFaultOf plan (No refusal) = plan ≡ Err refusal
 IsFaultOf plan NoMemory = IsOk plan

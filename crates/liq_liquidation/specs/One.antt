@@ -32,7 +32,8 @@ pub data Treatment : Type 0 where
   -- it may not be liquidated
   Kept : Treatment
 
--- The table of treatments, by the mode and the trove's own ratio. The first line that holds decides.
+-- The table of treatments, by the mode and the trove's own ratio. The first line that holds
+-- decides.
 abbrev pub in_normal : Market → ℕ → ℕ → Treatment
 in_normal m coll debt =
     if is_below_percent coll debt m.price MCR then Plain else Kept
@@ -68,7 +69,14 @@ plain coll debt total =
 
 abbrev pub redistributed_whole : ℕ → ℕ → One
 redistributed_whole coll debt =
-    record { gas = gas_of coll; offset_debt = 0; offset_coll = 0; spread_debt = debt; spread_coll = coll - gas_of coll; surplus = 0 }
+    record {
+      gas = gas_of coll;
+      offset_debt = 0;
+      offset_coll = 0;
+      spread_debt = debt;
+      spread_coll = coll - gas_of coll;
+      surplus = 0;
+    }
 
 -- collateral worth 110 percent of the debt
 abbrev pub cap_of : ℕ → ℕ → ℕ
@@ -77,10 +85,24 @@ cap_of price debt = floor_of debt CAP_WORTH price
 abbrev pub capped : ℕ → ℕ → ℕ → One
 capped price coll debt =
     let cap = cap_of price debt in
-    record { gas = gas_of cap; offset_debt = debt; offset_coll = cap - gas_of cap; spread_debt = 0; spread_coll = 0; surplus = coll - cap }
+    record {
+      gas = gas_of cap;
+      offset_debt = debt;
+      offset_coll = cap - gas_of cap;
+      spread_debt = 0;
+      spread_coll = 0;
+      surplus = coll - cap;
+    }
 
 abbrev pub nothing_done : One
-nothing_done = record { gas = 0; offset_debt = 0; offset_coll = 0; spread_debt = 0; spread_coll = 0; surplus = 0 }
+nothing_done = record {
+  gas = 0;
+  offset_debt = 0;
+  offset_coll = 0;
+  spread_debt = 0;
+  spread_coll = 0;
+  surplus = 0;
+}
 
 abbrev pub treated : Treatment → ℕ → ℕ → ℕ → ℕ → One
 treated Plain price coll debt total = plain coll debt total
@@ -122,7 +144,8 @@ treated_of m coll debt total =
 abbrev pub one_rules : Market → Sums → ℕ → ℕ → ℕ → List Rule
 one_rules m others coll debt total =
     let one = treated (treatment m coll debt) m.price coll debt total in
-    last_trove_stays m ∷ (treated_rules m coll debt total ++ spread_rules others one.spread_coll one.spread_debt)
+    last_trove_stays m ∷ (treated_rules m coll debt total ++ spread_rules others one.spread_coll
+    one.spread_debt)
 
 abbrev pub one_of : Market → Sums → ℕ → ℕ → ℕ → Result One Refusal
 one_of m others coll debt total =
@@ -148,15 +171,16 @@ one_in m sums total account (Some t) = one_by m sums t total
 
 -- what becomes of an account's trove, or why it may not be liquidated
 abbrev pub one : State → ℕ → Result One Refusal
-one s account = one_in (market_of s) (sums_words s) (pool_total s) account (at (trove_rows s) account)
+one s account = one_in (market_of s) (sums_words s) (pool_total s) account
+    (at (trove_rows s) account)
 
 -- ---- what it does
 
 abbrev pub offset_if_any : State → ℕ → ℕ → State
 offset_if_any s debt coll = if debt == 0 then s else offset s debt coll
 
--- all but the liquidator's pay, in this order: the trove leaves, the pool offsets, the others take over the rest, and
--- stakes are made anew from then on
+-- all but the liquidator's pay, in this order: the trove leaves, the pool offsets, the others take
+-- over the rest, and stakes are made anew from then on
 abbrev pub struck : State → Victim → State
 struck s v =
     let left = lifted s v.account in
@@ -170,7 +194,8 @@ struck_books b v = snap (spread (lift b v.account) v.one.spread_coll v.one.sprea
 
 -- the liquidator gets the trove's reserve, and a part of its collateral
 abbrev pub rewarded : State → ℕ → ℕ → State
-rewarded s liquidator gas = credited (record s { reserve = s.reserve - RESERVE }) liquidator gas RESERVE
+rewarded s liquidator gas = credited (record s { reserve = s.reserve - RESERVE }) liquidator
+    gas RESERVE
 
 abbrev pub liquidated : State → ℕ → Victim → State
 liquidated s liquidator v = rewarded (struck s v) liquidator v.one.gas

@@ -22,14 +22,16 @@ pub(crate) struct Figures {
 }
 
 impl Figures {
-    /// Liquidates the trove of an account, the last of the list, and goes on to the moment after it. Where there is no
-    /// account, or the trove may not be liquidated, it says why and stays.
+    /// Liquidates the trove of an account, the last of the list, and goes on to the moment after
+    /// it. Where there is no account, or the trove may not be liquidated, it says why and stays.
     pub(crate) fn strike(&mut self, troves: &Troves, last: Option<u32>) -> Result<Victim, Refusal>
         requires market { IsMarket self.old.market }
-        requires trove { (account : ℕ) → last ≡ Some account → IfSome (at troves.now.table.rows account) (IsStruckOf self.old) }
+        requires trove { (account : ℕ) → last ≡ Some account
+            → IfSome (at troves.now.table.rows account) (IsStruckOf self.old) }
         ensures answer { result ≡ victim_from self.old troves.now.table.rows last }
         ensures after { MatchResult result
-            (λ v. IfSome (at troves.now.table.rows v.account) (λ t. self.new ≡ figures_after self.old (self.old.sums.stakes - t.stake) v.one))
+            (λ v. IfSome (at troves.now.table.rows v.account) (λ t. self.new
+            ≡ figures_after self.old (self.old.sums.stakes - t.stake) v.one))
             (λ _. self.new ≡ self.old) }
     {
         let Some(account) = last else {
@@ -49,7 +51,8 @@ impl Figures {
     fn pass(&mut self, stake: u64, one: &One)
         requires stake { stake < self.old.sums.stakes }
         requires troves { 1 ≤ self.old.market.troves }
-        requires coll { one.now.gas + one.now.offset_coll + one.now.surplus ≤ self.old.market.total_coll }
+        requires coll { one.now.gas + one.now.offset_coll + one.now.surplus
+            ≤ self.old.market.total_coll }
         requires debt { one.now.offset_debt ≤ self.old.market.total_debt }
         requires pool { one.now.offset_debt ≤ self.old.pool_total }
         requires sum_coll { self.old.sums.coll ≤ SUM_MOST }

@@ -23,10 +23,11 @@ pub enum LowestFault {
     NoMemory,
 }
 
-/// The lowest troves, at most n of them, as they would be liquidated one after the other: each is the last of the list, is
-/// treated by the mode of its moment, and leaves the totals, the sums and the pool for the next. It ends before the first that
-/// may not be liquidated; where that is the very first, its refusal is the answer, and `LastTrove` where there is no trove.
-/// So there may be no memory only where the first may be liquidated. Nothing is changed.
+/// The lowest troves, at most n of them, as they would be liquidated one after the other: each is
+/// the last of the list, is treated by the mode of its moment, and leaves the totals, the sums and
+/// the pool for the next. It ends before the first that may not be liquidated; where that is the
+/// very first, its refusal is the answer, and `LastTrove` where there is no trove. So there may be
+/// no memory only where the first may be liquidated. Nothing is changed.
 pub fn plan_lowest(
     alloc: Global,
     m: &Market,
@@ -38,9 +39,14 @@ pub fn plan_lowest(
     requires some { 1 ≤ n }
     requires most { n ≤ 64 }
     requires order { order.now.entries ≡ order_by troves.now.table.rows }
-    requires sound { IsSoundMoment (moment_by m.now troves.now.sums troves.now.table.rows words.now) }
-    ensures moment { let plan = plan_from (moment_by m.now troves.now.sums troves.now.table.rows words.now) n in MatchResult result (λ v. plan ≡ Ok v.items) (IsFaultOf plan) }
-    ensures state { (s : State) → AreParts s m.now troves.now.sums troves.now.table.rows order.now.entries words.now → TrovesAreSound s → MatchResult result (λ v. lowest_plan s n ≡ Ok v.items) (IsFaultOf (lowest_plan s n)) }
+    requires sound { IsSoundMoment (moment_by m.now troves.now.sums troves.now.table.rows
+        words.now) }
+    ensures moment { let plan = plan_from (moment_by m.now troves.now.sums troves.now.table.rows
+        words.now) n in MatchResult result (λ v. plan ≡ Ok v.items) (IsFaultOf plan) }
+    ensures state { (s : State)
+        → AreParts s m.now troves.now.sums troves.now.table.rows order.now.entries words.now
+        → TrovesAreSound s → MatchResult result (λ v. lowest_plan s n ≡ Ok v.items)
+        (IsFaultOf (lowest_plan s n)) }
 {
     let figures = Figures {
         market: *m,
@@ -62,7 +68,8 @@ fn lowest_from(
     requires most { n ≤ 64 }
     requires order { order.now.entries ≡ order_by troves.now.table.rows }
     requires sound { IsSoundMoment (record { figures = figures; troves = troves.now.table.rows }) }
-    ensures { let plan = plan_from (record { figures = figures; troves = troves.now.table.rows }) n in MatchResult result (λ v. plan ≡ Ok v.items) (IsFaultOf plan) }
+    ensures { let plan = plan_from (record { figures = figures; troves = troves.now.table.rows }) n
+        in MatchResult result (λ v. plan ≡ Ok v.items) (IsFaultOf plan) }
 {
     let first = match figures.strike(troves, order.last()) {
         Ok(first) => first,
@@ -84,7 +91,8 @@ fn lowest_from(
 }
 
 fn add(victims: &mut Vec<Victim>, victim: Victim) -> Result<(), LowestFault>
-    ensures { MatchResult result (λ _. victims.new.items ≡ victims.old.items ++ victim ∷ []) (λ fault. fault ≡ LowestFault.NoMemory) }
+    ensures { MatchResult result (λ _. victims.new.items ≡ victims.old.items ++ victim ∷ [])
+        (λ fault. fault ≡ LowestFault.NoMemory) }
 {
     match victims.push(victim) {
         Ok(()) => Ok(()),

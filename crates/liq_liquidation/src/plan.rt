@@ -14,9 +14,10 @@ use liq_types::amounts::{CAP_WORTH, CCR, GAS_PART, MCR};
 use liq_types::{Market, Refusal, Trove};
 use std::cmp::Ordering;
 
-/// What becomes of a trove, of all troves that the market counts and the sums are of, where the Stability Pool has so much
-/// LUSD (micro-LUSD). Refused, in this order: `LastTrove`; `NotLiquidatable`, by the mode and the trove's own ratio;
-/// `PoolTooSmall`, where the pool would take over all; `SumLimit`, where the other troves would take over too much.
+/// What becomes of a trove, of all troves that the market counts and the sums are of, where the
+/// Stability Pool has so much LUSD (micro-LUSD). Refused, in this order: `LastTrove`;
+/// `NotLiquidatable`, by the mode and the trove's own ratio; `PoolTooSmall`, where the pool would
+/// take over all; `SumLimit`, where the other troves would take over too much.
 pub fn plan_one(m: &Market, sums: &Sums, trove: &Trove, pool_total: u64) -> Result<One, Refusal>
     requires market { IsMarket m.now }
     requires trove { IsTroveOf m.now sums.now trove.now }
@@ -99,7 +100,8 @@ fn redistributed(coll: u64, debt: u64) -> One
     }
 }
 
-/// The Stability Pool takes over all the debt for collateral worth 110 percent of it, and the owner keeps the rest.
+/// The Stability Pool takes over all the debt for collateral worth 110 percent of it, and the owner
+/// keeps the rest.
 fn capped(price: u64, coll: u64, debt: u64) -> One
     requires price { 1 ≤ price }
     requires fits { rules.cap_of price debt ≤ coll }
@@ -119,7 +121,8 @@ fn capped(price: u64, coll: u64, debt: u64) -> One
 }
 
 fn kept(m: &Market, coll: u64, debt: u64) -> Refusal
-    ensures { result ≡ refused.NotLiquidatable coll debt m.now.price m.now.total_coll m.now.total_debt }
+    ensures { result ≡ refused.NotLiquidatable coll debt m.now.price m.now.total_coll
+        m.now.total_debt }
 {
     Refusal::NotLiquidatable {
         coll,

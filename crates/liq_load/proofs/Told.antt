@@ -15,7 +15,8 @@ use Rattle.liq_load.specs.declared.load.Counts.{Counts}
 use Rattle.liq_load.specs.Carrying.{WritesLine, counts, told}
 use Rattle.liq_load.specs.Load.{summary}
 
-pub line_told : (line : List ℕ) (end : Result (Unit {0}) Halt) (before now : Option (List ℕ)) → WritesLine line end before now → Contains (0 ∷ 4 ∷ 7 ∷ []) (status_of end) × WritesAll line end before now
+pub line_told : (line : List ℕ) (end : Result (Unit {0}) Halt) (before now : Option (List ℕ))
+    → WritesLine line end before now → Contains (0 ∷ 4 ∷ 7 ∷ []) (status_of end) × WritesAll line end before now
 line_told line (Ok done) before now h = ((0, lit< tt, refl), h)
 line_told line (Err (BadLine n)) before now h = absurd h
 line_told line (Err ReadFault) before now h = absurd h
@@ -28,14 +29,20 @@ line_told line (Err (Rotated generation)) before now h = absurd h
 line_told line (Err (DamagedInput number)) before now h = absurd h
 
 -- it is the line of requests that were carried out, and is written as a text
-pub line_written : (requests : List Request) (n : Counts) (text : List ℕ) (end : Result (Unit {0}) Halt) (before now : Option (List ℕ)) → n ≡ counts opening requests
+pub line_written : (requests : List Request) (n : Counts) (text : List ℕ) (end : Result (Unit {0}) Halt)
+    (before now : Option (List ℕ)) → n ≡ counts opening requests
     → text ≡ told n (pool_words (run opening requests).0) (total_debt (run opening requests).0)
-    → OnOk end (Writes before text now) → IfErr end (λ halt. (halt ≡ WriteFault) × WritesPart before text now) → WritesLine (summary requests) end before now
+    → OnOk end (Writes before text now) → IfErr end (λ halt. (halt ≡ WriteFault) × WritesPart before text now)
+    → WritesLine (summary requests) end before now
 unfolding summary
 line_written requests n text end before now counted is ok err = by end ok err where
-  line : text ≡ told (counts opening requests) (pool_words (run opening requests).0) (total_debt (run opening requests).0)
-  line = is ∙ ap (λ (m : Counts). told m (pool_words (run opening requests).0) (total_debt (run opening requests).0)) counted
+  line : text ≡ told (counts opening requests) (pool_words (run opening requests).0)
+      (total_debt (run opening requests).0)
+  line = is ∙ ap (λ (m : Counts). told m (pool_words (run opening requests).0)
+      (total_debt (run opening requests).0)) counted
 
-  by : (end : Result (Unit {0}) Halt) → OnOk end (Writes before text now) → IfErr end (λ halt. (halt ≡ WriteFault) × WritesPart before text now) → WritesLine (summary requests) end before now
+  by : (end : Result (Unit {0}) Halt) → OnOk end (Writes before text now) → IfErr end (λ halt. (halt ≡ WriteFault)
+      × WritesPart before text now) → WritesLine (summary requests) end before now
   by (Ok done) ok err = subst (λ (t : List ℕ). Writes before t now) line ok
-  by (Err halt) ok err = subst (λ (h : Halt). WritesLine (summary requests) (Err h) before now) (sym err.0) (subst (λ (t : List ℕ). WritesPart before t now) line err.1)
+  by (Err halt) ok err = subst (λ (h : Halt). WritesLine (summary requests) (Err h) before now) (sym err.0)
+      (subst (λ (t : List ℕ). WritesPart before t now) line err.1)

@@ -16,13 +16,15 @@ use Rattle.liq_rules.specs.Step.{step, run, accepted, next_number}
 unfoldable pub load : State → List Call → List Request
 load s [] = []
 load s (call ∷ calls) =
-    let next = Do (record { client = 1; number = next_number s 1; call = call }) in next ∷ load (step s next).0 calls
+    let next = Do (record { client = 1; number = next_number s 1; call = call })
+    in next ∷ load (step s next).0 calls
 
 abbrev pub is_refusal : Reply → Bool
 is_refusal (No refusal) = true
 is_refusal _ = false
 
--- the line of requests from the opening: their counts, the Stability Pool's words, and the debt of all troves
+-- the line of requests from the opening: their counts, the Stability Pool's words, and the debt of
+-- all troves
 unfoldable pub summary : List Request → List ℕ
 summary requests =
     let s = (run opening requests).0 in let words = pool_words s in

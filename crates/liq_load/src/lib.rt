@@ -1,4 +1,5 @@
-//! The word `gen`: a generated load, carried out on a protocol of its own, and the line that tells where it leads.
+//! The word `gen`: a generated load, carried out on a protocol of its own, and the line that tells
+//! where it leads.
 #![tactic(auto)]
 
 mod load;

@@ -50,7 +50,8 @@ impl Load {
         steps: &mut Steps<L>,
     ) -> Result<Load, NoMemory>
         requires { count ≤ COUNT_MOST }
-        ensures { IfOk result (λ done. StandsFor done.protocol (run opening (load opening (generated seed count))).0
+        ensures { IfOk result (λ done. StandsFor done.protocol
+            (run opening (load opening (generated seed count))).0
             × (done.counts ≡ counts opening (load opening (generated seed count)))) }
     {
         let mut done = Load {
@@ -105,7 +106,8 @@ impl Load {
     /// The protocol's answer to a query.
     fn answer(&self, query: &Query) -> Reply
         ensures here { (step (state_of self.now.protocol) (Ask query.now)).1 ≡ result }
-        ensures each { (s : State) → StandsFor self.now.protocol s → (step s (Ask query.now)).1 ≡ result }
+        ensures each { (s : State) → StandsFor self.now.protocol s → (step s (Ask query.now)).1
+            ≡ result }
     {
         protocols_stand(&self.protocol);
         self.protocol.query(query)
@@ -132,7 +134,8 @@ impl Load {
 
     /// The line that tells where it has come to.
     pub fn line(&self, alloc: Global) -> Result<String, NoMemory>
-        ensures { IfOk result (λ line. (s : State) → StandsFor self.now.protocol s → string_bytes line ≡ told self.now.counts (pool_words s) (total_debt s)) }
+        ensures { IfOk result (λ line. (s : State) → StandsFor self.now.protocol s
+            → string_bytes line ≡ told self.now.counts (pool_words s) (total_debt s)) }
     {
         let Counts {
             accepted,

@@ -18,7 +18,8 @@ use liq_words::COUNT_MOST;
 use std::alloc::Global;
 use std::sync::ledger::{Blank, Ledger};
 
-/// Carries a load out on a ledger of its own, on which the steps are counted, and tells where it leads.
+/// Carries a load out on a ledger of its own, on which the steps are counted, and tells where it
+/// leads.
 pub fn tell_load<L: Ledger, K: Sink>(
     alloc: Global,
     seed: u64,

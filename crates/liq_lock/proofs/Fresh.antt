@@ -16,7 +16,8 @@ module _ {I : Type 0} where
   abbrev pub Later : TableId → List (LockSeat I) → Type 0
   Later id seats = (k : ℕ) (d : LockSeat I) → k < length seats → IsFresh id (k + 2) (get_or seats k d)
 
-  pub later_push : (id : TableId) (seats : List (LockSeat I)) (seat : LockSeat I) (k : ℕ) → Later id seats → length seats + 2 ≡ k → IsFresh id k seat → Later id (seats ++ seat ∷ [])
+  pub later_push : (id : TableId) (seats : List (LockSeat I)) (seat : LockSeat I) (k : ℕ) → Later id seats
+      → length seats + 2 ≡ k → IsFresh id k seat → Later id (seats ++ seat ∷ [])
   later_push id seats seat k all count one j d below =
       dite (dec_lt j (length seats))
       (λ yes. subst (IsFresh id (j + 2)) (sym (get_or_append_left seats (seat ∷ []) d j yes)) (all j d yes))
@@ -30,29 +31,67 @@ module _ {I : Type 0} where
   pub none_dealt : (n : ℕ) → opener {I = I} n ≡ dealer 2 n
   none_dealt n =
       let all : n ≡ n + 2 - 2 = omega arith in
-      ap (λ (z : ℕ). record { number = 1; stands = 1 ∷ []; seen = []; ticket = None; inside = false; shares = z; splitting = ltb 1 z; next = 2; left = no_past; right = no_past }) all
+      ap (λ (z : ℕ). record {
+        number = 1;
+        stands = 1 ∷ [];
+        seen = [];
+        ticket = None;
+        inside = false;
+        shares = z;
+        splitting = ltb 1 z;
+        next = 2;
+        left = no_past;
+        right = no_past;
+      }) all
 
   -- the first view after a split
   pub keeping_on : (k n : ℕ) → keeping {I = I} (dealer k n) ≡ dealer (k + 1) n
   keeping_on k n =
       let less : n + 2 - k - 1 ≡ n + 2 - (k + 1) = omega arith in
-      ap (λ (z : ℕ). record { number = 1; stands = 1 ∷ []; seen = []; ticket = None; inside = false; shares = z; splitting = ltb 1 z; next = k + 1; left = no_past; right = no_past }) less
+      ap (λ (z : ℕ). record {
+        number = 1;
+        stands = 1 ∷ [];
+        seen = [];
+        ticket = None;
+        inside = false;
+        shares = z;
+        splitting = ltb 1 z;
+        next = k + 1;
+        left = no_past;
+        right = no_past;
+      }) less
 
   -- the first view when all others are made
   pub last_dealt : (k n : ℕ) → k ≡ n → dealer {I = I} (k + 1) n ≡ newcomer 1 (k + 1)
   last_dealt k n all =
       let one : n + 2 - (k + 1) ≡ 1 = omega (arith, all) in
-      ap (λ (z : ℕ). record { number = 1; stands = 1 ∷ []; seen = []; ticket = None; inside = false; shares = z; splitting = ltb 1 z; next = k + 1; left = no_past; right = no_past }) one
+      ap (λ (z : ℕ). record {
+        number = 1;
+        stands = 1 ∷ [];
+        seen = [];
+        ticket = None;
+        inside = false;
+        shares = z;
+        splitting = ltb 1 z;
+        next = k + 1;
+        left = no_past;
+        right = no_past;
+      }) one
 
   -- a seat with a view that was made for one share, by what its own view tells
-  pub is_newcomer : {S : Type 0} (m : Me S (View I)) (k next : ℕ) → m ≡ (newcomer k next, []) → m ≡ (newcomer m.0.number m.0.next, [])
+  pub is_newcomer : {S : Type 0} (m : Me S (View I)) (k next : ℕ) → m ≡ (newcomer k next, [])
+      → m ≡ (newcomer m.0.number m.0.next, [])
   is_newcomer {S} m k next is =
-      is ∙ ap₂ (λ (a b : ℕ). (newcomer a b, [])) (sym (ap (λ (n : Me S (View I)). n.0.number) is)) (sym (ap (λ (n : Me S (View I)). n.0.next) is))
+      is ∙ ap₂ (λ (a b : ℕ). (newcomer a b, [])) (sym (ap (λ (n : Me S (View I)). n.0.number) is))
+      (sym (ap (λ (n : Me S (View I)). n.0.next) is))
 
   -- the last seat that was made, and those before it
-  pub fresh_pop : (id : TableId) (seats : List (LockSeat I)) (seat : LockSeat I) → AreFresh id (seats ++ seat ∷ []) → AreFresh id seats × IsFresh id (length seats + 1) seat
+  pub fresh_pop : (id : TableId) (seats : List (LockSeat I)) (seat : LockSeat I) → AreFresh id (seats ++ seat ∷ [])
+      → AreFresh id seats × IsFresh id (length seats + 1) seat
   fresh_pop id seats seat all =
       let long = length-append seats (seat ∷ []) in (
-        (λ j d below. subst (IsFresh id (j + 1)) (get_or_append_left seats (seat ∷ []) d j below) (all j d (omega arith))),
-        subst (IsFresh id (length seats + 1)) (get_or_push seats seat seat (length seats) refl) (all (length seats) seat (omega arith)),
+        (λ j d below. subst (IsFresh id (j + 1)) (get_or_append_left seats (seat ∷ []) d j below)
+            (all j d (omega arith))),
+        subst (IsFresh id (length seats + 1)) (get_or_push seats seat seat (length seats) refl) (all (length seats) seat
+            (omega arith)),
       )

@@ -32,7 +32,8 @@ pub nothing_in_nil : {A : Type 0} (x : A) → ¬ Contains [] x
 nothing_in_nil x c = let below : c.0 < 0 = c.1 in absurd (omega arith)
 
 -- of two beginnings of one list the shorter begins the longer
-pub beginnings : {A : Type 0} (a b x y : List A) → a ++ x ≡ b ++ y → length a ≤ length b → (d : List A) × (b ≡ a ++ d) × (x ≡ d ++ y)
+pub beginnings : {A : Type 0} (a b x y : List A) → a ++ x ≡ b ++ y → length a ≤ length b → (d : List A) × (b ≡ a ++ d)
+    × (x ≡ d ++ y)
 beginnings [] b x y e h = (b, refl, e)
 beginnings (p ∷ a) [] x y e h = absurd (omega arith)
 beginnings (p ∷ a) (q ∷ b) x y e h =
@@ -48,12 +49,18 @@ module _ {I : Type 0} (maker : I → ℕ) where
   pub behind_none : (log : List I) → Behind maker log [] []
   behind_none log = (log, refl, λ i _ c. nothing_in_nil (maker i) c)
 
-  pub behind_on : (log seen new : List I) (numbers : List ℕ) → Behind maker log numbers seen → NoneOf maker numbers new → Behind maker (log ++ new) numbers seen
-  behind_on log seen new numbers b none =
-      (b.0 ++ new, ap (λ l. l ++ new) b.1 ∙ append_assoc seen b.0 new, λ i c. ⊎_elim (b.2 i) (none i) (Contains-append_cases b.0 new i c))
+  pub behind_on : (log seen new : List I) (numbers : List ℕ) → Behind maker log numbers seen → NoneOf maker numbers new
+      → Behind maker (log ++ new) numbers seen
+  behind_on log seen new numbers b none = (
+    b.0 ++ new,
+    ap (λ l. l ++ new) b.1 ∙ append_assoc seen b.0 new,
+    λ i c. ⊎_elim (b.2 i) (none i)
+        (Contains-append_cases b.0 new i c),
+  )
 
   -- what is beyond the longer of two beginnings carries none of the numbers of the shorter
-  shorter_behind : (log a b : List I) (p q : List ℕ) (l : Behind maker log p a) (r : Behind maker log q b) → length a ≤ length b → Behind maker b p a × NoneOf maker p r.0
+  shorter_behind : (log a b : List I) (p q : List ℕ) (l : Behind maker log p a) (r : Behind maker log q b)
+      → length a ≤ length b → Behind maker b p a × NoneOf maker p r.0
   shorter_behind log a b p q l r h =
       let d = beginnings a b l.0 r.0 (sym l.1 ∙ r.1) h in (
         (d.0, d.1, λ i c. l.2 i (subst (λ xs. Contains xs i) (sym d.2) (Contains-append_left d.0 r.0 i c))),

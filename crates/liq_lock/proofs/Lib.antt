@@ -1,10 +1,10 @@
-pub mod Ends
+mod Ends
 pub mod Fresh
 pub mod Histories
-pub mod Moved
-pub mod Parts
-pub mod Rests
-pub mod Sentences
-pub mod Sums
-pub mod Turns
-pub mod Waits
+mod Moved
+mod Parts
+mod Rests
+mod Sentences
+mod Sums
+mod Turns
+mod Waits

@@ -20,7 +20,8 @@ within_at (x ∷ xs) zero a e = omega arith
 within_at (x ∷ xs) (suc i) a e = let r = within_at xs i a e in omega arith
 
 -- two reads of one place are one
-pub same_at : {A : Type 0} (l : List A) (i j : ℕ) (a b : A) → get_elem? l i ≡ some a → get_elem? l j ≡ some b → i ≡ j → a ≡ b
+pub same_at : {A : Type 0} (l : List A) (i j : ℕ) (a b : A) → get_elem? l i ≡ some a → get_elem? l j ≡ some b
+    → i ≡ j → a ≡ b
 same_at l i j a b d e is = some-injective a b (sym d ∙ ap (get_elem? l) is ∙ e)
 
 pub set_at : {A : Type 0} (l : List A) (i : ℕ) (a b : A) → get_elem? l i ≡ some a → get_elem? (set l i b) i ≡ some b
@@ -38,7 +39,15 @@ false_not_true e = cc
 module _ {I : Type 0} where
   -- the ledger after a step that gives out no number
   abbrev pub turned : Ledger I → ℕ → ℕ → (ℕ → ℕ) → List I → Bool → Ledger I
-  turned g drawn served holder log busy = record { drawn = drawn; served = served; holder = holder; log = log; made = g.made; keeper = g.keeper; busy = busy }
+  turned g drawn served holder log busy = record {
+    drawn = drawn;
+    served = served;
+    holder = holder;
+    log = log;
+    made = g.made;
+    keeper = g.keeper;
+    busy = busy;
+  }
 
   -- w has the numbers, the shares and the mark of v
   pub record Same (v w : View I) : Type 0 where
@@ -53,7 +62,8 @@ module _ {I : Type 0} where
       pub inside : v.inside ≡ true → (v.ticket ≡ Some g.served) × (v.seen ≡ g.log) × (g.busy ≡ true)
       pub behind : Behind maker g.log v.stands v.seen
 
-    pub refit : (n : ℕ) (g : Ledger I) (d e : ℕ) (h : ℕ → ℕ) (log : List I) (b : Bool) (j : ℕ) (v : View I) → Fits maker n g j v → Stays (turned g d e h log b) j v → Fits maker n (turned g d e h log b) j v
+    pub refit : (n : ℕ) (g : Ledger I) (d e : ℕ) (h : ℕ → ℕ) (log : List I) (b : Bool) (j : ℕ) (v : View I)
+        → Fits maker n g j v → Stays (turned g d e h log b) j v → Fits maker n (turned g d e h log b) j v
     refit n g d e h log b j v f s = record {
       ticket = s.ticket;
       inside = s.inside;
@@ -67,7 +77,8 @@ module _ {I : Type 0} where
     }
 
     -- a view that changes its ticket and its turn keeps the rest
-    pub turn_fits : (n : ℕ) (g : Ledger I) (d e : ℕ) (h : ℕ → ℕ) (b : Bool) (j : ℕ) (v : View I) (held : Option ℕ) (turn : Bool) → Fits maker n g j v → 1 ≤ v.shares → count_of held ≤ v.shares
+    pub turn_fits : (n : ℕ) (g : Ledger I) (d e : ℕ) (h : ℕ → ℕ) (b : Bool) (j : ℕ) (v : View I) (held : Option ℕ)
+        (turn : Bool) → Fits maker n g j v → 1 ≤ v.shares → count_of held ≤ v.shares
         → ((t : ℕ) → held ≡ Some t → (e ≤ t) × (t < d) × (h t ≡ j))
         → (turn ≡ true → (held ≡ Some e) × (v.seen ≡ g.log) × (b ≡ true))
         → Fits maker n (turned g d e h g.log b) j (record v { ticket = held; inside = turn })
@@ -86,10 +97,13 @@ module _ {I : Type 0} where
 module _ {T I : Type 0} (history : T → List I) (maker : I → ℕ) where
   -- the ticket t is held by the view at id, or by the one that held it
   abbrev pub HeldBy : (g g' : Ledger I) (id : ℕ) (w : View I) (t : ℕ) → Type 0
-  HeldBy g g' id w t = ((g'.holder t ≡ id) × (w.ticket ≡ Some t)) ⊎ ((g.served ≤ t) × (t < g.drawn) × (g'.holder t ≡ g.holder t) × (g'.holder t ≢ id))
+  HeldBy g g' id w t = ((g'.holder t ≡ id) × (w.ticket ≡ Some t)) ⊎ ((g.served ≤ t) × (t < g.drawn)
+      × (g'.holder t ≡ g.holder t) × (g'.holder t ≢ id))
 
-  module _ (n : ℕ) (s : State (Option T) (View I)) (r : Ruled history maker n s) (id : ℕ) (v w : View I) (at : get_elem? s.views id ≡ some v) (same : Same v w) (alive : 1 ≤ v.shares) where
-    moved_kept : (x : ℕ) → 1 ≤ x → x ≤ r.ledger.made → (u : View I) × (get_elem? (set s.views id w) (r.ledger.keeper x) ≡ some u) × (1 ≤ u.shares) × Contains u.stands x
+  module _ (n : ℕ) (s : State (Option T) (View I)) (r : Ruled history maker n s) (id : ℕ) (v w : View I)
+      (at : get_elem? s.views id ≡ some v) (same : Same v w) (alive : 1 ≤ v.shares) where
+    moved_kept : (x : ℕ) → 1 ≤ x → x ≤ r.ledger.made → (u : View I) × (get_elem? (set s.views id w) (r.ledger.keeper x)
+        ≡ some u) × (1 ≤ u.shares) × Contains u.stands x
     moved_kept x low high =
         let k = r.kept x low high in let u : View I = k.0 in let place : ℕ = r.ledger.keeper x in
         dite (ℕ_discrete place id)
@@ -102,24 +116,39 @@ module _ {T I : Type 0} (history : T → List I) (maker : I → ℕ) where
         ))
         (λ no. (u, set_else s.views id place w no ∙ k.1, k.2, k.3))
 
-    moved_cut : (r.ledger.made ≡ n) ⊎ ((j : ℕ) × (u : View I) × (get_elem? (set s.views id w) j ≡ some u) × (u.splitting ≡ true))
+    moved_cut : (r.ledger.made ≡ n) ⊎ ((j : ℕ) × (u : View I) × (get_elem? (set s.views id w) j ≡ some u)
+        × (u.splitting ≡ true))
     moved_cut = ⊎_elim inl
         (λ c. dite (ℕ_discrete c.0 id)
-        (λ yes. inr (id, w, set_at s.views id v w at, same.splitting ∙ ap (λ (z : View I). z.splitting) (sym (same_at s.views c.0 id c.1 v c.2 at yes)) ∙ c.3))
+        (λ yes. inr (
+          id,
+          w,
+          set_at s.views id v w at,
+          same.splitting
+              ∙ ap (λ (z : View I). z.splitting) (sym (same_at s.views c.0 id c.1 v c.2 at yes)) ∙ c.3,
+        ))
         (λ no. inr (c.0, c.1, set_else s.views id c.0 w no ∙ c.2, c.3))) r.cut
 
-    moved_held : (g' : Ledger I) (t : ℕ) → HeldBy r.ledger g' id w t → (u : View I) × (get_elem? (set s.views id w) (g'.holder t) ≡ some u) × (u.ticket ≡ Some t)
+    moved_held : (g' : Ledger I) (t : ℕ) → HeldBy r.ledger g' id w t → (u : View I)
+        × (get_elem? (set s.views id w) (g'.holder t) ≡ some u) × (u.ticket ≡ Some t)
     moved_held g' t h = ⊎_elim
         (λ p. (w, ap (get_elem? (set s.views id w)) p.0 ∙ set_at s.views id v w at, p.1))
-        (λ p. let k = r.held t p.0 p.1 in (k.0, set_else s.views id (g'.holder t) w p.3 ∙ ap (get_elem? s.views) p.2 ∙ k.1, k.2)) h
+        (λ p. let k = r.held t p.0 p.1 in (
+          k.0,
+          set_else s.views id (g'.holder t) w p.3 ∙ ap (get_elem? s.views) p.2
+              ∙ k.1,
+          k.2,
+        )) h
 
-    pub moved : (d e : ℕ) (h : ℕ → ℕ) (log : List I) (b : Bool) (words' : List ℕ) (homes' : List (maybe.Option (Option T)))
+    pub moved : (d e : ℕ) (h : ℕ → ℕ) (log : List I) (b : Bool) (words' : List ℕ)
+        (homes' : List (maybe.Option (Option T)))
         → words' ≡ d % 2 ^ 64 ∷ e % 2 ^ 64 ∷ length log ∷ []
         → e + r.ledger.drawn + waits w ≡ d + r.ledger.served + waits v
         → ((t : ℕ) → e ≤ t → t < d → HeldBy r.ledger (turned r.ledger d e h log b) id w t)
         → Within maker r.ledger.made log
         → (b ≡ false → (x : T) × (homes' ≡ some (Some x) ∷ []) × (history x ≡ log))
-        → (b ≡ true → (homes' ≡ none ∷ []) × ((u : View I) × (get_elem? (set s.views id w) (h e) ≡ some u) × (u.inside ≡ true)))
+        → (b ≡ true → (homes' ≡ none ∷ []) × ((u : View I) × (get_elem? (set s.views id w) (h e) ≡ some u)
+        × (u.inside ≡ true)))
         → Fits maker n (turned r.ledger d e h log b) id w
         → ((j : ℕ) (u : View I) → j ≢ id → get_elem? s.views j ≡ some u → Stays maker (turned r.ledger d e h log b) j u)
         → Ruled history maker n record { words = words'; homes = homes'; views = set s.views id w }
@@ -142,5 +171,6 @@ module _ {T I : Type 0} (history : T → List I) (maker : I → ℕ) where
           away = away;
           each = λ j u there. ⊎_elim
               (λ p. subst (λ (z : ℕ × View I). Fits maker n g' z.0 z.1) (λ i. (sym p.0 i, p.1 i)) mine)
-              (λ p. refit maker n r.ledger d e h log b j u (r.each j u p.1) (theirs j u p.0 p.1)) (at_set s.views id j w u there);
+              (λ p. refit maker n r.ledger d e h log b j u (r.each j u p.1) (theirs j u p.0 p.1))
+              (at_set s.views id j w u there);
         }

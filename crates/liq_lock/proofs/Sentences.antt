@@ -30,12 +30,14 @@ ends (x ∷ l) = inr (⊎_elim (λ e. ([], x, ap (λ r. x ∷ r) e)) (λ p. (x �
 -- a beginning of a list with a last element is the whole list, or that element is beyond
 beyond_has : {A : Type 0} (xs ys front : List A) (x : A) → xs ++ ys ≡ front ++ x ∷ [] → (ys ≡ []) ⊎ Contains ys x
 beyond_has xs ys front x e = dite (dec_le (length xs) (length front))
-    (λ yes. let b = beginnings xs front ys (x ∷ []) e yes in inr (subst (λ l. Contains l x) (sym b.2) (Contains-append_right b.0 (x ∷ []) x (one_in x []))))
+    (λ yes. let b = beginnings xs front ys (x ∷ []) e yes
+    in inr (subst (λ l. Contains l x) (sym b.2) (Contains-append_right b.0 (x ∷ []) x (one_in x []))))
     (λ no.
     let all = ap length e in let left = length-append xs ys in let right = length-append front (x ∷ []) in
     inl (nil_from_length ys (omega arith)))
 
-module _ {T I : Type 0} (history : T → List I) (maker : I → ℕ) (n : ℕ) (s : State (Option T) (View I)) (r : Ruled history maker n s) where
+module _ {T I : Type 0} (history : T → List I) (maker : I → ℕ) (n : ℕ) (s : State (Option T) (View I))
+    (r : Ruled history maker n s) where
   abbrev G : Ledger I
   G = r.ledger
 
@@ -55,7 +57,8 @@ module _ {T I : Type 0} (history : T → List I) (maker : I → ℕ) (n : ℕ) (
   lives_marked : (j : ℕ) (v : View I) → get_elem? s.views j ≡ some v → v.splitting ≡ true → Lives s j v
   lives_marked j v at h = (at, λ e. false_not_true (ap (λ (z : View I). z.splitting) (sym e) ∙ h))
 
-  place : (j : ℕ) (v : View I) → Lives s j v → (g : ℕ) × (g ≡ j) × (1 ≤ v.number) × (v.number ≤ r.ledger.made) × (r.ledger.keeper v.number ≡ j)
+  place : (j : ℕ) (v : View I) → Lives s j v → (g : ℕ) × (g ≡ j) × (1 ≤ v.number) × (v.number ≤ r.ledger.made)
+      × (r.ledger.keeper v.number ≡ j)
   place j v l = let f = r.each j v l.0 in let o = f.own v.number (f.number (alive j v l)) in (j, refl, o.1, o.2, o.0)
 
   longest : (j : ℕ) × (v : View I) × Lives s j v × (v.seen ≡ r.ledger.log)
@@ -63,13 +66,20 @@ module _ {T I : Type 0} (history : T → List I) (maker : I → ℕ) (n : ℕ) (
       (λ (none : r.ledger.log ≡ []).
       let begun = r.begun in let k = r.kept 1 (omega arith) begun in let v : View I = k.0 in
       let f = r.each (r.ledger.keeper 1) v k.1 in
-      let short = ap length (sym f.behind.1 ∙ none) in let sum = length-append v.seen f.behind.0 in
-      (r.ledger.keeper 1, v, lives_by_share (r.ledger.keeper 1) v k.1 k.2, nil_from_length v.seen (omega arith) ∙ sym none))
+      let short = ap length (sym f.behind.1 ∙ none) in let sum = length-append v.seen f.behind.0 in (
+        r.ledger.keeper 1,
+        v,
+        lives_by_share (r.ledger.keeper 1) v k.1 k.2,
+        nil_from_length v.seen (omega arith)
+            ∙ sym none,
+      ))
       (λ (p : (front : List I) × (x : I) × (r.ledger.log ≡ front ++ x ∷ [])).
-      let m = r.makers p.1 (subst (λ (l : List I). Contains l p.1) (sym p.2) (Contains-append_right p.0 (p.1 ∷ []) p.1 (one_in p.1 []))) in
+      let m = r.makers p.1 (subst (λ (l : List I). Contains l p.1) (sym p.2) (Contains-append_right p.0 (p.1 ∷ []) p.1
+      (one_in p.1 []))) in
       let j : ℕ = r.ledger.keeper (maker p.1) in
       let k = r.kept (maker p.1) m.0 m.1 in let v : View I = k.0 in let f = r.each j v k.1 in
-      let nothing : f.behind.0 ≡ [] = ⊎_elim (λ e. e) (λ c. absurd (f.behind.2 p.1 c k.3)) (beyond_has v.seen f.behind.0 p.0 p.1 (sym f.behind.1 ∙ p.2)) in
+      let nothing : f.behind.0 ≡ [] = ⊎_elim (λ e. e) (λ c. absurd (f.behind.2 p.1 c k.3))
+      (beyond_has v.seen f.behind.0 p.0 p.1 (sym f.behind.1 ∙ p.2)) in
       (j, v, lives_by_share j v k.1 k.2, sym (f.behind.1 ∙ ap (λ l. v.seen ++ l) nothing ∙ append-nil v.seen)))
       (ends r.ledger.log)
 
@@ -92,7 +102,9 @@ module _ {T I : Type 0} (history : T → List I) (maker : I → ℕ) (n : ℕ) (
     begins = λ j v l. let f = r.each j v l.0 in (f.behind.0, f.behind.1);
     seen_inside = λ j v l p. let f = (r.each j v l.0).inside p in (f.1, (r.away f.2).0);
     slot_home = λ calm. r.home (false_from_ne_true G.busy (λ busy.
-        let a = r.away busy in false_not_true (sym (calm (G.holder G.served) a.1.0 (lives_inside (G.holder G.served) a.1.0 a.1.1 a.1.2)) ∙ a.1.2)));
+        let a = r.away busy
+        in false_not_true (sym (calm (G.holder G.served) a.1.0 (lives_inside (G.holder G.served) a.1.0 a.1.1 a.1.2))
+        ∙ a.1.2)));
     numbers_differ = λ i j v w l m e. let p = place i v l in let q = place j w m in sym p.4 ∙ ap G.keeper e ∙ q.4;
     numbers_within = λ j v l. let p = place j v l in let high : v.number ≤ G.made = p.3 in (p.2, omega arith);
     makers_within = λ i c. let p = r.makers i c in let high : maker i ≤ G.made = p.1 in (p.0, omega arith);
@@ -100,7 +112,9 @@ module _ {T I : Type 0} (history : T → List I) (maker : I → ℕ) (n : ℕ) (
     stands_within = λ j v l x p. let o = (r.each j v l.0).own x p in let high : x ≤ G.made = o.2 in (o.1, omega arith);
     stands_once = λ x i j v w l m p q. sym ((r.each i v l.0).own x p).0 ∙ ((r.each j w m.0).own x q).0;
     all_stand = λ whole x low high.
-        let made : G.made ≡ n = ⊎_elim (λ e. e) (λ c. absurd (false_not_true (sym (whole c.0 c.1 (lives_marked c.0 c.1 c.2 c.3)) ∙ c.3))) r.cut in
+        let made : G.made ≡ n =
+        ⊎_elim (λ e. e) (λ c. absurd (false_not_true (sym (whole c.0 c.1 (lives_marked c.0 c.1 c.2 c.3)) ∙ c.3)))
+        r.cut in
         let k = r.kept x low (omega arith) in (G.keeper x, k.0, lives_by_share (G.keeper x) k.0 k.1 k.2, k.3);
     own_items = λ j v l beyond e.
         let f = r.each j v l.0 in
@@ -112,7 +126,8 @@ module _ {T I : Type 0} (history : T → List I) (maker : I → ℕ) (n : ℕ) (
         let c = (r.each i v l.0).cutting p in let d = (r.each j w m.0).cutting q in
         sym a.4 ∙ ap G.keeper (c.3 ∙ sym d.3) ∙ b.4;
     to_come = λ j v l p.
-        let c = (r.each j v l.0).cutting p in let all : G.made + v.shares ≡ n + 1 = c.1 in let next : v.next ≡ G.made + 1 = c.2 in (
+        let c = (r.each j v l.0).cutting p in let all : G.made + v.shares ≡ n + 1 = c.1
+        in let next : v.next ≡ G.made + 1 = c.2 in (
           c.3,
           (λ i w m. let high : w.number ≤ G.made = (place i w m).3 in omega arith),
           λ i k. let o = r.makers i k in let high : maker i ≤ G.made = o.1 in (o.0, omega arith),

@@ -18,7 +18,8 @@ module _ {A : Type 0} (f : A → ℕ) where
   sum_at (x ∷ xs) zero v e = let is : f x ≡ f v = ap f (some-injective x v e) in omega (arith, sum_by-cons f x xs)
   sum_at (x ∷ xs) (suc i) v e = let r = sum_at xs i v e in omega (arith, sum_by-cons f x xs)
 
-  pub sum_two : (l : List A) (i j : ℕ) (v w : A) → get_elem? l i ≡ some v → get_elem? l j ≡ some w → j ≢ i → f v + f w ≤ sum_by f l
+  pub sum_two : (l : List A) (i j : ℕ) (v w : A) → get_elem? l i ≡ some v → get_elem? l j ≡ some w → j ≢ i
+      → f v + f w ≤ sum_by f l
   sum_two [] i j v w e d n = absurd (some-ne-none v (sym e))
   sum_two (x ∷ xs) zero zero v w e d n = absurd (n refl)
   sum_two (x ∷ xs) zero (suc j) v w e d n =
@@ -32,7 +33,8 @@ module _ {A : Type 0} (f : A → ℕ) where
   sum_snoc [] v = omega (arith, sum_by-cons f v [])
   sum_snoc (x ∷ xs) v = let r = sum_snoc xs v in omega (arith, sum_by-cons f x (xs ++ v ∷ []), sum_by-cons f x xs)
 
-  pub sum_le : (g : A → ℕ) (l : List A) → ((j : ℕ) (v : A) → get_elem? l j ≡ some v → f v ≤ g v) → sum_by f l ≤ sum_by g l
+  pub sum_le : (g : A → ℕ) (l : List A) → ((j : ℕ) (v : A) → get_elem? l j ≡ some v → f v ≤ g v)
+      → sum_by f l ≤ sum_by g l
   sum_le g [] h = omega arith
   sum_le g (x ∷ xs) h =
       let here : f x ≤ g x = h 0 x refl in

@@ -1,4 +1,5 @@
--- Histories: what of one history a seat has seen, and how it grows. `maker` is the number of the seat that made an item.
+-- Histories: what of one history a seat has seen, and how it grows. `maker` is the number of the
+-- seat that made an item.
 use Rattle.std.specs.Prelude.{◌≡◌, ℕ, ◌≤◌, List, ◌++◌, Contains}
 
 module _ {I : Type 0} (maker : I → ℕ) where

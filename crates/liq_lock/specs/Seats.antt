@@ -36,7 +36,8 @@ module _ {I : Type 0} where
 
   -- the seats of the lock as they were made, numbered from 1 in their order
   abbrev pub AreFresh : TableId → List (LockSeat I) → Type 0
-  AreFresh id seats = (k : ℕ) (d : LockSeat I) → k < length seats → IsFresh id (k + 1) (slice_index_or seats k d)
+  AreFresh id seats = (k : ℕ) (d : LockSeat I) → k < length seats
+      → IsFresh id (k + 1) (slice_index_or seats k d)
 
 module _ {T I : Type 0} where
   abbrev pub lock_id : Lock T I → TableId

@@ -67,7 +67,13 @@ module _ {I : Type 0} where
 
   -- the first view, with all shares
   abbrev pub opener : ℕ → View I
-  opener seats = record blank { number = 1; stands = 1 ∷ []; shares = seats; splitting = ltb 1 seats; next = 2 }
+  opener seats = record blank {
+    number = 1;
+    stands = 1 ∷ [];
+    shares = seats;
+    splitting = ltb 1 seats;
+    next = 2;
+  }
 
   abbrev pub drew : View I → ℕ → View I
   drew v t = record v { ticket = Some t }
@@ -83,10 +89,20 @@ module _ {I : Type 0} where
 
   -- a split: the view gives one share to a new view, which has the next number and has seen as much
   abbrev pub keeping : View I → View I
-  keeping v = record v { shares = v.shares - 1; splitting = ltb 1 (v.shares - 1); next = v.next + 1 }
+  keeping v = record v {
+    shares = v.shares - 1;
+    splitting = ltb 1 (v.shares - 1);
+    next = v.next + 1;
+  }
 
   abbrev pub dealt : View I → View I
-  dealt v = record v { number = v.next; stands = v.next ∷ []; shares = 1; splitting = false; next = 0 }
+  dealt v = record v {
+    number = v.next;
+    stands = v.next ∷ [];
+    shares = 1;
+    splitting = false;
+    next = 0;
+  }
 
   -- a join
   abbrev pub joined : View I → View I → View I

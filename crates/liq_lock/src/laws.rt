@@ -1,4 +1,5 @@
-//! What the rule of the lock says. The function here does nothing: it is the place where the fact of its contract is proved.
+//! What the rule of the lock says. The function here does nothing: it is the place where the fact
+//! of its contract is proved.
 
 ghost use Rattle.std.specs.Prelude.{ℕ, Option};
 ghost use Rattle.atomic_table.specs.Table.{State};

@@ -1,8 +1,9 @@
-//! A lock round a value that keeps a history, as the book of a service does: items are added and none is taken away.
+//! A lock round a value that keeps a history, as the book of a service does: items are added and
+//! none is taken away.
 //!
-//! A lock is made with a number of seats. A seat takes the value, works on it, adds items to its history and gives it
-//! back; the contracts say what a seat then knows of the one history that all seats share. Of the calls only
-//! `Lock::take` waits.
+//! A lock is made with a number of seats. A seat takes the value, works on it, adds items to its
+//! history and gives it back; the contracts say what a seat then knows of the one history that all
+//! seats share. Of the calls only `Lock::take` waits.
 #![tactic(auto)]
 
 mod chronicle;

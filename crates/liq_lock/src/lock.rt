@@ -36,7 +36,8 @@ impl<T: Chronicle + Drop> Drop for Lock<T> {
     }
 }
 
-/// A lock that was to be closed while seats were missing, with the seat and the shares that it has. Both are as they were.
+/// A lock that was to be closed while seats were missing, with the seat and the shares that it has.
+/// Both are as they were.
 #[derive(Drop)]
 pub struct StillShared<T: Chronicle> {
     pub lock: Lock<T>,

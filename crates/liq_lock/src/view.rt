@@ -1,8 +1,9 @@
-//! What a seat knows of the lock. No value of these types is made: they stand in contracts alone, and the numbers in them
-//! have no upper bound there.
+//! What a seat knows of the lock. No value of these types is made: they stand in contracts alone,
+//! and the numbers in them have no upper bound there.
 use std::collections::LinkedList;
 
-/// What a seat knew when it was joined with another: the numbers for which it stood, and what it had seen.
+/// What a seat knew when it was joined with another: the numbers for which it stood, and what it
+/// had seen.
 pub struct Past<I> {
     pub stands: LinkedList<u64>,
     pub seen: LinkedList<I>,

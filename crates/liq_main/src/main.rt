@@ -1,4 +1,5 @@
-//! The program: the top call over the real streams, and over the two disks of the directory in which it runs.
+//! The program: the top call over the real streams, and over the two disks of the directory in
+//! which it runs.
 #![tactic(auto)]
 
 use liq_files::{Outside, disks, no_disks, standard_output};
@@ -14,8 +15,9 @@ fn words(rt: &(impl Env + AllocGlobal)) -> io::Result<Vec<String>> {
     Ok(env::args(rt)?.skip(1).collect(rt.alloc())?)
 }
 
-/// The null device, once for each standard stream. A file that is opened takes the lowest descriptor that is free; so where the
-/// program was started without a stream the null device stands for it, and not a disk.
+/// The null device, once for each standard stream. A file that is opened takes the lowest
+/// descriptor that is free; so where the program was started without a stream the null device
+/// stands for it, and not a disk.
 fn streams<F: Files<File = File>>(files: &F) -> [io::Result<File>; 3] {
     [
         File::open(files, "/dev/null"),

@@ -1,4 +1,4 @@
-pub mod Forking
-pub mod Loading
-pub mod Moves
-pub mod Opening
+mod Forking
+mod Loading
+mod Moves
+mod Opening

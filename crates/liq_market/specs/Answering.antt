@@ -16,8 +16,8 @@ use Rattle.liq_rules.specs.Step.{step}
 abbrev pub numbered : ℕ → ℕ → Call → Request
 numbered client number call = Do (record { client = client; number = number; call = call })
 
--- The reply of the step, and the state after it. Or all is as before, where memory may be asked for the
--- request.
+-- The reply of the step, and the state after it. Or all is as before, where memory may be asked for
+-- the request.
 abbrev pub Answers : State → Request → Result Reply NoMemory → Core → Type 0
 Answers s request (Ok reply) core = StandsFor core (step s request).0 × ((step s request).1 ≡ reply)
 Answers s request (Err none) core = StandsFor core s × TakesMemory s request

@@ -37,8 +37,8 @@ pub record IsSave (bytes : List ℕ) (i : Image) (records : ℕ) : Type 0 where
 
 -- ---- loading
 
--- Of the save of an image beside its records: the market of a sound one, else the first rule that it
--- breaks.
+-- Of the save of an image beside its records: the market of a sound one, else the first rule that
+-- it breaks.
 abbrev pub LoadsAs : Image → ℕ → Result Content LoadFault → Type 0
 LoadsAs i records (Ok market) =
     (market.core.image ≡ i) × (market.core.records ≡ records) × (market.touched ≡ [])

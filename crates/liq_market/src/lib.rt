@@ -1,6 +1,6 @@
-//! A market in memory: the protocol, which answers requests one after the other by the rules, with no
-//! journal and no disks. It is forked, saved as bytes and loaded again, and tells which accounts have
-//! troves, deposits or wallets.
+//! A market in memory: the protocol, which answers requests one after the other by the rules, with
+//! no journal and no disks. It is forked, saved as bytes and loaded again, and tells which accounts
+//! have troves, deposits or wallets.
 #![tactic(auto)]
 
 pub mod laws;

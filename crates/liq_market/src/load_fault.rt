@@ -8,8 +8,8 @@ pub enum LoadFault {
     /// They are the save of no image, whatever the records beside it.
     #[error("the bytes are no save, or not as they were saved")]
     Damaged,
-    /// They are the save of an image that breaks this rule of the eleven beside its records, and none
-    /// before it: no market has it.
+    /// They are the save of an image that breaks this rule of the eleven beside its records, and
+    /// none before it: no market has it.
     #[error("the image of the save breaks rule {rule}")]
     Unsound { rule: u8 },
     /// There is no memory for the market.

@@ -71,8 +71,8 @@ impl Market {
         }
     }
 
-    /// Answers a request by the rules. `NoMemory` comes only for a command that the rules allow or for
-    /// which a list of troves is planned; then nothing changes.
+    /// Answers a request by the rules. `NoMemory` comes only for a command that the rules allow or
+    /// for which a list of troves is planned; then nothing changes.
     pub fn answer(&mut self, request: &Request) -> Result<Reply, NoMemory>
         ensures answered { (s : State) → StandsFor self.old.core s
             → Answers s request.now result self.new.core }
@@ -86,8 +86,9 @@ impl Market {
         }
     }
 
-    /// Answers a call under its client's next number, and tells which number that is. Behind 2^64 - 1 there is no next one: a
-    /// client that has come so far is told the reply of its last command again, and the call is not carried out.
+    /// Answers a call under its client's next number, and tells which number that is. Behind 2^64 -
+    /// 1 there is no next one: a client that has come so far is told the reply of its last command
+    /// again, and the call is not carried out.
     pub fn answer_next(&mut self, client: u32, call: &Call) -> (u64, Result<Reply, NoMemory>)
         ensures number { (s : State) → StandsFor self.old.core s
             → result.0 ≡ next_number s client }
@@ -113,8 +114,8 @@ impl Market {
         self.guided.query(query)
     }
 
-    /// The reply that a command would have now, which is not carried out. Only a list of troves that is
-    /// planned may find no memory.
+    /// The reply that a command would have now, which is not carried out. Only a list of troves
+    /// that is planned may find no memory.
     pub fn preview(&self, command: &Command) -> Result<Reply, NoMemory>
         ensures { (s : State) → StandsFor self.now.core s → Previews s command.now result }
     {
@@ -126,8 +127,8 @@ impl Market {
         }
     }
 
-    /// Another market with the same image, the same records and the same list. From then on each goes its
-    /// own way. The fork has touched nobody yet.
+    /// Another market with the same image, the same records and the same list. From then on each
+    /// goes its own way. The fork has touched nobody yet.
     pub fn fork(&self, alloc: Global) -> Result<Market, NoMemory>
         ensures same { IfOk result (λ fork. SameContent self.now.core fork.core) }
         ensures untouched { IfOk result (λ fork. fork.touched ≡ []) }
@@ -157,8 +158,8 @@ impl Market {
         AROUND + protocol.checkpoint_length()
     }
 
-    /// Its save: bytes that [`Market::load`] makes the same market of. Markets with the same image and the
-    /// same records have the same bytes.
+    /// Its save: bytes that [`Market::load`] makes the same market of. Markets with the same image
+    /// and the same records have the same bytes.
     pub fn save(&self, alloc: Global) -> Result<Vec<u8>, NoMemory>
         ensures { IfOk result (λ bytes.
             IsSave bytes.items self.now.core.image self.now.core.records) }
@@ -192,9 +193,9 @@ impl Market {
         }
     }
 
-    /// Writes the accounts of a list into places, but not the first `passed` of them: as many as there are
-    /// places for. The other places stay. Tells how many accounts the list has. Deposits and wallets may
-    /// find no memory, and nothing is written then.
+    /// Writes the accounts of a list into places, but not the first `passed` of them: as many as
+    /// there are places for. The other places stay. Tells how many accounts the list has. Deposits
+    /// and wallets may find no memory, and nothing is written then.
     pub fn accounts(
         &self,
         list: AccountList,

@@ -1,5 +1,5 @@
-//! The bytes of a save: a name, the count of the records, the image as a checkpoint spells it, and the
-//! SHA-256 of all that is before it.
+//! The bytes of a save: a name, the count of the records, the image as a checkpoint spells it, and
+//! the SHA-256 of all that is before it.
 
 ghost use Rattle.std.specs.Prelude.{◌≡◌, ◌<◌, ◌^◌, ℕ, List, length, Ok, IfOk, IfSome, IsSomeAnd};
 ghost use Rattle.std.specs.Str.{bytes_eq};

@@ -10,8 +10,8 @@ use liq_types::{Call, ListChange};
 /// The most accounts that a call names.
 pub(crate) const NAMED_MOST: usize = 2;
 
-/// Writes down whom a call touches that changes the list so, in place of those who stand there. There
-/// is room for them.
+/// Writes down whom a call touches that changes the list so, in place of those who stand there.
+/// There is room for them.
 pub(crate) fn note(all: &mut Vec<u32>, call: &Call, changes: &[ListChange])
     requires { NAMED_MOST + length changes.now ≤ vec_capacity all.old }
     ensures { all.new.items ≡ touched call.now changes.now }

@@ -23,7 +23,8 @@ pub squared-suc : (x k : ℕ) → squared x (suc k) ≡ rounded_product (squared
 unfolding squared
 squared-suc x k = refl
 
-pub digits_product-one : (x n k : ℕ) → n / 2 ^ k % 2 ≡ 1 → digits_product x n (suc k) ≡ rounded_product (squared x k) (digits_product x n k)
+pub digits_product-one : (x n k : ℕ) → n / 2 ^ k % 2 ≡ 1 → digits_product x n (suc k)
+    ≡ rounded_product (squared x k) (digits_product x n k)
 unfolding digits_product
 digits_product-one x n k e = rw e refl
 
@@ -36,7 +37,8 @@ digit_cases : (m : ℕ) → (m % 2 ≡ 0) ⊎ (m % 2 ≡ 1)
 digit_cases m = elim (cases_lt (m % 2) 1) [ inl h ↦ inl (omega arith) | inr h ↦ inr (omega arith) ]
 
 -- one more place of each of two powers, where digits, squares and lower products agree
-next_place : (x z m n j k : ℕ) → m / 2 ^ j % 2 ≡ n / 2 ^ k % 2 → squared x j ≡ squared z k → digits_product x m j ≡ digits_product z n k → digits_product x m (suc j) ≡ digits_product z n (suc k)
+next_place : (x z m n j k : ℕ) → m / 2 ^ j % 2 ≡ n / 2 ^ k % 2 → squared x j ≡ squared z k
+    → digits_product x m j ≡ digits_product z n k → digits_product x m (suc j) ≡ digits_product z n (suc k)
 next_place x z m n j k digit square lower =
     elim (digit_cases (n / 2 ^ k)) [
       | inl none ↦ digits_product-zero x m j (digit ∙ none) ∙ (lower ∙ sym (digits_product-zero z n k none))
@@ -54,7 +56,8 @@ digits_product-past x n k (suc j) h =
     let further : 2 ^ k ≤ 2 ^ (j + k) = pow-le-pow_right (omega arith) (omega arith) in
     let none : n / 2 ^ (j + k) ≡ 0 = div-eq_of_lt (omega arith) in
     let next : suc j + k ≡ suc (j + k) = omega arith in
-    ap (λ i. digits_product x n i) next ∙ (digits_product-zero x n (j + k) (rw none refl) ∙ digits_product-past x n k j h)
+    ap (λ i. digits_product x n i) next ∙ (digits_product-zero x n (j + k) (rw none refl)
+    ∙ digits_product-past x n k j h)
 
 -- enough places give the same, however many they are
 pub digits_product-enough : (x n j k : ℕ) → n < 2 ^ j → n < 2 ^ k → digits_product x n j ≡ digits_product x n k
@@ -90,7 +93,8 @@ digits_product-lower x a n (suc k) =
     ap (λ m. digits_product x m (suc k)) moved
     ∙ next_place x x (n + a * 2 * 2 ^ k) n k k (same_digit a n k) refl (digits_product-lower x (a * 2) n k)
 
-digits_product-top : (x n k : ℕ) → n < 2 ^ k → digits_product x (2 ^ k + n) (suc k) ≡ rounded_product (squared x k) (digits_product x n k)
+digits_product-top : (x n k : ℕ) → n < 2 ^ k → digits_product x (2 ^ k + n) (suc k)
+    ≡ rounded_product (squared x k) (digits_product x n k)
 digits_product-top x n k h =
     let moved : 2 ^ k + n ≡ n + 1 * 2 ^ k = omega arith in
     let highest : (n + 1 * 2 ^ k) / 2 ^ k ≡ n / 2 ^ k + 1 = add-mul-div_right n 1 (pow_pos k) in
@@ -111,14 +115,16 @@ power_of-digit x k most =
     ∙ (digits_product-top x 0 k (pow_pos k)
     ∙ (ap (λ r. rounded_product (squared x k) r) (digits_product-none x k) ∙ rounded_product-whole (squared x k))))
 
-pub power_of-next_digit : (x k : ℕ) → 2 ^ (k + 1) ≤ MOST_MINUTES → power_of x (2 ^ (k + 1)) ≡ rounded_product (power_of x (2 ^ k)) (power_of x (2 ^ k))
+pub power_of-next_digit : (x k : ℕ) → 2 ^ (k + 1) ≤ MOST_MINUTES → power_of x (2 ^ (k + 1))
+    ≡ rounded_product (power_of x (2 ^ k)) (power_of x (2 ^ k))
 power_of-next_digit x k most =
     let here : 2 ^ k ≤ 2 ^ (k + 1) = pow-le-pow_right (lit< tt) (omega arith) in
     power_of-digit x (k + 1) most
     ∙ (ap (λ i. squared x i) (add-one k)
     ∙ (squared-suc x k ∙ ap (λ r. rounded_product r r) (sym (power_of-digit x k (le_trans here most)))))
 
-pub power_of-digit_on_top : (x k n : ℕ) → n < 2 ^ k → 2 ^ k + n ≤ MOST_MINUTES → power_of x (2 ^ k + n) ≡ rounded_product (power_of x (2 ^ k)) (power_of x n)
+pub power_of-digit_on_top : (x k n : ℕ) → n < 2 ^ k → 2 ^ k + n ≤ MOST_MINUTES
+    → power_of x (2 ^ k + n) ≡ rounded_product (power_of x (2 ^ k)) (power_of x n)
 power_of-digit_on_top x k n h most =
     let below : 2 ^ k + n < 2 ^ suc k = rw pow-suc (omega arith) in
     let top : power_of x (2 ^ k) ≡ squared x k = power_of-digit x k (omega arith) in
@@ -134,7 +140,8 @@ squared-first : (x k : ℕ) → squared x (suc k) ≡ squared (rounded_product x
 unfolding squared
 squared-first x zero = refl
 squared-first x (suc k) =
-    squared-suc x (suc k) ∙ (ap (λ r. rounded_product r r) (squared-first x k) ∙ sym (squared-suc (rounded_product x x) k))
+    squared-suc x (suc k) ∙ (ap (λ r. rounded_product r r) (squared-first x k)
+    ∙ sym (squared-suc (rounded_product x x) k))
 
 digits_product-doubled : (x n k : ℕ) → digits_product x (2 * n) (suc k) ≡ digits_product (rounded_product x x) n k
 unfolding digits_product
@@ -143,7 +150,8 @@ digits_product-doubled x n zero =
     digits_product-zero x (2 * n) 0 even
 digits_product-doubled x n (suc k) =
     let halved : 2 * n / 2 ^ suc k ≡ n / 2 ^ k = rw (pow-succ' 2 k) (mul-div-mul_left n (2 ^ k) (lit< tt)) in
-    next_place x (rounded_product x x) (2 * n) n (suc k) k (ap (λ q. q % 2) halved) (squared-first x k) (digits_product-doubled x n k)
+    next_place x (rounded_product x x) (2 * n) n (suc k) k (ap (λ q. q % 2) halved) (squared-first x k)
+    (digits_product-doubled x n k)
 
 pub power_of-doubled : (x n : ℕ) → 2 * n ≤ MOST_MINUTES → power_of x (2 * n) ≡ power_of (rounded_product x x) n
 power_of-doubled x n most =
@@ -171,7 +179,8 @@ digits_product-le x n (suc k) h =
     let was : digits_product x n k ≤ ONE = digits_product-le x n k h in
     elim (digit_cases (n / 2 ^ k)) [
       | inl none ↦ rw (digits_product-zero x n k none) was
-      | inr some ↦ rw (digits_product-one x n k some) (le_trans (rounded_product-le (squared x k) (digits_product x n k) (squared-le x k h)) was)
+      | inr some ↦ rw (digits_product-one x n k some) (le_trans (rounded_product-le (squared x k) (digits_product x n k)
+          (squared-le x k h)) was)
     ]
 
 pub power_of-le : (x n : ℕ) → x ≤ ONE → power_of x n ≤ ONE
@@ -183,7 +192,8 @@ unfolding squared
 squared-mono x p zero h = h
 squared-mono x p (suc k) h =
     let was : squared x k ≤ squared p k = squared-mono x p k h in
-    rw (squared-suc x k, squared-suc p k) (rounded_product-mono (squared x k) (squared x k) (squared p k) (squared p k) was was)
+    rw (squared-suc x k, squared-suc p k) (rounded_product-mono (squared x k) (squared x k) (squared p k)
+    (squared p k) was was)
 
 digits_product-mono : (x p n k : ℕ) → x ≤ p → digits_product x n k ≤ digits_product p n k
 unfolding digits_product
@@ -194,7 +204,8 @@ digits_product-mono x p n (suc k) h =
       | inl none ↦ rw (digits_product-zero x n k none, digits_product-zero p n k none) was
       | inr some ↦
           rw (digits_product-one x n k some, digits_product-one p n k some)
-          (rounded_product-mono (squared x k) (digits_product x n k) (squared p k) (digits_product p n k) (squared-mono x p k h) was)
+          (rounded_product-mono (squared x k) (digits_product x n k) (squared p k) (digits_product p n k)
+          (squared-mono x p k h) was)
     ]
 
 pub power_of-mono : (x p n : ℕ) → x ≤ p → power_of x n ≤ power_of p n

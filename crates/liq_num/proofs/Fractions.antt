@@ -9,7 +9,8 @@ use Rattle.std.proofs.Math.Nat.{mul-lt-mul_of_pos_left, lt_of_mul-lt-mul_right, 
 use Rattle.std.proofs.lemmas.Bool.{cases_lt}
 use Rattle.liq_num.specs.Ratio.{ratio_order, IsBelow}
 
-scaled_match : (s a b : ℕ) (r : Ordering) → 0 < s → MatchOrdering r (a < b) (a ≡ b) (b < a) → MatchOrdering r (s * a < s * b) (s * a ≡ s * b) (s * b < s * a)
+scaled_match : (s a b : ℕ) (r : Ordering) → 0 < s → MatchOrdering r (a < b) (a ≡ b) (b < a)
+    → MatchOrdering r (s * a < s * b) (s * a ≡ s * b) (s * b < s * a)
 scaled_match s a b Less p h = mul-lt-mul_of_pos_left h p
 scaled_match s a b Equal p h = ap (λ n. s * n) h
 scaled_match s a b Greater p h = mul-lt-mul_of_pos_left h p
@@ -19,7 +20,8 @@ nat_cmp-scaled : (s a b : ℕ) → 0 < s → nat_cmp (s * a) (s * b) ≡ nat_cmp
 nat_cmp-scaled s a b p =
     sym (nat_cmp_is (s * a) (s * b) (nat_cmp a b) (scaled_match s a b (nat_cmp a b) p (ranked a b (nat_cmp a b) refl)))
 
-pub ratio_order-expanded : (c1 d1 c2 d2 k m : ℕ) → 0 < k → 0 < m → ratio_order (k * c1) (k * d1) (m * c2) (m * d2) ≡ ratio_order c1 d1 c2 d2
+pub ratio_order-expanded : (c1 d1 c2 d2 k m : ℕ) → 0 < k → 0 < m → ratio_order (k * c1) (k * d1) (m * c2) (m * d2)
+    ≡ ratio_order c1 d1 c2 d2
 ratio_order-expanded c1 d1 c2 d2 k m p q =
     let one : k * c1 * (m * d2) ≡ k * m * (c1 * d2) = mul-mul-mul_comm k c1 m d2 in
     let two : m * c2 * (k * d1) ≡ k * m * (c2 * d1) = rw (← mul_comm k m) at (mul-mul-mul_comm m c2 k d1) in
@@ -42,7 +44,8 @@ IsBelow_trans c1 d1 c2 d2 c3 d3 h g =
     let second : c2 * d3 * d1 < c3 * d2 * d1 = mul-lt-mul_of_pos_right g some in
     lt_of_mul-lt-mul_right d2 (omega arith)
 
-pub ratio_order-equal_alike : (c1 d1 c2 d2 c3 d3 : ℕ) → 0 < d1 → 0 < d2 → ratio_order c1 d1 c2 d2 ≡ Equal → ratio_order c1 d1 c3 d3 ≡ ratio_order c2 d2 c3 d3
+pub ratio_order-equal_alike : (c1 d1 c2 d2 c3 d3 : ℕ) → 0 < d1 → 0 < d2 → ratio_order c1 d1 c2 d2 ≡ Equal
+    → ratio_order c1 d1 c3 d3 ≡ ratio_order c2 d2 c3 d3
 ratio_order-equal_alike c1 d1 c2 d2 c3 d3 p q e =
     let same : c1 * d2 ≡ c2 * d1 = ranked (c1 * d2) (c2 * d1) Equal (sym e) in
     let turned : d2 * c1 ≡ d1 * c2 = omega arith in
@@ -56,12 +59,14 @@ pub IsBelow_shown : (c1 d1 c2 d2 s : ℕ) → 0 < d1 → 0 < d2 → c1 * s / d1 
 IsBelow_shown c1 d1 c2 d2 s p q h =
     let first : c1 * s < (c1 * s / d1 + 1) * d1 = omega (arith, lt-div-mul-add {a = c1 * s} p) in
     let second : c2 * s / d2 * d2 ≤ c2 * s = div-mul-le_self (c2 * s) d2 in
-    let over : (c1 * s / d1 + 1) * d1 * d2 ≤ c2 * s / d2 * d1 * d2 = mul-le-mul_right d2 (mul-le-mul_right d1 (omega arith)) in
+    let over : (c1 * s / d1 + 1) * d1 * d2 ≤ c2 * s / d2 * d1 * d2 =
+    mul-le-mul_right d2 (mul-le-mul_right d1 (omega arith)) in
     let left : c1 * s * d2 < (c1 * s / d1 + 1) * d1 * d2 = mul-lt-mul_of_pos_right first q in
     let right : c2 * s / d2 * d2 * d1 ≤ c2 * s * d1 = mul-le-mul_right d1 second in
     lt_of_mul-lt-mul_right s (omega arith)
 
-pub IsBelow_at_debts : (c1 d1 c2 d2 : ℕ) → 0 < d1 → 0 < d2 → IsBelow c1 d1 c2 d2 → c1 * (d1 * d2) / d1 < c2 * (d1 * d2) / d2
+pub IsBelow_at_debts : (c1 d1 c2 d2 : ℕ) → 0 < d1 → 0 < d2 → IsBelow c1 d1 c2 d2
+    → c1 * (d1 * d2) / d1 < c2 * (d1 * d2) / d2
 IsBelow_at_debts c1 d1 c2 d2 p q h =
     let first : c1 * (d1 * d2) / d1 ≡ c1 * d2 = div-eq_of_eq-mul_left p (omega arith) in
     let second : c2 * (d1 * d2) / d2 ≡ c2 * d1 = div-eq_of_eq-mul_left q (omega arith) in

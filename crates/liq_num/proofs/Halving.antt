@@ -30,11 +30,13 @@ halvings-enough n (suc k) h =
     let half : n / 2 < 2 ^ k = omega (arith, pow-suc 2 k) in
     elim (cases_lt 1 n) [
       | inl more ↦
-          halvings-more n (suc k) more ∙ (ap (λ m. suc m) (halvings-enough (n / 2) k half) ∙ sym (halvings-more n k more))
+          halvings-more n (suc k) more ∙ (ap (λ m. suc m) (halvings-enough (n / 2) k half)
+          ∙ sym (halvings-more n k more))
       | inr low ↦ halvings-ended n (suc (suc k)) low ∙ sym (halvings-ended n (suc k) low)
     ]
 
 pub turns_of-more : (n : ℕ) → 1 < n → n < 2 ^ 64 → turns_of n ≡ turns_of (n / 2) + 1
 unfolding turns_of
 turns_of-more n h fits =
-    halvings-more n 63 h ∙ (ap (λ m. suc m) (sym (halvings-enough (n / 2) 63 (omega arith))) ∙ sym (add-one (halvings (n / 2) 64)))
+    halvings-more n 63 h ∙ (ap (λ m. suc m) (sym (halvings-enough (n / 2) 63 (omega arith)))
+    ∙ sym (add-one (halvings (n / 2) 64)))

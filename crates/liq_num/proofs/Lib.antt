@@ -1,5 +1,5 @@
 pub mod Digits
-pub mod Squaring
-pub mod Halving
-pub mod Fractions
+mod Squaring
+mod Halving
+mod Fractions
 pub mod Floors

@@ -28,7 +28,8 @@ pub turned_first : (x n : ℕ) → IsTurned x n x ONE n
 unfolding squared digits_product
 turned_first x n = record { turns = 0; square_is = refl; product_is = refl; left_is = sym (div-one n) }
 
-pub turned_odd : (x n s p l : ℕ) → IsTurned x n s p l → l % 2 ≡ 1 → IsTurned x n (rounded_product s s) (rounded_product s p) (l / 2)
+pub turned_odd : (x n s p l : ℕ) → IsTurned x n s p l → l % 2 ≡ 1
+    → IsTurned x n (rounded_product s s) (rounded_product s p) (l / 2)
 turned_odd x n s p l was odd =
     let digit : n / 2 ^ was.turns % 2 ≡ 1 = rw (← was.left_is) odd in
     let onto : rounded_product s p ≡ rounded_product (squared x was.turns) (digits_product x n was.turns) =
@@ -52,7 +53,8 @@ turned_even x n s p l was even =
     }
 
 -- once one is left, the last product takes in the highest digit
-pub turned_last : (x n s p l : ℕ) → IsTurned x n s p l → l ≡ 1 → n < 2 ^ 30 → rounded_product s p ≡ digits_product x n 30
+pub turned_last : (x n s p l : ℕ) → IsTurned x n s p l → l ≡ 1 → n < 2 ^ 30
+    → rounded_product s p ≡ digits_product x n 30
 turned_last x n s p l was last few =
     let t = was.turns in
     let one_left : n / 2 ^ t ≡ 1 = sym was.left_is ∙ last in

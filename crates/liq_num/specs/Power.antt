@@ -15,8 +15,8 @@ squared x (suc k) = let square = squared x k in rounded_product square square
 abbrev pub has_digit : ℕ → ℕ → Bool
 has_digit n k = n / 2 ^ k % 2 == 1
 
--- The product of x's squares at the digits 1 of n, over the k lowest places: the square of a place is multiplied
--- onto what the lower places give.
+-- The product of x's squares at the digits 1 of n, over the k lowest places: the square of a place
+-- is multiplied onto what the lower places give.
 unfoldable pub digits_product : ℕ → ℕ → ℕ → ℕ
 digits_product x n zero = ONE
 digits_product x n (suc k) =

@@ -1,5 +1,6 @@
-//! The numbers that every rule rests on: exact quotients of products, decimal fractions and their powers, and the
-//! exact comparisons of ratios. Nothing here takes memory, and no intermediate number leaves 128 bits.
+//! The numbers that every rule rests on: exact quotients of products, decimal fractions and their
+//! powers, and the exact comparisons of ratios. Nothing here takes memory, and no intermediate
+//! number leaves 128 bits.
 #![tactic(auto)]
 
 pub mod laws;

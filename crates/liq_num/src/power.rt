@@ -9,7 +9,8 @@ pub const ONE: u64 = 1_000_000_000_000_000_000;
 /// Half of the whole, which a product adds before it is rounded down.
 pub const HALF: u64 = 500_000_000_000_000_000;
 
-/// The most minutes that a power counts, a thousand years of 365 days: a greater exponent counts as this one.
+/// The most minutes that a power counts, a thousand years of 365 days: a greater exponent counts as
+/// this one.
 pub const MOST_MINUTES: u64 = 525_600_000;
 
 /// The product of two fractions, both over `ONE`, rounded to the nearest; a half is rounded up.
@@ -22,8 +23,8 @@ pub fn dec_mul(x: u64, y: u64) -> u64
     in_ones(u128::from(x) * u128::from(y) + u128::from(HALF)) as u64
 }
 
-/// The fraction `x`, over `ONE`, to the power of `n` minutes, by repeated squaring from the lowest binary digit of `n`.
-/// Each product is rounded in turn, which fixes the last digits of the answer.
+/// The fraction `x`, over `ONE`, to the power of `n` minutes, by repeated squaring from the lowest
+/// binary digit of `n`. Each product is rounded in turn, which fixes the last digits of the answer.
 pub fn dec_pow(x: u64, n: u64) -> u64
     requires { x ≤ ONE }
     ensures power { result ≡ power_of x n }

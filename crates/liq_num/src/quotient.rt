@@ -12,7 +12,8 @@ pub fn mul_div(a: u128, b: u128, c: u128) -> u128
     requires product_fits { a * b < 2 ^ 128 }
     ensures { result ≡ floor_of a b c }
 {
-    // A division takes many times as long as these tests, which answer the commonest quotients: of a whole, and of nothing.
+    // A division takes many times as long as these tests, which answer the commonest quotients: of
+    // a whole, and of nothing.
     if b == c {
         return a;
     }
@@ -35,8 +36,9 @@ pub fn mul_div_up(a: u128, b: u128, c: u128) -> u128
     (a * b).div_ceil(c)
 }
 
-/// How often `ONE` is in a number: `x / ONE`, for which a processor takes several times as long. Of a number below 2^123 the
-/// guess by one product, over 2^59 and 2^64, is right or one or two too low.
+/// How often `ONE` is in a number: `x / ONE`, for which a processor takes several times as long. Of
+/// a number below 2^123 the guess by one product, over 2^59 and 2^64, is right or one or two too
+/// low.
 pub(crate) fn in_ones(x: u128) -> u128
     ensures { result ≡ x / ONE }
 {

@@ -3,11 +3,12 @@ ghost use Rattle.liq_num.specs.Ratio.{ratio_order, IsBelowPercent};
 
 use std::cmp::Ordering;
 
-/// Collateral is counted in gwei, and a price is in micro-LUSD for a whole ETH: so many gwei make one.
+/// Collateral is counted in gwei, and a price is in micro-LUSD for a whole ETH: so many gwei make
+/// one.
 pub const GWEI_PER_ETH: u64 = 1_000_000_000;
 
-/// Collateral (gwei) at a price (micro-LUSD per ETH) beside `percent` hundredths of a debt (micro-LUSD): what it is worth, and
-/// what they ask for, over the same denominator.
+/// Collateral (gwei) at a price (micro-LUSD per ETH) beside `percent` hundredths of a debt
+/// (micro-LUSD): what it is worth, and what they ask for, over the same denominator.
 pub fn ratio_sides(coll: u64, debt: u64, price: u64, percent: u64) -> (u128, u128)
     requires price_limit { price ≤ 10 ^ 12 }
     requires percent_limit { percent ≤ 150 }
@@ -19,8 +20,8 @@ pub fn ratio_sides(coll: u64, debt: u64, price: u64, percent: u64) -> (u128, u12
     (worth, asked)
 }
 
-/// Whether collateral (gwei) at a price (micro-LUSD per ETH) is worth less than `percent` hundredths of a debt
-/// (micro-LUSD).
+/// Whether collateral (gwei) at a price (micro-LUSD per ETH) is worth less than `percent`
+/// hundredths of a debt (micro-LUSD).
 pub fn ratio_below(coll: u64, debt: u64, price: u64, percent: u64) -> bool
     requires price_limit { price ≤ 10 ^ 12 }
     requires percent_limit { percent ≤ 150 }

@@ -15,23 +15,28 @@ use Rattle.liq_order.proofs.Kept.{along_order}
 
 -- ---- one more
 
-pub chained_more : (n i : ℕ) (es : List Ranked) (e : Ranked) → chained n i (es ++ e ∷ []) ≡ chained n i es ++ chained_node n (i + length es) e ∷ []
+pub chained_more : (n i : ℕ) (es : List Ranked) (e : Ranked) → chained n i (es ++ e ∷ []) ≡ chained n i es
+    ++ chained_node n (i + length es) e ∷ []
 chained_more n i [] e = ap (λ k. chained_node n k e ∷ []) (zero_more i) where
   zero_more : (k : ℕ) → k ≡ k + 0
   zero_more k = omega arith
-chained_more n i (f ∷ fs) e = ap (λ l. chained_node n i f ∷ l) (chained_more n (suc i) fs e ∙ ap (λ k. chained n (suc i) fs ++ chained_node n k e ∷ []) (moved i (length fs))) where
-  moved : (k l : ℕ) → suc k + l ≡ k + suc l
-  moved k l = omega arith
+chained_more n i (f ∷ fs) e = ap (λ l. chained_node n i f ∷ l) (chained_more n (suc i) fs e
+    ∙ ap (λ k. chained n (suc i) fs ++ chained_node n k e ∷ []) (moved i (length fs))) where
+      moved : (k l : ℕ) → suc k + l ≡ k + suc l
+      moved k l = omega arith
 
-pub rows_from_more : (i : ℕ) (es : List Ranked) (e : Ranked) → rows_from i (es ++ e ∷ []) ≡ rows_from i es ++ (e.1, record { 0 = i + length es }) ∷ []
+pub rows_from_more : (i : ℕ) (es : List Ranked) (e : Ranked) → rows_from i (es ++ e ∷ []) ≡ rows_from i es
+    ++ (e.1, record { 0 = i + length es }) ∷ []
 rows_from_more i [] e = ap (λ k. (e.1, record { 0 = k }) ∷ []) (zero_more i) where
   zero_more : (k : ℕ) → k ≡ k + 0
   zero_more k = omega arith
-rows_from_more i (f ∷ fs) e = ap (λ l. (f.1, record { 0 = i }) ∷ l) (rows_from_more (suc i) fs e ∙ ap (λ k. rows_from (suc i) fs ++ (e.1, record { 0 = k }) ∷ []) (moved i (length fs))) where
-  moved : (k l : ℕ) → suc k + l ≡ k + suc l
-  moved k l = omega arith
+rows_from_more i (f ∷ fs) e = ap (λ l. (f.1, record { 0 = i }) ∷ l) (rows_from_more (suc i) fs e
+    ∙ ap (λ k. rows_from (suc i) fs ++ (e.1, record { 0 = k }) ∷ []) (moved i (length fs))) where
+      moved : (k l : ℕ) → suc k + l ≡ k + suc l
+      moved k l = omega arith
 
-pub chained_next : (n at : ℕ) (es : List Ranked) (d : Ranked) → at < length es → chained n 0 (take at es) ++ chained_node n at (get_or es at d) ∷ [] ≡ chained n 0 (take (at + 1) es)
+pub chained_next : (n at : ℕ) (es : List Ranked) (d : Ranked) → at < length es
+    → chained n 0 (take at es) ++ chained_node n at (get_or es at d) ∷ [] ≡ chained n 0 (take (at + 1) es)
 chained_next n at es d less =
     let long : 0 + length (take at es) ≡ at = omega (arith, length-take-le at es (omega (arith, less))) in
     let next : suc at ≡ at + 1 = omega arith in
@@ -39,7 +44,9 @@ chained_next n at es d less =
     ∙ sym (chained_more n 0 (take at es) (get_or es at d))
     ∙ ap (λ l. chained n 0 l) (sym (take-suc es at d less) ∙ ap (λ k. take k es) next)
 
-pub rows_from_next : (at : ℕ) (es : List Ranked) (d : Ranked) → at < length es → (rows : List Row) → rows ≡ rows_from 0 (take at es) → rows ++ ((get_or es at d).1, record { 0 = at }) ∷ [] ≡ rows_from 0 (take (at + 1) es)
+pub rows_from_next : (at : ℕ) (es : List Ranked) (d : Ranked) → at < length es → (rows : List Row)
+    → rows ≡ rows_from 0 (take at es) → rows ++ ((get_or es at d).1, record { 0 = at }) ∷ []
+    ≡ rows_from 0 (take (at + 1) es)
 rows_from_next at es d less rows so_far =
     let long : 0 + length (take at es) ≡ at = omega (arith, length-take-le at es (omega (arith, less))) in
     let next : suc at ≡ at + 1 = omega arith in
@@ -92,16 +99,20 @@ abbrev IsChained : Memory → ℕ → ℕ → List Ranked → Type 0
 IsChained f n i [] = Unit {0}
 IsChained f n i (e ∷ es) = (f (record { 0 = i }) ≡ chained_node n i e) × IsChained f n (suc i) es
 
-is_chained : (nodes front : List Node) (n i : ℕ) (es : List Ranked) → nodes ≡ front ++ chained n i es → length front ≡ i → IsChained (memory nodes) n i es
+is_chained : (nodes front : List Node) (n i : ℕ) (es : List Ranked) → nodes ≡ front ++ chained n i es → length front ≡ i
+    → IsChained (memory nodes) n i es
 is_chained nodes front n i [] whole long = tt
 is_chained nodes front n i (e ∷ es) whole long =
     let node = chained_node n i e in
     let more : length (front ++ node ∷ []) ≡ suc i = length-append front (node ∷ []) ∙ omega (arith, long) in (
-      ap (λ (l : List Node). memory l (record { 0 = i })) whole ∙ get_or_at front node (chained n (suc i) es) nobody i long,
-      is_chained nodes (front ++ node ∷ []) n (suc i) es (whole ∙ sym (append_assoc front (node ∷ []) (chained n (suc i) es))) more,
+      ap (λ (l : List Node). memory l (record { 0 = i })) whole
+          ∙ get_or_at front node (chained n (suc i) es) nobody i long,
+      is_chained nodes (front ++ node ∷ []) n (suc i) es (whole
+          ∙ sym (append_assoc front (node ∷ []) (chained n (suc i) es))) more,
     )
 
-chained_linked : (f : Memory) (n i : ℕ) (es : List Ranked) → i + length es ≡ n → IsChained f n i es → Linked f (before i) (numbered i es) None
+chained_linked : (f : Memory) (n i : ℕ) (es : List Ranked) → i + length es ≡ n → IsChained f n i es
+    → Linked f (before i) (numbered i es) None
 chained_linked f n i [] all h = tt
 chained_linked f n i (e ∷ es) all h =
     let rest : suc i + length es ≡ n = omega (arith, all) in (
@@ -113,24 +124,31 @@ chained_linked f n i (e ∷ es) all h =
 chained_entries : (f : Memory) (n i : ℕ) (es : List Ranked) → IsChained f n i es → entries_at f (numbered i es) ≡ es
 chained_entries f n i [] h = refl
 chained_entries f n i (e ∷ es) h =
-    ap (λ (node : Node). entry_of node ∷ entries_at f (numbered (suc i) es)) h.0 ∙ ap (λ l. e ∷ l) (chained_entries f n (suc i) es h.1)
+    ap (λ (node : Node). entry_of node ∷ entries_at f (numbered (suc i) es)) h.0
+    ∙ ap (λ l. e ∷ l) (chained_entries f n (suc i) es h.1)
 
-chained_told : (f : Memory) (n i : ℕ) (es : List Ranked) → IsChained f n i es → (account : ℕ) → row_of (rows_from i es) account ≡ node_of f (numbered i es) account
+chained_told : (f : Memory) (n i : ℕ) (es : List Ranked) → IsChained f n i es → (account : ℕ)
+    → row_of (rows_from i es) account ≡ node_of f (numbered i es) account
 chained_told f n i [] h account = refl
 chained_told f n i (e ∷ es) h account =
     ap (λ o. cond (e.1 == account) (Some (record { 0 = i })) o) (chained_told f n (suc i) es h.1 account)
-    ∙ ap (λ (node : Node). cond (node.account == account) (Some (record { 0 = i })) (node_of f (numbered (suc i) es) account)) (sym h.0)
+    ∙ ap (λ (node : Node). cond (node.account == account) (Some (record { 0 = i }))
+    (node_of f (numbered (suc i) es) account)) (sym h.0)
 
 -- ---- all together
 
 -- the places to which one comes along the links are those of the entries
-pub record Chain (es : List Ranked) (nodes : List Node) (place : ℕ → Option NodeNo) (first last : Option NodeNo) : Type 0 where
+pub record Chain (es : List Ranked) (nodes : List Node) (place : ℕ → Option NodeNo) (first last : Option NodeNo) :
+    Type 0 where
   pub ring : IsRing nodes (come nodes first) [] place first last
   pub listed : entries_at (memory nodes) (come nodes first) ≡ es
   pub long : length (come nodes first) ≡ length es
   pub nodes_long : length nodes ≡ length es
 
-pub chain : (es : List Ranked) (nodes : List Node) (place : ℕ → Option NodeNo) (first last : Option NodeNo) → IsAscending es → AreDistinct es → nodes ≡ chained (length es) 0 es → ((account : ℕ) → place account ≡ row_of (rows_from 0 es) account) → first ≡ below (length es) 0 → last ≡ before (length es) → Chain es nodes place first last
+pub chain : (es : List Ranked) (nodes : List Node) (place : ℕ → Option NodeNo) (first last : Option NodeNo)
+    → IsAscending es → AreDistinct es → nodes ≡ chained (length es) 0 es
+    → ((account : ℕ) → place account ≡ row_of (rows_from 0 es) account) → first ≡ below (length es) 0
+    → last ≡ before (length es) → Chain es nodes place first last
 chain es nodes place first last up apart made told first_is last_is =
     let n = length es in
     let f = memory nodes in

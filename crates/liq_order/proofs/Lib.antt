@@ -1,16 +1,16 @@
-pub mod Chained
-pub mod Chains
+mod Chained
+mod Chains
 pub mod Changed
 pub mod Found
-pub mod Kept
+mod Kept
 pub mod Listing
-pub mod Marks
-pub mod Placed
+mod Marks
+mod Placed
 pub mod Present
 pub mod Ranking
-pub mod Rising
-pub mod Rows
-pub mod Seen
-pub mod Sorted
+mod Rising
+mod Rows
+mod Seen
+mod Sorted
 pub mod Sorting
-pub mod Windows
+mod Windows

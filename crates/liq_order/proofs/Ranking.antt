@@ -34,7 +34,8 @@ either_first : (e f : Ranked) (list : List Ranked) → Before (rank_order f e) f
 either_first e f list = ap (λ o. Before o f e list) (rank_total.antisymm f e) ∙ by (rank_order e f) refl where
   by : (o : Ordering) → rank_order e f ≡ o → Before (ordering_reverse o) f e list ≡ Before o e f list
   by Less is = refl
-  by Equal is = ap (λ (g : Ranked). f ∷ g ∷ list) (rank_exact e f is) ∙ ap (λ (g : Ranked). g ∷ f ∷ list) (sym (rank_exact e f is))
+  by Equal is = ap (λ (g : Ranked). f ∷ g ∷ list) (rank_exact e f is)
+      ∙ ap (λ (g : Ranked). g ∷ f ∷ list) (sym (rank_exact e f is))
   by Greater is = refl
 
 first : (h : Ranked) (t : List Ranked) (f : Ranked) → is_gt (rank_order f h) ≡ false → with_ranked (h ∷ t) f ≡ f ∷ h ∷ t
@@ -44,9 +45,11 @@ first h t f n = by (rank_order f h) n where
   by Equal m = refl
   by Greater m = cc
 
-later : (h : Ranked) (t : List Ranked) (f : Ranked) → is_gt (rank_order f h) ≡ true → with_ranked (h ∷ t) f ≡ h ∷ with_ranked t f
+later : (h : Ranked) (t : List Ranked) (f : Ranked) → is_gt (rank_order f h) ≡ true
+    → with_ranked (h ∷ t) f ≡ h ∷ with_ranked t f
 later h t f n = by (rank_order f h) n where
-  by : (o : Ordering) → is_gt o ≡ true → match_ordering o (f ∷ h ∷ t) (f ∷ h ∷ t) (h ∷ with_ranked t f) ≡ h ∷ with_ranked t f
+  by : (o : Ordering) → is_gt o ≡ true → match_ordering o (f ∷ h ∷ t) (f ∷ h ∷ t) (h ∷ with_ranked t f)
+      ≡ h ∷ with_ranked t f
   by Less m = cc
   by Equal m = cc
   by Greater m = refl
@@ -57,7 +60,8 @@ greater Equal h = cc
 greater Greater h = refl
 
 -- what comes after h comes after what does not
-above : (e f h : Ranked) → is_gt (rank_order e h) ≡ false → is_gt (rank_order f h) ≡ true → is_gt (rank_order f e) ≡ true
+above : (e f h : Ranked) → is_gt (rank_order e h) ≡ false → is_gt (rank_order f h) ≡ true
+    → is_gt (rank_order f e) ≡ true
 above e f h low high = by (rank_order e h) refl low where
   less : rank_order h f ≡ Less
   less = rank_total.antisymm h f ∙ ap ordering_reverse (greater (rank_order f h) high)
@@ -70,12 +74,15 @@ above e f h low high = by (rank_order e h) refl low where
   by Equal is n = turned (rank_total.congr e h f is ∙ less)
   by Greater is n = cc
 
-both_first : (e f h : Ranked) (t : List Ranked) → is_gt (rank_order f h) ≡ false → with_ranked (e ∷ h ∷ t) f ≡ Before (rank_order f e) f e (h ∷ t)
+both_first : (e f h : Ranked) (t : List Ranked) → is_gt (rank_order f h) ≡ false → with_ranked (e ∷ h ∷ t) f
+    ≡ Before (rank_order f e) f e (h ∷ t)
 both_first e f h t n =
-    ap (λ (list : List Ranked). match_ordering (rank_order f e) (f ∷ e ∷ h ∷ t) (f ∷ e ∷ h ∷ t) (e ∷ list)) (first h t f n)
+    ap (λ (list : List Ranked). match_ordering (rank_order f e) (f ∷ e ∷ h ∷ t) (f ∷ e ∷ h ∷ t) (e ∷ list))
+    (first h t f n)
 
 -- e comes before h, and f after it
-one_first : (e f h : Ranked) (t : List Ranked) → is_gt (rank_order e h) ≡ false → is_gt (rank_order f h) ≡ true → with_ranked (with_ranked (h ∷ t) e) f ≡ with_ranked (with_ranked (h ∷ t) f) e
+one_first : (e f h : Ranked) (t : List Ranked) → is_gt (rank_order e h) ≡ false → is_gt (rank_order f h) ≡ true
+    → with_ranked (with_ranked (h ∷ t) e) f ≡ with_ranked (with_ranked (h ∷ t) f) e
 one_first e f h t low high =
     ap (λ (list : List Ranked). with_ranked list f) (first h t e low)
     ∙ later e (h ∷ t) f (above e f h low high)
@@ -87,7 +94,9 @@ one_first e f h t low high =
 swap : (list : List Ranked) (e f : Ranked) → with_ranked (with_ranked list e) f ≡ with_ranked (with_ranked list f) e
 swap [] e f = either_first e f []
 swap (h ∷ t) e f = by (is_gt (rank_order e h)) refl (is_gt (rank_order f h)) refl (swap t e f) where
-  by : (b : Bool) → is_gt (rank_order e h) ≡ b → (c : Bool) → is_gt (rank_order f h) ≡ c → with_ranked (with_ranked t e) f ≡ with_ranked (with_ranked t f) e → with_ranked (with_ranked (h ∷ t) e) f ≡ with_ranked (with_ranked (h ∷ t) f) e
+  by : (b : Bool) → is_gt (rank_order e h) ≡ b → (c : Bool) → is_gt (rank_order f h) ≡ c
+      → with_ranked (with_ranked t e) f ≡ with_ranked (with_ranked t f) e → with_ranked (with_ranked (h ∷ t) e) f
+      ≡ with_ranked (with_ranked (h ∷ t) f) e
   by false p false q more =
       ap (λ (list : List Ranked). with_ranked list f) (first h t e p)
       ∙ both_first e f h t q
@@ -103,17 +112,24 @@ swap (h ∷ t) e f = by (is_gt (rank_order e h)) refl (is_gt (rank_order f h)) r
       ∙ sym (later h (with_ranked t f) e p)
       ∙ sym (ap (λ (list : List Ranked). with_ranked list e) (later h t f q))
 
-move : (entries list : List Ranked) (e : Ranked) → fold with_ranked (with_ranked list e) entries ≡ with_ranked (fold with_ranked list entries) e
+move : (entries list : List Ranked) (e : Ranked) → fold with_ranked (with_ranked list e) entries
+    ≡ with_ranked (fold with_ranked list entries) e
 move [] list e = refl
 move (x ∷ entries) list e =
     ap (λ (l : List Ranked). fold with_ranked l entries) (swap list e x) ∙ move entries (with_ranked list x) e
 
 -- ---- a row more
 
-put_absent : (table : Table Trove) (key : ℕ) (row : Trove) (list : List Ranked) → at table key ≡ None → fold with_ranked list (ranks (put table key row)) ≡ with_ranked (fold with_ranked list (ranks table)) (key_by row, key)
+put_absent : (table : Table Trove) (key : ℕ) (row : Trove) (list : List Ranked) → at table key ≡ None
+    → fold with_ranked list (ranks (put table key row)) ≡ with_ranked (fold with_ranked list (ranks table))
+    (key_by row, key)
 put_absent [] key row list n = refl
 put_absent (e ∷ es) key row list n = by (nat_cmp key e.0) n (λ later_list. put_absent es key row later_list) where
-  by : (o : Ordering) → cond (is_eq o) (Some e.1) (at es key) ≡ None → ((later_list : List Ranked) → at es key ≡ None → fold with_ranked later_list (ranks (put es key row)) ≡ with_ranked (fold with_ranked later_list (ranks es)) (key_by row, key)) → fold with_ranked list (ranks (match_ordering o ((key, row) ∷ e ∷ es) ((e.0, row) ∷ es) (e ∷ put es key row))) ≡ with_ranked (fold with_ranked list (ranks (e ∷ es))) (key_by row, key)
+  by : (o : Ordering) → cond (is_eq o) (Some e.1) (at es key) ≡ None → ((later_list : List Ranked) → at es key ≡ None
+      → fold with_ranked later_list (ranks (put es key row)) ≡ with_ranked (fold with_ranked later_list (ranks es))
+      (key_by row, key))
+      → fold with_ranked list (ranks (match_ordering o ((key, row) ∷ e ∷ es) ((e.0, row) ∷ es) (e ∷ put es key row)))
+      ≡ with_ranked (fold with_ranked list (ranks (e ∷ es))) (key_by row, key)
   by Less m more = move (ranks (e ∷ es)) list (key_by row, key)
   by Equal m more = cc
   by Greater m more = more (with_ranked list (key_by e.1, e.0)) m
@@ -124,10 +140,12 @@ put_absent (e ∷ es) key row list n = by (nat_cmp key e.0) n (λ later_list. pu
 abbrev Away : ℕ → List Ranked → Type 0
 Away account list = AllByRecursion (λ (e : Ranked). (e.1 == account) ≡ false) list
 
-with_away : (account : ℕ) (list : List Ranked) (e : Ranked) → (e.1 == account) ≡ false → Away account list → Away account (with_ranked list e)
+with_away : (account : ℕ) (list : List Ranked) (e : Ranked) → (e.1 == account) ≡ false → Away account list
+    → Away account (with_ranked list e)
 with_away account [] e n h = (n, tt)
 with_away account (f ∷ fs) e n h = by (rank_order e f) (with_away account fs e n h.1) where
-  by : (o : Ordering) → Away account (with_ranked fs e) → Away account (match_ordering o (e ∷ f ∷ fs) (e ∷ f ∷ fs) (f ∷ with_ranked fs e))
+  by : (o : Ordering) → Away account (with_ranked fs e)
+      → Away account (match_ordering o (e ∷ f ∷ fs) (e ∷ f ∷ fs) (f ∷ with_ranked fs e))
   by Less more = (n, h)
   by Equal more = (n, h)
   by Greater more = (h.0, more)
@@ -135,12 +153,20 @@ with_away account (f ∷ fs) e n h = by (rank_order e f) (with_away account fs e
 not_key : (a b : ℕ) → is_eq (nat_cmp a b) ≡ false → (b == a) ≡ false
 not_key a b h = ne_eqb b a (λ same. eqb-false a b (sym (nat_cmp-eq a b) ∙ h) (sym same))
 
-all_away : (account : ℕ) (table : Table Trove) (list : List Ranked) → at table account ≡ None → Away account list → Away account (fold with_ranked list (ranks table))
+all_away : (account : ℕ) (table : Table Trove) (list : List Ranked) → at table account ≡ None → Away account list
+    → Away account (fold with_ranked list (ranks table))
 all_away account [] list n h = h
-all_away account (e ∷ es) list n h = by (is_eq (nat_cmp account e.0)) refl n (λ later_list. all_away account es later_list) where
-  by : (b : Bool) → is_eq (nat_cmp account e.0) ≡ b → cond b (Some e.1) (at es account) ≡ None → ((later_list : List Ranked) → at es account ≡ None → Away account later_list → Away account (fold with_ranked later_list (ranks es))) → Away account (fold with_ranked (with_ranked list (key_by e.1, e.0)) (ranks es))
-  by true is m more = cc
-  by false is m more = more (with_ranked list (key_by e.1, e.0)) m (with_away account list (key_by e.1, e.0) (not_key account e.0 is) h)
+all_away account (e ∷ es) list n h = by (is_eq (nat_cmp account e.0)) refl n (λ later_list.
+    all_away account es later_list) where
+      by : (b : Bool) → is_eq (nat_cmp account e.0) ≡ b → cond b (Some e.1) (at es account) ≡ None
+          → ((later_list : List Ranked) → at es account ≡ None → Away account later_list
+          → Away account (fold with_ranked later_list (ranks es)))
+          → Away account (fold with_ranked (with_ranked list (key_by e.1, e.0)) (ranks es))
+      by true is m more = cc
+      by false is m more = more (with_ranked list (key_by e.1, e.0)) m (with_away account list (
+        key_by e.1,
+        e.0,
+      ) (not_key account e.0 is) h)
 
 filter_away : (account : ℕ) (list : List Ranked) → Away account list → without_ranked list account ≡ list
 filter_away account [] h = refl
@@ -159,15 +185,19 @@ filter_here list e = drop_here list where
   drop_here : (l : List Ranked) → without_ranked (with_ranked l e) e.1 ≡ without_ranked l e.1
   drop_here [] = dropped []
   drop_here (f ∷ fs) = by (rank_order e f) (drop_here fs) where
-    by : (o : Ordering) → without_ranked (with_ranked fs e) e.1 ≡ without_ranked fs e.1 → without_ranked (match_ordering o (e ∷ f ∷ fs) (e ∷ f ∷ fs) (f ∷ with_ranked fs e)) e.1 ≡ without_ranked (f ∷ fs) e.1
+    by : (o : Ordering) → without_ranked (with_ranked fs e) e.1 ≡ without_ranked fs e.1
+        → without_ranked (match_ordering o (e ∷ f ∷ fs) (e ∷ f ∷ fs) (f ∷ with_ranked fs e)) e.1
+        ≡ without_ranked (f ∷ fs) e.1
     by Less more = dropped (f ∷ fs)
     by Equal more = dropped (f ∷ fs)
     by Greater more = ap (λ (l : List Ranked). cond (not (f.1 == e.1)) (f ∷ l) l) more
 
 -- the ordered list without a trove is that of the table without it
-pub left_order : (table : Table Trove) (account : ℕ) → Ascends table → order_by (without table account) ≡ without_ranked (order_by table) account
+pub left_order : (table : Table Trove) (account : ℕ) → Ascends table → order_by (without table account)
+    ≡ without_ranked (order_by table) account
 left_order table account s = by (at table account) refl where
-  by : (o : Option Trove) → at table account ≡ o → order_by (without table account) ≡ without_ranked (order_by table) account
+  by : (o : Option Trove) → at table account ≡ o → order_by (without table account)
+      ≡ without_ranked (order_by table) account
   by None is =
       ap (λ (t : Table Trove). order_by t) (without-absent table account s is)
       ∙ sym (filter_away account (order_by table) (all_away account table [] is tt))
@@ -181,7 +211,9 @@ left_order table account s = by (at table account) refl where
       ∙ filter_away account (order_by left) (all_away account left [] absent tt))
 
 -- and with a trove put at its key, that of the table with it
-pub put_list : (table : Table Trove) (account : ℕ) (row : Trove) → Ascends table → order_by (put (without table account) account row) ≡ with_ranked (without_ranked (order_by table) account) (key_by row, account)
+pub put_list : (table : Table Trove) (account : ℕ) (row : Trove) → Ascends table
+    → order_by (put (without table account) account row) ≡ with_ranked (without_ranked (order_by table) account)
+    (key_by row, account)
 put_list table account row s =
     put_absent (without table account) account row [] (at-without_same table account s)
     ∙ ap (λ (l : List Ranked). with_ranked l (key_by row, account)) (left_order table account s)
@@ -194,7 +226,8 @@ is_key e = e.0
 away_key : (account : ℕ) (list : List Ranked) → Away account list → key_in list account ≡ None
 away_key account [] h = refl
 away_key account (e ∷ es) h =
-    ap (λ b. option_map is_key (cond b (Some e) (find (λ (f : Ranked). f.1 == account) es))) h.0 ∙ away_key account es h.1
+    ap (λ b. option_map is_key (cond b (Some e) (find (λ (f : Ranked). f.1 == account) es))) h.0
+    ∙ away_key account es h.1
 
 pub unlisted : (table : Table Trove) (account : ℕ) → at table account ≡ None → key_in (order_by table) account ≡ None
 unlisted table account n = away_key account (order_by table) (all_away account table [] n tt)
@@ -205,34 +238,41 @@ found_here list e = here list where
   own = eq-eqb e.1 e.1 refl
 
   first_found : (more : List Ranked) → IsSome (key_in (e ∷ more) e.1)
-  first_found more = subst (λ b. IsSome (option_map is_key (cond b (Some e) (find (λ (f : Ranked). f.1 == e.1) more)))) (sym own) refl
+  first_found more = subst (λ b. IsSome (option_map is_key (cond b (Some e) (find (λ (f : Ranked). f.1 == e.1) more))))
+      (sym own) refl
 
   here : (l : List Ranked) → IsSome (key_in (with_ranked l e) e.1)
   here [] = first_found []
   here (f ∷ fs) = by (rank_order e f) (here fs) where
-    by : (o : Ordering) → IsSome (key_in (with_ranked fs e) e.1) → IsSome (key_in (match_ordering o (e ∷ f ∷ fs) (e ∷ f ∷ fs) (f ∷ with_ranked fs e)) e.1)
+    by : (o : Ordering) → IsSome (key_in (with_ranked fs e) e.1)
+        → IsSome (key_in (match_ordering o (e ∷ f ∷ fs) (e ∷ f ∷ fs) (f ∷ with_ranked fs e)) e.1)
     by Less more = first_found (f ∷ fs)
     by Equal more = first_found (f ∷ fs)
     by Greater more = deeper (f.1 == e.1) where
-      deeper : (b : Bool) → IsSome (option_map is_key (cond b (Some f) (find (λ (g : Ranked). g.1 == e.1) (with_ranked fs e))))
+      deeper : (b : Bool)
+          → IsSome (option_map is_key (cond b (Some f) (find (λ (g : Ranked). g.1 == e.1) (with_ranked fs e))))
       deeper true = refl
       deeper false = more
 
-pub listed : (table : Table Trove) (account : ℕ) (row : Trove) → Ascends table → at table account ≡ Some row → IsSome (key_in (order_by table) account)
+pub listed : (table : Table Trove) (account : ℕ) (row : Trove) → Ascends table → at table account ≡ Some row
+    → IsSome (key_in (order_by table) account)
 listed table account row s h =
     let left = without table account in
     subst (λ (l : List Ranked). IsSome (key_in l account))
-    (sym (ap (λ (t : Table Trove). order_by t) (put-back table account row s h) ∙ put_absent left account row [] (at-without_same table account s)))
+    (sym (ap (λ (t : Table Trove). order_by t) (put-back table account row s h)
+    ∙ put_absent left account row [] (at-without_same table account s)))
     (found_here (order_by left) (key_by row, account))
 
-pub listed_where : (table : Table Trove) (account : ℕ) → Ascends table → IsSome (at table account) → IsSome (key_in (order_by table) account)
+pub listed_where : (table : Table Trove) (account : ℕ) → Ascends table → IsSome (at table account)
+    → IsSome (key_in (order_by table) account)
 listed_where table account s there = by (at table account) refl there where
   by : (o : Option Trove) → at table account ≡ o → IsSome o → IsSome (key_in (order_by table) account)
   by None is h = cc
   by (Some row) is h = listed table account row s is
 
 -- the ordered list of a table with a row more
-pub more_list : (table : Table Trove) (account : ℕ) (row : Trove) → at table account ≡ None → order_by (put table account row) ≡ with_ranked (order_by table) (key_by row, account)
+pub more_list : (table : Table Trove) (account : ℕ) (row : Trove) → at table account ≡ None
+    → order_by (put table account row) ≡ with_ranked (order_by table) (key_by row, account)
 more_list table account row n = put_absent table account row [] n
 
 -- ---- each account once
@@ -240,11 +280,13 @@ more_list table account row n = put_absent table account row [] n
 ranks_none : (account : ℕ) (table : Table Trove) → at table account ≡ None → IsAbsent account (ranks table)
 ranks_none account [] h = tt
 ranks_none account (row ∷ rows) h = by (is_eq (nat_cmp account row.0)) refl h (ranks_none account rows) where
-  by : (b : Bool) → is_eq (nat_cmp account row.0) ≡ b → cond b (Some row.1) (at rows account) ≡ None → (at rows account ≡ None → IsAbsent account (ranks rows)) → IsAbsent account (ranks (row ∷ rows))
+  by : (b : Bool) → is_eq (nat_cmp account row.0) ≡ b → cond b (Some row.1) (at rows account) ≡ None
+      → (at rows account ≡ None → IsAbsent account (ranks rows)) → IsAbsent account (ranks (row ∷ rows))
   by true is k later = cc
   by false is k later = ((λ same. eqb-false account row.0 (sym (nat_cmp-eq account row.0) ∙ is) (sym same)), later k)
 
-all_absent : (account : ℕ) (list entries : List Ranked) → IsAbsent account entries → IsAbsent account list → IsAbsent account (fold with_ranked list entries)
+all_absent : (account : ℕ) (list entries : List Ranked) → IsAbsent account entries → IsAbsent account list
+    → IsAbsent account (fold with_ranked list entries)
 all_absent account list [] n h = h
 all_absent account list (e ∷ es) n h = all_absent account (with_ranked list e) es n.1 (with_absent list e account n.0 h)
 
@@ -252,9 +294,11 @@ all_absent account list (e ∷ es) n h = all_absent account (with_ranked list e)
 pub order_absent : (table : Table Trove) (account : ℕ) → at table account ≡ None → IsAbsent account (order_by table)
 order_absent table account h = all_absent account [] (ranks table) (ranks_none account table h) tt
 
-all_distinct : (list entries : List Ranked) → AreApart list entries → AreDistinct list → AreDistinct (fold with_ranked list entries)
+all_distinct : (list entries : List Ranked) → AreApart list entries → AreDistinct list
+    → AreDistinct (fold with_ranked list entries)
 all_distinct list [] a h = h
-all_distinct list (e ∷ es) a h = all_distinct (with_ranked list e) es (with_apart list e es a.1 a.2) (with_distinct list e a.0 h)
+all_distinct list (e ∷ es) a h = all_distinct (with_ranked list e) es (with_apart list e es a.1 a.2)
+    (with_distinct list e a.0 h)
 
 pub order_distinct : (table : Table Trove) → Ascends table → AreDistinct (order_by table)
 order_distinct table h = all_distinct [] (ranks table) (ranks_apart table h) tt

@@ -30,16 +30,19 @@ Below n e = (k : ℕ) × (k < n) × (e ≡ entry k k)
 all_below : (n m : ℕ) → m ≤ n → AllByRecursion (Below n) (rising m)
 unfolding rising
 all_below n zero le = tt
-all_below n (suc m) le = all_both (Below n) (rising m) (entry m m ∷ []) (all_below n m (omega (arith, le))) ((m, omega (arith, le), refl), tt)
+all_below n (suc m) le = all_both (Below n) (rising m) (entry m m ∷ []) (all_below n m (omega (arith, le)))
+    ((m, omega (arith, le), refl), tt)
 
 pub rising_absent : (n : ℕ) → key_in (rising n) n ≡ None
-rising_absent n = key_absent (rising n) n (all_as (Below n) (λ (e : Ranked). e.1 ≢ n) (rising n) (λ e b same. absurd (omega (arith, b.1, sym (ap (λ (f : Ranked). f.1) b.2) ∙ same))) (all_below n n (omega arith)))
+rising_absent n = key_absent (rising n) n (all_as (Below n) (λ (e : Ranked). e.1 ≢ n) (rising n)
+    (λ e b same. absurd (omega (arith, b.1, sym (ap (λ (f : Ranked). f.1) b.2) ∙ same))) (all_below n n (omega arith)))
 
 pub rising_more : (n : ℕ) → with_ranked (rising n) (entry n n) ≡ rising (suc n)
 unfolding rising
 rising_more n =
     ap (λ l. with_ranked l (entry n n)) (append-nil' (rising n))
-    ∙ placed (rising n) [] (entry n n) (all_as (Below n) (Before (entry n n)) (rising n) (λ e b. ap (λ f. rank_order f (entry n n)) b.2 ∙ less_entry b.0 n b.1) (all_below n n (omega arith))) tt where
+    ∙ placed (rising n) [] (entry n n) (all_as (Below n) (Before (entry n n)) (rising n)
+    (λ e b. ap (λ f. rank_order f (entry n n)) b.2 ∙ less_entry b.0 n b.1) (all_below n n (omega arith))) tt where
       append-nil' : (l : List Ranked) → l ≡ l ++ []
       append-nil' l = sym (append-nil l)
 
@@ -82,7 +85,8 @@ rising_tight n = record {
 
   above : (m : ℕ) (f : Ranked) → first_of (reverse (rising m)) ≡ Some f → rank_order f (entry m m) ≡ Less
   above zero f h = absurd (none (sym no_last ∙ h))
-  above (suc m) f h = subst (λ (e : Ranked). rank_order e (entry (suc m) (suc m)) ≡ Less) (one (sym (last_rising m) ∙ h)) (less_entry m (suc m) (omega arith))
+  above (suc m) f h = subst (λ (e : Ranked). rank_order e (entry (suc m) (suc m)) ≡ Less) (one (sym (last_rising m)
+      ∙ h)) (less_entry m (suc m) (omega arith))
 
 pub rising_none : [] ≡ rising 0
 unfolding rising
@@ -95,8 +99,10 @@ four_tight = record {
   whole = refl;
   prev_is = refl;
   next_is = refl;
-  above_prev = λ f first. subst (λ (o : Option Ranked). rank_order (unwrap_or o (entry 0 0)) (entry 25 9) ≡ Less) first refl;
-  below_next = λ f first. subst (λ (o : Option Ranked). rank_order (entry 25 9) (unwrap_or o (entry 0 0)) ≡ Less) first refl;
+  above_prev = λ f first. subst (λ (o : Option Ranked). rank_order (unwrap_or o (entry 0 0)) (entry 25 9)
+      ≡ Less) first refl;
+  below_next = λ f first. subst (λ (o : Option Ranked). rank_order (entry 25 9) (unwrap_or o (entry 0 0))
+      ≡ Less) first refl;
 }
 
 hint_count : (n : ℕ) (o : Option ℕ) → SomeIff o (1 ≤ n) (n - 1) → o ≡ before_count n
@@ -105,7 +111,8 @@ hint_count zero (Some k) h = absurd (omega (arith, h.0))
 hint_count (suc n) None h = absurd (h (omega arith))
 hint_count (suc n) (Some k) h = ap (λ j. Some j) (omega (arith, h.1))
 
-pub rising_hint : (n : ℕ) (list : List Ranked) (prev : Option ℕ) → list ≡ rising n → SomeIff prev (1 ≤ n) (n - 1) → IsTight list (entry n n) prev None
+pub rising_hint : (n : ℕ) (list : List Ranked) (prev : Option ℕ) → list ≡ rising n → SomeIff prev (1 ≤ n) (n - 1)
+    → IsTight list (entry n n) prev None
 rising_hint n list prev is hint =
     subst (λ (o : Option ℕ). IsTight list (entry n n) o None) (sym (hint_count n prev hint))
     (subst (λ (l : List Ranked). IsTight l (entry n n) (before_count n) None) (sym is) (rising_tight n))

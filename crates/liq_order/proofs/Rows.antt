@@ -30,7 +30,13 @@ absent (x ∷ l) k h = grind (arith, nat_tests, h 0 (omega arith), absent l k (t
 present : (l : List Row) (k i : ℕ) → IsRowAt l k i → NoneBefore l k i → row_of l k ≡ Some (get_or l i nowhere).1
 present [] k i at h = absurd (omega (arith, at.in_range))
 present (x ∷ l) k zero at h = grind (arith, nat_tests, at.has_account)
-present (x ∷ l) k (suc i) at h = grind (arith, nat_tests, h 0 (omega arith), present l k i (tail_at x l k i at) (tail_before x l k i h))
+present (x ∷ l) k (suc i) at h = grind (
+  arith,
+  nat_tests,
+  h 0 (omega arith),
+  present l k i (tail_at x l k i at)
+      (tail_before x l k i h),
+)
 
 -- what is found after an edit
 abbrev pub Puts : List Row → List Row → ℕ → NodeNo → Type 0
@@ -39,21 +45,35 @@ Puts old new k v = (q : ℕ) → row_of new q ≡ cond (eqb k q) (Some v) (row_o
 put_over : (l : List Row) (k : ℕ) (v : NodeNo) (i : ℕ) → IsRowAt l k i → NoneBefore l k i → Puts l (set l i (k, v)) k v
 put_over [] k v i at h q = absurd (omega (arith, at.in_range))
 put_over (x ∷ l) k v zero at h q = grind (arith, nat_tests, at.has_account)
-put_over (x ∷ l) k v (suc i) at h q = grind (arith, nat_tests, h 0 (omega arith), put_over l k v i (tail_at x l k i at) (tail_before x l k i h) q)
+put_over (x ∷ l) k v (suc i) at h q = grind (
+  arith,
+  nat_tests,
+  h 0 (omega arith),
+  put_over l k v i (tail_at x l k i at)
+      (tail_before x l k i h) q,
+)
 
 put_more : (l : List Row) (k : ℕ) (v : NodeNo) (i : ℕ) → NoneBefore l k i → Puts l (insert l i (k, v)) k v
 put_more l k v zero h q = refl
 put_more [] k v (suc i) h q = refl
-put_more (x ∷ l) k v (suc i) h q = grind (arith, nat_tests, h 0 (omega arith), put_more l k v i (tail_before x l k i h) q)
+put_more (x ∷ l) k v (suc i) h q = grind (
+  arith,
+  nat_tests,
+  h 0 (omega arith),
+  put_more l k v i (tail_before x l k i h) q,
+)
 
 module _ (l : List Row) (strict : IsStrict l) (k : ℕ) where
   rise : IsNonDecreasingBy (λ row. ordering_index (nat_cmp row.0 k)) l
   rise = IsNonDecreasingBy-from_default (λ row. ordering_index (nat_cmp row.0 k)) l nowhere (λ i j le in_range.
-      let keys_rise : account_at l i ≤ account_at l j = grind (arith, strict i j, λ (same : i ≡ j). ap (account_at l) same) in
+      let keys_rise : account_at l i ≤ account_at l j =
+      grind (arith, strict i j, λ (same : i ≡ j). ap (account_at l) same) in
       grind (arith, nat_tests))
 
-  pub searched : (r : Result ℕ ℕ) → IsSearchInRange r (length l) → IsBinarySearchResult (λ row. nat_cmp row.0 k) l r → record { found : IfOk r (IsRowAt l k); absent : IfErr r (IsGapFor l k) }
-  searched (Ok at) in_range equal = record { found = record { in_range = in_range; has_account = ranked _ k _ (sym (equal nowhere)) }; absent = tt }
+  pub searched : (r : Result ℕ ℕ) → IsSearchInRange r (length l) → IsBinarySearchResult (λ row. nat_cmp row.0 k) l r
+      → record { found : IfOk r (IsRowAt l k); absent : IfErr r (IsGapFor l k) }
+  searched (Ok at) in_range equal =
+      record { found = record { in_range = in_range; has_account = ranked _ k _ (sym (equal nowhere)) }; absent = tt }
   searched (Err at) in_range parted = record {
     found = tt;
     absent = record {
@@ -85,7 +105,24 @@ module _ (l : List Row) (k at : ℕ) (gap : IsGapFor l k at) where
       let new = insert l at (k, v) in
       let account = λ (row : Row). row.0 in
       let length_new = length-insert l at (k, v) gap.in_range in
-      let below : (i : ℕ) → i < at → account_at new i ≡ account_at l i = λ i less. ap account (get_or-insert_below l at (k, v) nowhere i less gap.in_range) in
-      let here : (i : ℕ) → i ≡ at → account_at new i ≡ k = λ i is. rw is (ap account (get_or-insert_at l at (k, v) nowhere gap.in_range)) in
-      let above : (i : ℕ) → at < i → account_at new i ≡ account_at l (i - 1) = λ i less. subst (λ q. account_at new q ≡ account_at l (i - 1)) {x = i - 1 + 1} (omega arith) (ap account (get_or-insert_above l at (k, v) nowhere (i - 1) (omega arith) gap.in_range)) in
-      grind (arith, below i, here i, above i, below j, here j, above j, strict i j, strict i (j - 1), strict (i - 1) (j - 1), gap.smaller_before i, gap.greater_after (j - 1))
+      let below : (i : ℕ) → i < at → account_at new i ≡ account_at l i =
+      λ i less. ap account (get_or-insert_below l at (k, v) nowhere i less gap.in_range) in
+      let here : (i : ℕ) → i ≡ at → account_at new i ≡ k =
+      λ i is. rw is (ap account (get_or-insert_at l at (k, v) nowhere gap.in_range)) in
+      let above : (i : ℕ) → at < i → account_at new i ≡ account_at l (i - 1) = λ i less. subst (λ q. account_at new q
+      ≡ account_at l (i - 1)) {x = i - 1 + 1} (omega arith) (ap account (get_or-insert_above l at (k, v) nowhere
+      (i - 1) (omega arith) gap.in_range)) in
+      grind (
+        arith,
+        below i,
+        here i,
+        above i,
+        below j,
+        here j,
+        above j,
+        strict i j,
+        strict i (j - 1),
+        strict (i - 1) (j - 1),
+        gap.smaller_before i,
+        gap.greater_after (j - 1),
+      )

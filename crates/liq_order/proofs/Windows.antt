@@ -23,22 +23,50 @@ module _ (l : List Row) (strict : IsStrict l) where
   from_last i lt = rising i (length l - 1) (length l - 1 - i) (omega (arith, lt)) (omega (arith, lt))
 
   -- an account above the last one is above all
-  pub above_last : (k last : ℕ) → last ≡ account_at l (length l - 1) → last < k → (j : ℕ) → j < length l → account_at l j < k
+  pub above_last : (k last : ℕ) → last ≡ account_at l (length l - 1) → last < k → (j : ℕ) → j < length l
+      → account_at l j < k
   above_last k last is less j lt = omega (arith, from_last j lt, is, less)
 
   module _
-      (k first last count low high : ℕ) (some : 0 < length l) (first_is : first ≡ account_at l 0) (last_is : last ≡ account_at l (length l - 1)) (behind_first : first ≤ k) (before_last : k ≤ last)
-      (count_is : count ≡ length l) (low_is : low ≡ count - (last - k + 1)) (high_is : high ≡ min count (k - first + 1)) where
-    pub window : record { ordered : low ≤ high; smaller : (j : ℕ) → j < low → account_at l j < k; greater : (j : ℕ) → high ≤ j → j < length l → k < account_at l j }
+      (k first last count low high : ℕ) (some : 0 < length l) (first_is : first ≡ account_at l 0) (last_is : last
+      ≡ account_at l (length l - 1)) (behind_first : first ≤ k) (before_last : k ≤ last)
+      (count_is : count ≡ length l) (low_is : low ≡ count - (last - k + 1)) (high_is : high
+      ≡ min count (k - first + 1)) where
+    pub window : record {
+      ordered : low ≤ high;
+      smaller : (j : ℕ) → j < low → account_at l j < k;
+      greater : (j : ℕ)
+          → high ≤ j → j < length l → k < account_at l j;
+    }
     window = record {
-      ordered = omega (arith, from_first (length l - 1) (omega (arith, some)), some, first_is, last_is, behind_first, before_last, count_is, low_is, high_is);
-      smaller = λ j lt. omega (arith, from_last j (omega (arith, lt, count_is, low_is)), last_is, lt, before_last, count_is, low_is);
+      ordered = omega (
+        arith,
+        from_first (length l - 1) (omega (arith, some)),
+        some,
+        first_is,
+        last_is,
+        behind_first,
+        before_last,
+        count_is,
+        low_is,
+        high_is,
+      );
+      smaller = λ j lt. omega (
+        arith,
+        from_last j (omega (arith, lt, count_is, low_is)),
+        last_is,
+        lt,
+        before_last,
+        count_is,
+        low_is,
+      );
       greater = λ j le lt. omega (arith, from_first j lt, first_is, le, lt, behind_first, count_is, high_is);
     }
 
   -- what is found in a window is what is found among all
   module _
-      (k low high : ℕ) (ordered : low ≤ high) (inside : high ≤ length l) (smaller : (j : ℕ) → j < low → account_at l j < k)
+      (k low high : ℕ) (ordered : low ≤ high) (inside : high ≤ length l) (smaller : (j : ℕ) → j < low
+      → account_at l j < k)
       (greater : (j : ℕ) → high ≤ j → j < length l → k < account_at l j) where
     abbrev part : List Row
     part = take (high - low) (drop low l)
@@ -47,15 +75,28 @@ module _ (l : List Row) (strict : IsStrict l) where
     long = omega (arith, length-take (high - low) (drop low l), length-drop low l, ordered, inside)
 
     within : (j : ℕ) → j < high - low → account_at part j ≡ account_at l (low + j)
-    within j lt = ap (λ (r : Row). r.0) (get_or-take (high - low) (drop low l) j nowhere lt ∙ get_or-drop low l j nowhere)
+    within j lt = ap (λ (r : Row). r.0) (get_or-take (high - low) (drop low l) j nowhere lt
+        ∙ get_or-drop low l j nowhere)
 
     part_strict : IsStrict part
-    part_strict i j less lt = omega (arith, within i (omega (arith, less, lt, long)), within j (omega (arith, lt, long)), strict (low + i) (low + j) (omega (arith, less)) (omega (arith, lt, long, inside)))
+    part_strict i j less lt = omega (
+      arith,
+      within i (omega (arith, less, lt, long)),
+      within j (omega (arith, lt, long)),
+      strict (low + i) (low + j) (omega (arith, less)) (omega (
+        arith,
+        lt,
+        long,
+        inside,
+      )),
+    )
 
-    pub searched_within : (r : Result ℕ ℕ) → IsSearchInRange r (length (take (high - low) (drop low l))) → IsBinarySearchResult (λ row. nat_cmp row.0 k) (take (high - low) (drop low l)) r
+    pub searched_within : (r : Result ℕ ℕ) → IsSearchInRange r (length (take (high - low) (drop low l)))
+        → IsBinarySearchResult (λ row. nat_cmp row.0 k) (take (high - low) (drop low l)) r
         → record { found : IfOk r (λ i. IsRowAt l k (low + i)); absent : IfErr r (λ i. IsGapFor l k (low + i)) }
     searched_within r in_range by_key = among r (searched part part_strict k r in_range by_key) where
-      among : (r : Result ℕ ℕ) → record { found : IfOk r (IsRowAt part k); absent : IfErr r (IsGapFor part k) } → record { found : IfOk r (λ i. IsRowAt l k (low + i)); absent : IfErr r (λ i. IsGapFor l k (low + i)) }
+      among : (r : Result ℕ ℕ) → record { found : IfOk r (IsRowAt part k); absent : IfErr r (IsGapFor part k) }
+          → record { found : IfOk r (λ i. IsRowAt l k (low + i)); absent : IfErr r (λ i. IsGapFor l k (low + i)) }
       among (Ok i) h = record {
         found = record {
           in_range = omega (arith, h.found.in_range, long, inside);
@@ -74,8 +115,10 @@ module _ (l : List Row) (strict : IsStrict l) where
         place : (j : ℕ) → low ≤ j → j < high → account_at part (j - low) ≡ account_at l j
         place j le lt = within (j - low) (omega (arith, le, lt)) ∙ ap (account_at l) (omega (arith, le))
 
-        before : (j : ℕ) → j < low + i → i ≤ length part → (j - low < i → account_at part (j - low) < k) → account_at l j < k
+        before : (j : ℕ) → j < low + i → i ≤ length part → (j - low < i → account_at part (j - low) < k)
+            → account_at l j < k
         before j lt few h = grind (arith, smaller j, place j, h, lt, few, long)
 
-        behind : (j : ℕ) → low + i ≤ j → j < length l → (i ≤ j - low → j - low < length part → k < account_at part (j - low)) → k < account_at l j
+        behind : (j : ℕ) → low + i ≤ j → j < length l → (i ≤ j - low → j - low < length part
+            → k < account_at part (j - low)) → k < account_at l j
         behind j le lt h = grind (arith, greater j, place j, h, le, lt, long)

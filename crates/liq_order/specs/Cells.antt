@@ -16,7 +16,8 @@ pub record IsLinked (old : Cells) (node : Node) (at : NodeNo) (new : Cells) : Ty
   pub last_is : new.last ≡ end_or node.next old.last (Some at)
 
 -- What is beside the place's node points past it, and the place is free.
-pub record IsUnlinked (old : Cells) (at : NodeNo) (previous next : Spot) (new : Cells) : Type 0 where
+pub record IsUnlinked (old : Cells) (at : NodeNo) (previous next : Spot) (new : Cells) :
+    Type 0 where
   pub frees : new.free.items ≡ old.free.items ++ at ∷ []
   pub joins :
       new.nodes.items ≡ with_previous (with_next old.nodes.items previous next) next previous

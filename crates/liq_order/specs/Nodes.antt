@@ -164,7 +164,8 @@ Places = List NodeNo
 abbrev pub Spot : Type 0
 Spot = Option NodeNo
 
-pub record IsRing (nodes : List Node) (order free : Places) (place : ℕ → Spot) (first last : Spot) : Type 0 where
+pub record IsRing (nodes : List Node) (order free : Places) (place : ℕ → Spot) (first last : Spot) :
+    Type 0 where
   pub linked : Linked (memory nodes) None order None
   pub first_is : first ≡ first_or None order
   pub last_is : last ≡ last_or None order

@@ -27,14 +27,17 @@ module _ {D : Type 0} (at : D → DiskAt) where
       earlier k = grind arith
 
   -- nothing was done yet
-  pub started : (old : D) (P : List ℕ → Type 0) → ((image : List ℕ) → LeftNow at old image → P image) → LeavesOnly at old old P
+  pub started : (old : D) (P : List ℕ → Type 0) → ((image : List ℕ) → LeftNow at old image → P image)
+      → LeavesOnly at old old P
   started old P here = record {
     goes_on = unmoved old;
-    each = λ image left. let now : left.0 ≡ (at old).moment = omega (arith, left.1, left.2) in here image (subst (λ (k : ℕ). (at old).left_at k image) now left.3);
+    each = λ image left. let now : left.0 ≡ (at old).moment = omega (arith, left.1, left.2)
+        in here image (subst (λ (k : ℕ). (at old).left_at k image) now left.3);
   }
 
   -- one run of calls after another, each of which leaves what has P
-  pub chained : (old mid new : D) (P : List ℕ → Type 0) → LeavesOnly at old mid P → LeavesOnly at mid new P → LeavesOnly at old new P
+  pub chained : (old mid new : D) (P : List ℕ → Type 0) → LeavesOnly at old mid P → LeavesOnly at mid new P
+      → LeavesOnly at old new P
   chained old mid new P first second = record {
     goes_on = joined old mid new first.goes_on second.goes_on;
     each = λ image left. elim (law mid new second.goes_on ((at old).moment) image first.goes_on.later left) [
@@ -44,16 +47,23 @@ module _ {D : Type 0} (at : D → DiskAt) where
   }
 
   -- one call, before and after which a crash leaves what has P
-  pub call : (old new : D) (P : List ℕ → Type 0) → Elapses at old new → ((image : List ℕ) → LeftNow at old image → P image) → ((image : List ℕ) → LeftNow at new image → P image) → LeavesOnly at old new P
+  pub call : (old new : D) (P : List ℕ → Type 0) → Elapses at old new → ((image : List ℕ) → LeftNow at old image
+      → P image) → ((image : List ℕ) → LeftNow at new image → P image) → LeavesOnly at old new P
   call old new P time before after = record {
     goes_on = time.goes_on;
     each = λ image left. ⊎_elim (before image) (after image) (time.within left.0 image left.1 left.2 left.3);
   }
 
   -- what has P has Q
-  pub weaker : (old new : D) (P Q : List ℕ → Type 0) → LeavesOnly at old new P → ((image : List ℕ) → P image → Q image) → LeavesOnly at old new Q
-  weaker old new P Q leaves gives = record { goes_on = leaves.goes_on; each = λ image left. gives image (leaves.each image left) }
+  pub weaker : (old new : D) (P Q : List ℕ → Type 0) → LeavesOnly at old new P → ((image : List ℕ) → P image → Q image)
+      → LeavesOnly at old new Q
+  weaker old new P Q leaves gives = record {
+    goes_on = leaves.goes_on;
+    each = λ image left. gives image
+        (leaves.each image left);
+  }
 
   -- what a crash may leave at the end
-  pub at_last : (old new : D) (P : List ℕ → Type 0) → LeavesOnly at old new P → (image : List ℕ) → LeftNow at new image → P image
+  pub at_last : (old new : D) (P : List ℕ → Type 0) → LeavesOnly at old new P → (image : List ℕ) → LeftNow at new image
+      → P image
   at_last old new P leaves image left = leaves.each image ((at new).moment, leaves.goes_on.later, omega arith, left)

@@ -32,8 +32,13 @@ module _ {s t : State} (alike : Alike s t) where
     others = settled.others;
   }
 
-  record_alike : (odd : Bool) (bytes : List ℕ) (w : Written) (c : Command) → HoldsRecord odd bytes w s c → HoldsRecord odd bytes w t c
-  record_alike odd bytes w c holds = record { pending = holds.pending; allowed = sym (ruling_alike alike c) ∙ holds.allowed }
+  record_alike : (odd : Bool) (bytes : List ℕ) (w : Written) (c : Command) → HoldsRecord odd bytes w s c
+      → HoldsRecord odd bytes w t c
+  record_alike odd bytes w c holds = record {
+    pending = holds.pending;
+    allowed = sym (ruling_alike alike c)
+        ∙ holds.allowed;
+  }
 
   pub rotation_alike : (w : Written) (c : Command) → IsRotationOf s w c → IsRotationOf t w c
   rotation_alike w c rotation =
@@ -110,5 +115,11 @@ module _ {s t : State} (alike : Alike s t) where
   unfinished_alike l r c (side, inl is) = (side, inl (record_unfinished (has_odd side) (on side l r) c is))
   unfinished_alike l r c (side, inr is) = (side, inr (rotation_unfinished (has_odd side) (on side l r) c is))
 
-pub settled_same : (side : Side) (l r : List ℕ) (s t : State) → IsSettledFor side l r s → IsSameState s t → IsWellFormed t → IsSettledFor side l r t
-settled_same side l r s t settled same formed = settled_alike (record { image = same.image; records = same.records; left = settled.stands.formed; right = formed }) side l r settled
+pub settled_same : (side : Side) (l r : List ℕ) (s t : State) → IsSettledFor side l r s → IsSameState s t
+    → IsWellFormed t → IsSettledFor side l r t
+settled_same side l r s t settled same formed = settled_alike (record {
+  image = same.image;
+  records = same.records;
+  left = settled.stands.formed;
+  right = formed;
+}) side l r settled

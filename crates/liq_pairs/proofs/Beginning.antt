@@ -17,10 +17,12 @@ use Rattle.liq_pairs.proofs.Replaying.{outcome_none}
 pub left_faulty : (l r : List ℕ) (damage : Damage) → standing true l ≡ Faulty damage → state_on l r ≡ Err (Left, damage)
 left_faulty l r damage is = state_by l r (Faulty damage) (standing false r) is refl
 
-pub right_faulty : (l r : List ℕ) (damage : Damage) → standing true l ≡ Nothing → standing false r ≡ Faulty damage → state_on l r ≡ Err (Right, damage)
+pub right_faulty : (l r : List ℕ) (damage : Damage) → standing true l ≡ Nothing → standing false r ≡ Faulty damage
+    → state_on l r ≡ Err (Right, damage)
 right_faulty l r damage left is = state_by l r Nothing (Faulty damage) left is
 
-pub right_faulty_beside : (l r : List ℕ) (generation : ℕ) (s : State) (damage : Damage) → standing true l ≡ Holding generation s → standing false r ≡ Faulty damage → state_on l r ≡ Err (Right, damage)
+pub right_faulty_beside : (l r : List ℕ) (generation : ℕ) (s : State) (damage : Damage)
+    → standing true l ≡ Holding generation s → standing false r ≡ Faulty damage → state_on l r ≡ Err (Right, damage)
 right_faulty_beside l r generation s damage left is = state_by l r (Holding generation s) (Faulty damage) left is
 
 -- ---- none begun
@@ -30,25 +32,31 @@ pub still_absent : (odd : Bool) (bytes : List ℕ) → (IsUnshut bytes → ⊥) 
 still_absent odd bytes shut = closed_absent odd bytes (closed_where bytes shut)
 
 -- the first generation, created where none was open
-pub created_state : (l r a b : List ℕ) → found_on true l ≡ Absent → found_on false r ≡ Absent → Stands true a (beginning 1 []) → found_on false b ≡ Absent → state_on a b ≡ state_on l r
+pub created_state : (l r a b : List ℕ) → found_on true l ≡ Absent → found_on false r ≡ Absent
+    → Stands true a (beginning 1 []) → found_on false b ≡ Absent → state_on a b ≡ state_on l r
 created_state l r a b left right stands absent =
     state_taken Left a b (beginning 1 []) opening stands.found (outcome_none (beginning 1 []) refl refl)
     (nothing (standing_absent false b absent))
     ∙ sym (state_none l r left right)
 
 -- What a creation leaves of a disk that was settled before it leaves of the disk before that.
-pub created_from : (l m image : List ℕ) (w : Written) → found_on true l ≡ Absent → OpenLeaves true l m → (IsUnshut m → ⊥) → CreateLeaves true m w image → CreateLeaves true l w image
+pub created_from : (l m image : List ℕ) (w : Written) → found_on true l ≡ Absent → OpenLeaves true l m
+    → (IsUnshut m → ⊥) → CreateLeaves true m w image → CreateLeaves true l w image
 created_from l m image w absent opened shut (inl closed) = inl closed
 created_from l m image w absent opened shut (inr (inr stands)) = inr (inr stands)
-created_from l m image w absent (inl same) shut (inr (inl settled)) = inr (inl (subst (λ (x : List ℕ). SettleLeaves 0 x image) same settled))
-created_from l m image w absent (inr (place, inl some, has)) shut (inr (inl settled)) = absurd (absent_isnt_open true l some.0 absent some.1)
-created_from l m image w absent (inr (place, inr none, has)) shut (inr (inl settled)) = inl (by (closed_where m shut) settled)
+created_from l m image w absent (inl same) shut (inr (inl settled)) =
+    inr (inl (subst (λ (x : List ℕ). SettleLeaves 0 x image) same settled))
+created_from l m image w absent (inr (place, inl some, has)) shut (inr (inl settled)) =
+    absurd (absent_isnt_open true l some.0 absent some.1)
+created_from l m image w absent (inr (place, inr none, has)) shut (inr (inl settled)) =
+    inl (by (closed_where m shut) settled)
   where
     long : (x : List ℕ) (byte : ℕ) → 0 < length (overwritten x 0 (byte ∷ []))
     long x byte = omega arith
 
     there : 0 < length m
-    there = subst (λ (x : List ℕ). 0 < length x) (sym (has.1 ∙ ap (λ (n : ℕ). overwritten l n (has.0 ∷ [])) none.1)) (long l has.0)
+    there = subst (λ (x : List ℕ). 0 < length x) (sym (has.1 ∙ ap (λ (n : ℕ). overwritten l n (has.0 ∷ [])) none.1))
+        (long l has.0)
 
     by : IsClosed m → SettleLeaves 0 m image → IsClosed image
     by closed (inl same) = subst (λ (x : List ℕ). IsClosed x) (sym same) closed

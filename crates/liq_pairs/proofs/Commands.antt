@@ -66,11 +66,13 @@ same_end : (s t : State) → pair_ends s ≡ Ok t → ends_in s ≡ Ok t
 same_end s t is = let same : s ≡ t = cc (is) in ap ends_in same
 
 -- one open disk, beside which none is
-alone_left : (generation : ℕ) (r : Result State Damage) (s : State) → pair_state (standing_after generation r) Nothing ≡ Ok s → r ≡ Ok s
+alone_left : (generation : ℕ) (r : Result State Damage) (s : State) → pair_state (standing_after generation r) Nothing
+    ≡ Ok s → r ≡ Ok s
 alone_left generation (Ok t) s is = same_end t s is
 alone_left generation (Err damage) s is = absurd (cc (is))
 
-alone_right : (generation : ℕ) (r : Result State Damage) (s : State) → pair_state Nothing (standing_after generation r) ≡ Ok s → r ≡ Ok s
+alone_right : (generation : ℕ) (r : Result State Damage) (s : State) → pair_state Nothing (standing_after generation r)
+    ≡ Ok s → r ≡ Ok s
 alone_right generation (Ok t) s is = same_end t s is
 alone_right generation (Err damage) s is = absurd (cc (is))
 
@@ -101,7 +103,8 @@ found_leads Absent (Open w) s well well_right is = (well_right, alone_right w.ge
 found_leads (Open w) Absent s well well_right is = (well, alone_left w.generation (outcome w) s is)
 found_leads (Open w) (Damaged damage) s well well_right is = damaged_beside w.generation (outcome w) is
   where
-    damaged_beside : (generation : ℕ) (r : Result State Damage) → pair_state (standing_after generation r) (standing_of (Damaged damage)) ≡ Ok s → Leads None s
+    damaged_beside : (generation : ℕ) (r : Result State Damage)
+        → pair_state (standing_after generation r) (standing_of (Damaged damage)) ≡ Ok s → Leads None s
     damaged_beside generation (Ok t) is = absurd (cc (is))
     damaged_beside generation (Err first) is = absurd (cc (is))
 found_leads (Open w) (Open later) s well well_later is =

@@ -11,7 +11,8 @@ use Rattle.liq_pairs.specs.Pair.{Standing, Nothing, Faulty, Holding, pair_state,
 use Rattle.liq_pairs.specs.Replay.{outcome}
 use Rattle.liq_pairs.proofs.Replaying.{opening_formed, outcome_formed}
 
-after_formed : (generation here : ℕ) (s : State) (w : Written) (r : Result State Damage) → outcome w ≡ r → standing_after generation r ≡ Holding here s → IsWellFormed s
+after_formed : (generation here : ℕ) (s : State) (w : Written) (r : Result State Damage) → outcome w ≡ r
+    → standing_after generation r ≡ Holding here s → IsWellFormed s
 after_formed generation here s w (Ok t) came is =
     let same : t ≡ s = cc in
     subst (λ (x : State). IsWellFormed x) same (outcome_formed w t came)
@@ -22,14 +23,16 @@ found_formed Absent here s is = absurd cc
 found_formed (Damaged damage) here s is = absurd cc
 found_formed (Open w) here s is = after_formed w.generation here s w (outcome w) refl is
 
-standing_formed : (odd : Bool) (bytes : List ℕ) (here : ℕ) (s : State) → standing odd bytes ≡ Holding here s → IsWellFormed s
+standing_formed : (odd : Bool) (bytes : List ℕ) (here : ℕ) (s : State) → standing odd bytes ≡ Holding here s
+    → IsWellFormed s
 unfolding standing
 standing_formed odd bytes here s is = found_formed (found_on odd bytes) here s is
 
 abbrev AllFormed : Standing → Type 0
 AllFormed a = (here : ℕ) (s : State) → a ≡ Holding here s → IsWellFormed s
 
-later_formed : (b : Bool) (s t u : State) → IsWellFormed s → IsWellFormed t → (let r : Result State (Side × Damage) = Ok (cond b t s) in r ≡ Ok u) → IsWellFormed u
+later_formed : (b : Bool) (s t u : State) → IsWellFormed s → IsWellFormed t
+    → (let r : Result State (Side × Damage) = Ok (cond b t s) in r ≡ Ok u) → IsWellFormed u
 later_formed true s t u formed_s formed_t is =
     let same : t ≡ u = cc in
     subst (λ (x : State). IsWellFormed x) same formed_t
@@ -54,4 +57,5 @@ pair_formed (Holding n t) (Holding m u) s fa fb is = later_formed (nat_lt n m) t
 
 pub state_formed : (l r : List ℕ) (s : State) → state_on l r ≡ Ok s → IsWellFormed s
 unfolding state_on
-state_formed l r s is = pair_formed (standing true l) (standing false r) s (standing_formed true l) (standing_formed false r) is
+state_formed l r s is = pair_formed (standing true l) (standing false r) s (standing_formed true l)
+    (standing_formed false r) is

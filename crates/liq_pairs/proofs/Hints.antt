@@ -11,14 +11,18 @@ use Rattle.liq_journal.specs.Written.{is_rotate}
 abbrev pub heard_command : Command → Command
 heard_command c = record { client = c.client; number = c.number; call = heard c.call }
 
-call_ruling : (s : State) (client number : ℕ) (call : Call) → ruling s (record { client = client; number = number; call = heard call }) ≡ ruling s (record { client = client; number = number; call = call })
+call_ruling : (s : State) (client number : ℕ) (call : Call)
+    → ruling s (record { client = client; number = number; call = heard call })
+    ≡ ruling s (record { client = client; number = number; call = call })
 call_ruling s client number (Open account coll borrow bound hint) = refl
 call_ruling s client number (Adjust account coll_in coll_out borrow repay bound hint) = refl
 call_ruling s client number (GainToTrove account hint) = refl
 call_ruling s client number (Redeem account lusd bound hint) = refl
 call_ruling s client number _ = refl
 
-call_after : (s : State) (client number : ℕ) (call : Call) → after s (record { client = client; number = number; call = heard call }) ≡ after s (record { client = client; number = number; call = call })
+call_after : (s : State) (client number : ℕ) (call : Call)
+    → after s (record { client = client; number = number; call = heard call })
+    ≡ after s (record { client = client; number = number; call = call })
 call_after s client number (Open account coll borrow bound hint) = refl
 call_after s client number (Adjust account coll_in coll_out borrow repay bound hint) = refl
 call_after s client number (GainToTrove account hint) = refl

@@ -58,7 +58,12 @@ leads_before side l r w s stands found behind =
     record {
       state = stands.state;
       came = came;
-      alike = record { image = stands.same.image; records = stands.same.records; left = outcome_formed w stands.state came; right = stands.formed };
+      alike = record {
+        image = stands.same.image;
+        records = stands.same.records;
+        left = outcome_formed w stands.state came;
+        right = stands.formed;
+      };
     }
 
 pub leads_to : (side : Side) (l r : List ℕ) (w : Written) (s : State) → StandFor l r s
@@ -75,7 +80,8 @@ leads_generation odd bytes w s found leads =
     ∙ ap (λ (i : Image). i.generation) leads.alike.image
 
 -- one accepted command more
-pub leads_further : (w : Written) (c : Command) (s : State) → LeadsTo w s → ruling s c ≡ Allowed → LeadsTo (and_then w c) (after s c)
+pub leads_further : (w : Written) (c : Command) (s : State) → LeadsTo w s → ruling s c ≡ Allowed
+    → LeadsTo (and_then w c) (after s c)
 leads_further w c s leads allowed = record {
   state = after leads.state c;
   came = outcome_then w c leads.state leads.came (ruling_alike leads.alike c ∙ allowed);
@@ -84,10 +90,16 @@ leads_further w c s leads allowed = record {
 
 -- ---- kept, by the taken disk
 
-module _ (side : Side) (l r : List ℕ) (w : Written) (s : State) (leads : LeadsTo w s) (aside : IsAside (has_odd (other side)) (beside side l r) w.generation) where
+module _ (side : Side) (l r : List ℕ) (w : Written) (s : State) (leads : LeadsTo w s)
+    (aside : IsAside (has_odd (other side)) (beside side l r) w.generation) where
   -- with a 0 at its end
   pub settled_by : Stands (has_odd side) (on side l r) w → IsSettledFor side l r s
-  settled_by stands = record { stands = stand_for side l r w s leads stands.found aside; written = w; open_on = stands; others = aside }
+  settled_by stands = record {
+    stands = stand_for side l r w s leads stands.found aside;
+    written = w;
+    open_on = stands;
+    others = aside;
+  }
 
 -- of a settled pair, that of the taken disk's journal
 pub settled_leads : (side : Side) (l r : List ℕ) (s : State) → (settled : IsSettledFor side l r s)
@@ -109,7 +121,8 @@ pub settled_from_one : (side : Side) (l r : List ℕ) (s : State) → IsSettledF
 settled_from_one side l r s settled =
     let odd = has_odd side in
     let found = settled.open_on.found in
-    subst (λ (n : ℕ). 1 ≤ n) (leads_generation odd (on side l r) settled.written s found (settled_leads side l r s settled))
+    subst (λ (n : ℕ). 1 ≤ n) (leads_generation odd (on side l r) settled.written s found
+    (settled_leads side l r s settled))
     (from_one odd settled.written.generation (has_generation odd (on side l r) settled.written found))
 
 -- a settled pair is kept
@@ -128,7 +141,9 @@ settled_kept side l r s settled = record {
 }
 
 -- a record is pending at its end
-pub pending_kept : (side : Side) (l r : List ℕ) (w : Written) (s : State) (c : Command) → LeadsTo w s → IsAside (has_odd (other side)) (beside side l r) w.generation → HoldsRecord (has_odd side) (on side l r) w s c → IsKept l r s
+pub pending_kept : (side : Side) (l r : List ℕ) (w : Written) (s : State) (c : Command) → LeadsTo w s
+    → IsAside (has_odd (other side)) (beside side l r) w.generation → HoldsRecord (has_odd side) (on side l r) w s c
+    → IsKept l r s
 pending_kept side l r w s c leads aside holds = record {
   stands = stand_for side l r w s leads holds.pending.found aside;
   rests = inl (
@@ -144,29 +159,36 @@ pending_kept side l r w s c leads aside holds = record {
 
 -- ---- an append
 
--- What a stop in an append leaves of a settled pair, and what it reads after a fault: a pair kept for the state or, with the record, for
--- the state after its command.
-pub append_kept : (side : Side) (l r a b : List ℕ) (s : State) (c : Command) (settled : IsSettledFor side l r s) → ruling s c ≡ Allowed
-    → beside side a b ≡ beside side l r → BeforeOrAfter (has_odd side) settled.written c (on side a b) → IsKept a b s ⊎ IsKept a b (after s c)
+-- What a stop in an append leaves of a settled pair, and what it reads after a fault: a pair kept for the state or,
+-- with the record, for the state after its command.
+pub append_kept : (side : Side) (l r a b : List ℕ) (s : State) (c : Command) (settled : IsSettledFor side l r s)
+    → ruling s c ≡ Allowed
+    → beside side a b ≡ beside side l r → BeforeOrAfter (has_odd side) settled.written c (on side a b) → IsKept a b s
+    ⊎ IsKept a b (after s c)
 append_kept side l r a b s c settled allowed same left =
     let w = settled.written in
     let leads = settled_leads side l r s settled in
-    let aside : IsAside (has_odd (other side)) (beside side a b) w.generation = subst (λ (x : List ℕ). IsAside (has_odd (other side)) x w.generation) (sym same) settled.others in
+    let aside : IsAside (has_odd (other side)) (beside side a b) w.generation =
+    subst (λ (x : List ℕ). IsAside (has_odd (other side)) x w.generation) (sym same) settled.others in
     ⊎_elim
     (λ before. inl (settled_kept side a b s (settled_by side a b w s leads aside before)))
     (λ more. ⊎_elim
     (λ pending. inl (pending_kept side a b w s c leads aside (record { pending = pending; allowed = allowed })))
-    (λ behind. inr (settled_kept side a b (after s c) (settled_by side a b (and_then w c) (after s c) (leads_further w c s leads allowed) aside behind)))
+    (λ behind. inr (settled_kept side a b (after s c) (settled_by side a b (and_then w c) (after s c)
+    (leads_further w c s leads allowed) aside behind)))
     more)
     left
 
 -- once its record stands, the pair is settled for the state after its command
-pub append_settled : (side : Side) (l r a b : List ℕ) (s : State) (c : Command) (settled : IsSettledFor side l r s) → ruling s c ≡ Allowed
-    → beside side a b ≡ beside side l r → Stands (has_odd side) (on side a b) (and_then settled.written c) → IsSettledFor side a b (after s c)
+pub append_settled : (side : Side) (l r a b : List ℕ) (s : State) (c : Command) (settled : IsSettledFor side l r s)
+    → ruling s c ≡ Allowed
+    → beside side a b ≡ beside side l r → Stands (has_odd side) (on side a b) (and_then settled.written c)
+    → IsSettledFor side a b (after s c)
 append_settled side l r a b s c settled allowed same stands =
     let w = settled.written in
     let leads = settled_leads side l r s settled in
-    let aside : IsAside (has_odd (other side)) (beside side a b) w.generation = subst (λ (x : List ℕ). IsAside (has_odd (other side)) x w.generation) (sym same) settled.others in
+    let aside : IsAside (has_odd (other side)) (beside side a b) w.generation =
+    subst (λ (x : List ℕ). IsAside (has_odd (other side)) x w.generation) (sym same) settled.others in
     settled_by side a b (and_then w c) (after s c) (leads_further w c s leads allowed) aside stands
 
 -- ---- none begun
@@ -180,7 +202,8 @@ first_leads w s first limit none alike = record {
 }
 
 -- the state for which two disks without a journal stand
-pub none_alike : (l r : List ℕ) (s : State) → StandFor l r s → found_on true l ≡ Absent → found_on false r ≡ Absent → Alike opening s
+pub none_alike : (l r : List ℕ) (s : State) → StandFor l r s → found_on true l ≡ Absent → found_on false r ≡ Absent
+    → Alike opening s
 none_alike l r s stands left right =
     let both : pair_ends opening ≡ Ok stands.state = sym (state_none l r left right) ∙ stands.is in
     let same : opening ≡ stands.state = cc (both) in
@@ -191,7 +214,8 @@ none_alike l r s stands left right =
       right = stands.formed;
     })
 
-none_stand : (l r : List ℕ) (s : State) → Alike opening s → found_on true l ≡ Absent → found_on false r ≡ Absent → StandFor l r s
+none_stand : (l r : List ℕ) (s : State) → Alike opening s → found_on true l ≡ Absent → found_on false r ≡ Absent
+    → StandFor l r s
 none_stand l r s alike left right = record {
   state = opening;
   is = state_none l r left right;
@@ -210,8 +234,11 @@ first_settled l r w s alike stands first limit none closed =
 
 -- the first generation without records, open or not, or a closed disk, beside a closed one
 pub begun_kept : (l r : List ℕ) (s : State) → Alike opening s → IsClosed l ⊎ IsFirst true l → IsClosed r → IsKept l r s
-begun_kept l r s alike (inl left) closed = none_kept l r s alike (closed_absent true l left, inl left) (closed_absent false r closed, inl closed)
+begun_kept l r s alike (inl left) closed = none_kept l r s alike (closed_absent true l left, inl left)
+    (closed_absent false r closed, inl closed)
 begun_kept l r s alike (inr first) closed = ⊎_elim
-    (λ gate. settled_kept Left l r s (first_settled l r first.written s alike (subst (λ (x : List ℕ). Stands true x first.written) (opened_already l gate) first.stands) first.first first.limit_is first.none closed))
+    (λ gate. settled_kept Left l r s (first_settled l r first.written s alike
+    (subst (λ (x : List ℕ). Stands true x first.written) (opened_already l gate) first.stands) first.first
+    first.limit_is first.none closed))
     (λ shut. none_kept l r s alike (unopened_absent true l shut, inr first) (closed_absent false r closed, inl closed))
     (gate_open_or_not l)

@@ -1,10 +1,10 @@
 pub mod Alike
 pub mod Alone
 pub mod Around
-pub mod AtEnd
+mod AtEnd
 pub mod Basing
 pub mod Beginning
-pub mod Checkpoints
+mod Checkpoints
 pub mod Commands
 pub mod FirstPlace
 pub mod Formed

@@ -23,12 +23,19 @@ use Rattle.liq_pairs.proofs.Turning.{rotation_leads, turned, turning_kept}
 -- ---- with a taken disk
 
 -- by what is left of the taken disk's end
-by_end : (side : Side) (l r a b : List ℕ) (w : Written) (s : State) → LeadsTo w s → IsAside (has_odd (other side)) (beside side a b) w.generation
+by_end : (side : Side) (l r a b : List ℕ) (w : Written) (s : State) → LeadsTo w s
+    → IsAside (has_odd (other side)) (beside side a b) w.generation
     → LeftAtEnd (has_odd side) (on side l r) w s (on side a b) → IsRecovered l r s a b
-by_end side l r a b w s leads aside (ended stands) = inl (settled_kept side a b s (settled_by side a b w s leads aside stands))
+by_end side l r a b w s leads aside (ended stands) =
+    inl (settled_kept side a b s (settled_by side a b w s leads aside stands))
 by_end side l r a b w s leads aside (pends c holds) = inl (pending_kept side a b w s c leads aside holds)
 by_end side l r a b w s leads aside (finished c was allowed stands) =
-    inr (c, (side, inl was), settled_kept side a b (after s c) (settled_by side a b (and_then w c) (after s c) (leads_further w c s leads allowed) aside stands))
+    inr (
+      c,
+      (side, inl was),
+      settled_kept side a b (after s c) (settled_by side a b (and_then w c) (after s c)
+          (leads_further w c s leads allowed) aside stands),
+    )
 
 -- beside a rotation that isn't open
 unfinished : (side : Side) (l r : List ℕ) (s : State) (c : Command)
@@ -48,14 +55,16 @@ module _ (side : Side) (l r a b : List ℕ) (w : Written) (s : State) (leads : L
   next_leads = rotation_leads s kept.holds.written kept.command leads.alike.right kept.holds.rotation
 
   now_older : IsOlder (has_odd side) (on side a b) kept.holds.written.generation
-  now_older = open_older (has_odd side) (on side a b) w leads.state kept.holds.written.generation stands leads.came kept.later
+  now_older = open_older (has_odd side) (on side a b) w leads.state kept.holds.written.generation stands leads.came
+      kept.later
 
   -- an open gate is at place 0, where no 0 was
   turns : IsUnshut (beside side l r) → beside side a b ≡ opened 0 (beside side l r) → IsRecovered l r s a b
   turns unshut is =
       let odd = has_odd (other side) in
       let next = kept.holds.written in
-      let made : Stands odd (beside side a b) next = subst (λ (x : List ℕ). Stands odd x next) (sym is) kept.holds.stands in
+      let made : Stands odd (beside side a b) next = subst (λ (x : List ℕ). Stands odd x next)
+      (sym is) kept.holds.stands in
       inr (
         kept.command,
         unfinished side l r s kept.command (record { rotation = kept.holds; unshut = unshut }),
@@ -104,9 +113,11 @@ module _ (side : Side) (l r a b : List ℕ) (s : State) (stands : StandFor l r s
       let w = kept.written in
       let odd = has_odd side in
       let open_on : Stands odd (on side l r) w = record { found = kept.found; ended = turning.ended } in
-      let behind = rotation_behind (has_odd (other side)) (beside side l r) w.generation s turning.command turning.holds in
+      let behind = rotation_behind (has_odd (other side)) (beside side l r) w.generation s turning.command turning.holds
+      in
       let still : Stands odd (on side a b) w =
-      subst (λ (x : List ℕ). Stands odd x w) (sym (stands_still odd (on side l r) (on side a b) w open_on taken_left)) open_on in
+      subst (λ (x : List ℕ). Stands odd x w) (sym (stands_still odd (on side l r) (on side a b) w open_on taken_left))
+      open_on in
       turning_recovered side l r a b w s (leads_before side l r w s stands kept.found behind) still turning beside_left
 
   pub recovered_on : IsRecovered l r s a b
@@ -117,13 +128,15 @@ module _ (side : Side) (l r a b : List ℕ) (s : State) (stands : StandFor l r s
 
 -- ---- with none
 
-begun_left : (l image : List ℕ) → IsClosed l ⊎ IsFirst true l → SettleLeaves 0 l image → IsClosed image ⊎ IsFirst true image
+begun_left : (l image : List ℕ) → IsClosed l ⊎ IsFirst true l → SettleLeaves 0 l image → IsClosed image
+    ⊎ IsFirst true image
 begun_left l image begun (inl same) = subst (λ (x : List ℕ). IsClosed x ⊎ IsFirst true x) (sym same) begun
 begun_left l image begun (inr (unshut, has)) = subst (λ (x : List ℕ). IsClosed x ⊎ IsFirst true x) (sym has.1)
     (⊎_elim (λ closed. inl (closed_with l has.0 closed unshut)) (λ first. inr (first_with true l has.0 first)) begun)
 
 -- an opening shuts no more than place 0 of it
-settled_so : (odd : Bool) (held image : List ℕ) → found_on odd held ≡ Absent → OpenLeaves odd held image → SettleLeaves 0 held image
+settled_so : (odd : Bool) (held image : List ℕ) → found_on odd held ≡ Absent → OpenLeaves odd held image
+    → SettleLeaves 0 held image
 settled_so odd held image absent (inl same) = inl same
 settled_so odd held image absent (inr (place, inl some, has)) = absurd (absent_isnt_open odd held some.0 absent some.1)
 settled_so odd held image absent (inr (place, inr none, has)) =
@@ -137,25 +150,36 @@ closed_left r image begun (inl same) = subst (λ (x : List ℕ). IsClosed x) (sy
 closed_left r image begun (inr (unshut, has)) = subst (λ (x : List ℕ). IsClosed x) (sym has.1)
     (⊎_elim (λ closed. closed_with r has.0 closed unshut) (λ first. absurd (first_is_left r first)) begun.1)
 
-begun_so : (l image : List ℕ) → IsClosed l ⊎ IsFirst true l → CreateLeaves true l (beginning 1 []) image → IsClosed image ⊎ IsFirst true image
+begun_so : (l image : List ℕ) → IsClosed l ⊎ IsFirst true l → CreateLeaves true l (beginning 1 []) image
+    → IsClosed image ⊎ IsFirst true image
 begun_so l image begun (inl closed) = inl closed
 begun_so l image begun (inr (inl settled)) = begun_left l image begun settled
-begun_so l image begun (inr (inr stands)) = inr (record { written = beginning 1 []; stands = stands; first = refl; limit_is = refl; none = refl })
+begun_so l image begun (inr (inr stands)) = inr (record {
+  written = beginning 1 [];
+  stands = stands;
+  first = refl;
+  limit_is = refl;
+  none = refl;
+})
 
 -- ---- both
 
--- Of a pair that is kept for a state an opening leaves, at each moment and whatever it answers, one that is kept for it, or for it after
--- the command that the pair held unfinished.
-pub recovered : (l r a b : List ℕ) (s : State) → IsKept l r s → LeftLeaves l r a → OpenLeaves false r b → IsRecovered l r s a b
+-- Of a pair that is kept for a state an opening leaves, at each moment and whatever it answers, one that is kept for
+-- it, or for it after the command that the pair held unfinished.
+pub recovered : (l r a b : List ℕ) (s : State) → IsKept l r s → LeftLeaves l r a → OpenLeaves false r b
+    → IsRecovered l r s a b
 recovered l r a b s kept left right = by kept.rests left
   where
-    by : ((side : Side) × IsKeptOn side l r s) ⊎ (IsUnbegun true l × IsUnbegun false r) → LeftLeaves l r a → IsRecovered l r s a b
+    by : ((side : Side) × IsKeptOn side l r s) ⊎ (IsUnbegun true l × IsUnbegun false r) → LeftLeaves l r a
+        → IsRecovered l r s a b
     by (inl (Left, on_left)) (inl opened) = recovered_on Left l r a b s kept.stands on_left opened right
     by (inl (Left, on_left)) (inr created) = absurd (absent_isnt_open true l on_left.written created.0 on_left.found)
     by (inl (Right, on_right)) (inl opened) = recovered_on Right l r a b s kept.stands on_right right opened
-    by (inl (Right, on_right)) (inr created) = absurd (absent_isnt_open false r on_right.written created.1 on_right.found)
+    by (inl (Right, on_right)) (inr created) =
+        absurd (absent_isnt_open false r on_right.written created.1 on_right.found)
     by (inr begun) (inl opened) = inl (begun_kept a b s (none_alike l r s kept.stands begun.0.0 begun.1.0)
-        (begun_left l a begun.0.1 (settled_so true l a begun.0.0 opened)) (closed_left r b begun.1 (settled_so false r b begun.1.0 right)))
+        (begun_left l a begun.0.1 (settled_so true l a begun.0.0 opened)) (closed_left r b begun.1
+        (settled_so false r b begun.1.0 right)))
     by (inr begun) (inr created) = inl (begun_kept a b s (none_alike l r s kept.stands begun.0.0 begun.1.0)
         (begun_so l a begun.0.1 created.2) (closed_left r b begun.1 (settled_so false r b begun.1.0 right)))
 
@@ -169,7 +193,8 @@ settled_left side l r a b s settled taken_left beside_left =
     let odd = has_odd side in
     settled_by side a b w s (settled_leads side l r s settled)
     (aside_left (has_odd (other side)) (beside side l r) (beside side a b) w.generation settled.others beside_left)
-    (subst (λ (x : List ℕ). Stands odd x w) (sym (stands_still odd (on side l r) (on side a b) w settled.open_on taken_left)) settled.open_on)
+    (subst (λ (x : List ℕ). Stands odd x w) (sym (stands_still odd (on side l r) (on side a b) w settled.open_on
+    taken_left)) settled.open_on)
 
 -- an opening leaves it settled for its state, on its side
 pub settled_again : (side : Side) (l r a b : List ℕ) (s : State) → IsSettledFor side l r s → LeftLeaves l r a

@@ -20,26 +20,31 @@ pub standing_absent : (odd : Bool) (bytes : List ℕ) → found_on odd bytes ≡
 unfolding standing
 standing_absent odd bytes found = ap standing_of found
 
-pub standing_damaged : (odd : Bool) (bytes : List ℕ) (damage : Damage) → found_on odd bytes ≡ Damaged damage → standing odd bytes ≡ Faulty damage
+pub standing_damaged : (odd : Bool) (bytes : List ℕ) (damage : Damage) → found_on odd bytes ≡ Damaged damage
+    → standing odd bytes ≡ Faulty damage
 unfolding standing
 standing_damaged odd bytes damage found = ap standing_of found
 
-pub standing_faulty : (odd : Bool) (bytes : List ℕ) (w : Written) (damage : Damage) → found_on odd bytes ≡ Open w → outcome w ≡ Err damage → standing odd bytes ≡ Faulty damage
+pub standing_faulty : (odd : Bool) (bytes : List ℕ) (w : Written) (damage : Damage) → found_on odd bytes ≡ Open w
+    → outcome w ≡ Err damage → standing odd bytes ≡ Faulty damage
 unfolding standing
 standing_faulty odd bytes w damage found came = ap standing_of found ∙ ap (standing_after w.generation) came
 
-pub standing_open : (odd : Bool) (bytes : List ℕ) (w : Written) (s : State) → found_on odd bytes ≡ Open w → outcome w ≡ Ok s → standing odd bytes ≡ Holding w.generation s
+pub standing_open : (odd : Bool) (bytes : List ℕ) (w : Written) (s : State) → found_on odd bytes ≡ Open w
+    → outcome w ≡ Ok s → standing odd bytes ≡ Holding w.generation s
 unfolding standing
 standing_open odd bytes w s found came = ap standing_of found ∙ ap (standing_after w.generation) came
 
 -- ---- two
 
 -- what is found on both decides it
-pub state_alike : (l r a b : List ℕ) → found_on true a ≡ found_on true l → found_on false b ≡ found_on false r → state_on a b ≡ state_on l r
+pub state_alike : (l r a b : List ℕ) → found_on true a ≡ found_on true l → found_on false b ≡ found_on false r
+    → state_on a b ≡ state_on l r
 unfolding state_on
 state_alike l r a b left right = λ i. pair_state (standing_alike true a l left i) (standing_alike false b r right i)
 
-pub state_by : (l r : List ℕ) (left right : Standing) → standing true l ≡ left → standing false r ≡ right → state_on l r ≡ pair_state left right
+pub state_by : (l r : List ℕ) (left right : Standing) → standing true l ≡ left → standing false r ≡ right
+    → state_on l r ≡ pair_state left right
 unfolding state_on
 state_by l r left right is_left is_right = λ i. pair_state (is_left i) (is_right i)
 
@@ -52,16 +57,19 @@ pub data IsBehind (generation : ℕ) (standing : Standing) : Type 0 where
   older : (earlier : ℕ) (s : State) → earlier < generation → standing ≡ Holding earlier s → IsBehind generation standing
 
 -- the state is that of the disk of this side, beside which none or an older one is
-pub state_taken : (side : Side) (l r : List ℕ) (w : Written) (s : State) → found_on (has_odd side) (on side l r) ≡ Open w → outcome w ≡ Ok s
+pub state_taken : (side : Side) (l r : List ℕ) (w : Written) (s : State) → found_on (has_odd side) (on side l r)
+    ≡ Open w → outcome w ≡ Ok s
     → IsBehind w.generation (standing (has_odd (other side)) (beside side l r)) → state_on l r ≡ Ok s
-state_taken Left l r w s found came (nothing is) = state_by l r (Holding w.generation s) Nothing (standing_open true l w s found came) is
+state_taken Left l r w s found came (nothing is) = state_by l r (Holding w.generation s) Nothing
+    (standing_open true l w s found came) is
 state_taken Left l r w s found came (older earlier t less is) =
     state_by l r (Holding w.generation s) (Holding earlier t) (standing_open true l w s found came) is
     ∙ ap (λ (b : Bool). Ok (if b then t else s)) (not_less w.generation earlier less)
   where
     not_less : (n m : ℕ) → m < n → nat_lt n m ≡ false
     not_less n m less = grind (arith, nat_tests)
-state_taken Right l r w s found came (nothing is) = state_by l r Nothing (Holding w.generation s) is (standing_open false r w s found came)
+state_taken Right l r w s found came (nothing is) = state_by l r Nothing (Holding w.generation s) is
+    (standing_open false r w s found came)
 state_taken Right l r w s found came (older earlier t less is) =
     state_by l r (Holding earlier t) (Holding w.generation s) is (standing_open false r w s found came)
     ∙ ap (λ (b : Bool). Ok (if b then s else t)) (is_less earlier w.generation less)
@@ -77,7 +85,8 @@ pair_ends s = Ok s
 abbrev replay_ends : State → Result State Damage
 replay_ends s = Ok s
 
-no_damage : (side : Side) (came : Result State Damage) (w : Written) (l r : List ℕ) (t : State) → outcome w ≡ came → found_on (has_odd side) (on side l r) ≡ Open w
+no_damage : (side : Side) (came : Result State Damage) (w : Written) (l r : List ℕ) (t : State) → outcome w ≡ came
+    → found_on (has_odd side) (on side l r) ≡ Open w
     → IsBehind w.generation (standing (has_odd (other side)) (beside side l r)) → state_on l r ≡ Ok t → outcome w ≡ Ok t
 no_damage side (Ok s) w l r t came found behind is =
     let both : pair_ends s ≡ Ok t = sym (state_taken side l r w s found came behind) ∙ is in
@@ -94,6 +103,7 @@ no_damage Right (Err damage) w l r t came found (older earlier s less holds) is 
     absurd (let no = sym e ∙ is in cc (no))
 
 -- the journal that is taken leads to the state for which the pair stands
-pub outcome_taken : (side : Side) (l r : List ℕ) (w : Written) (t : State) → found_on (has_odd side) (on side l r) ≡ Open w
+pub outcome_taken : (side : Side) (l r : List ℕ) (w : Written) (t : State) → found_on (has_odd side) (on side l r)
+    ≡ Open w
     → IsBehind w.generation (standing (has_odd (other side)) (beside side l r)) → state_on l r ≡ Ok t → outcome w ≡ Ok t
 outcome_taken side l r w t found behind is = no_damage side (outcome w) w l r t refl found behind is

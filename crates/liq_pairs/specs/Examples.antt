@@ -30,12 +30,14 @@ open_with generation commands = Open (record (beginning generation []) { command
 
 -- a journal of version 1 without records
 abbrev pub begun_by_version_1 : ℕ → List ℕ → Written
-begun_by_version_1 generation checkpoint = record (beginning generation checkpoint) { limit = LIM_OF_VERSION_1 }
+begun_by_version_1 generation checkpoint =
+    record (beginning generation checkpoint) { limit = LIM_OF_VERSION_1 }
 
 abbrev pub rotate : Command
 rotate = record { client = 1; number = 1; call = Rotate }
 
--- the image after a rotation of the opening, which is of generation 2, with this limit and this price
+-- the image after a rotation of the opening, which is of generation 2, with this limit and this
+-- price
 abbrev pub rotated_with : ℕ → ℕ → Image
 rotated_with limit price = record (image (after opening rotate)) { limit = limit; price = price }
 

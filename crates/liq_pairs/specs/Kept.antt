@@ -1,4 +1,5 @@
--- What two disks are kept for: they stand for it, and a stop in the midst of what is written next is told from it.
+-- What two disks are kept for: they stand for it, and a stop in the midst of what is written next
+-- is told from it.
 use Rattle.std.specs.Prelude.{◌≡◌, ◌⊎◌, ℕ, ◌+◌, ◌<◌, List, [], get_or, Ok, Bool, true, false}
 use Rattle.liq_types.specs.declared.amounts.TheConstants.{LIM}
 use Rattle.liq_types.specs.declared.requests.Call.TheVariants.{Rotate}
@@ -15,12 +16,14 @@ use Rattle.liq_pairs.specs.Replay.{outcome}
 use Rattle.liq_pairs.specs.Sides.{beside, has_odd, on, other}
 
 -- behind the end byte one further record stands whole, which the state accepts, and then a 0
-pub record HoldsRecord (odd : Bool) (bytes : List ℕ) (w : Written) (s : State) (c : Command) : Type 0 where
+pub record HoldsRecord (odd : Bool) (bytes : List ℕ) (w : Written) (s : State) (c : Command) :
+    Type 0 where
   pub pending : IsPending odd bytes w c
   pub allowed : ruling s c ≡ Allowed
 
--- This is the journal of the state after a rotation, which it accepts: of the next generation, and with that state's
--- image as its checkpoint, from which it leads there. Whatever the limit was, its own is the greater one.
+-- This is the journal of the state after a rotation, which it accepts: of the next generation, and
+-- with that state's image as its checkpoint, from which it leads there. Whatever the limit was, its
+-- own is the greater one.
 pub record IsRotationOf (s : State) (w : Written) (c : Command) : Type 0 where
   pub rotates : c.call ≡ Rotate
   pub allowed : ruling s c ≡ Allowed
@@ -31,8 +34,8 @@ pub record IsRotationOf (s : State) (w : Written) (c : Command) : Type 0 where
   pub came : outcome w ≡ Ok state
   pub same : IsSameState state (after s c)
 
--- The gate at place 0 isn't open. With an open one it is the journal after this rotation, without records and with a 0
--- where the first one's gate is.
+-- The gate at place 0 isn't open. With an open one it is the journal after this rotation, without
+-- records and with a 0 where the first one's gate is.
 pub record HoldsRotation (odd : Bool) (bytes : List ℕ) (s : State) (c : Command) : Type 0 where
   pub written : Written
   pub stands : Stands odd (opened 0 bytes) written
@@ -40,8 +43,8 @@ pub record HoldsRotation (odd : Bool) (bytes : List ℕ) (s : State) (c : Comman
   pub rotation : IsRotationOf s written c
   pub shut : get_or bytes 0 0 ≡ 1 → ⊥
 
--- With an open gate at place 0 it is an undamaged journal of a smaller generation, with a 0 behind its last record. It
--- is of either version.
+-- With an open gate at place 0 it is an undamaged journal of a smaller generation, with a 0 behind
+-- its last record. It is of either version.
 pub record IsOlder (odd : Bool) (bytes : List ℕ) (generation : ℕ) : Type 0 where
   pub written : Written
   pub stands : Stands odd (opened 0 bytes) written
@@ -49,9 +52,9 @@ pub record IsOlder (odd : Bool) (bytes : List ℕ) (generation : ℕ) : Type 0 w
   pub state : State
   pub replays : outcome written ≡ Ok state
 
--- With an open gate at place 0 it is the first generation without records, with a 0 where the first one's gate is. It
--- has the limit of the opening state, so that once its gate is open it leads to what it led to before. A creation
--- leaves no other.
+-- With an open gate at place 0 it is the first generation without records, with a 0 where the first
+-- one's gate is. It has the limit of the opening state, so that once its gate is open it leads to
+-- what it led to before. A creation leaves no other.
 pub record IsFirst (odd : Bool) (bytes : List ℕ) : Type 0 where
   pub written : Written
   pub stands : Stands odd (opened 0 bytes) written
@@ -59,16 +62,18 @@ pub record IsFirst (odd : Bool) (bytes : List ℕ) : Type 0 where
   pub limit_is : written.limit ≡ LIM
   pub none : written.commands ≡ []
 
--- Behind the last record of the journal on the disk of this side is a 0, and beside it stands the state's rotation,
--- which is of a greater generation.
-pub record StandsBesideRotation (side : Side) (left right : List ℕ) (w : Written) (s : State) : Type 0 where
+-- Behind the last record of the journal on the disk of this side is a 0, and beside it stands the
+-- state's rotation, which is of a greater generation.
+pub record StandsBesideRotation (side : Side) (left right : List ℕ) (w : Written) (s : State) :
+    Type 0 where
   pub ended : EndsWith 0 (on side left right) w
   pub command : Command
   pub holds : HoldsRotation (has_odd (other side)) (beside side left right) s command
   pub later : w.generation < holds.written.generation
 
--- The disk of this side is open. Behind its last record is a 0, or one more record that the state accepts; beside it is
--- a closed disk, or an older one, or, where the 0 is there, the state's rotation.
+-- The disk of this side is open. Behind its last record is a 0, or one more record that the state
+-- accepts; beside it is a closed disk, or an older one, or, where the 0 is there, the state's
+-- rotation.
 pub record IsKeptOn (side : Side) (left right : List ℕ) (s : State) : Type 0 where
   pub written : Written
   pub found : found_on (has_odd side) (on side left right) ≡ Open written
@@ -86,10 +91,12 @@ IsUnbegun odd bytes = (found_on odd bytes ≡ Absent) × (IsClosed bytes ⊎ IsF
 
 pub record IsKept (left right : List ℕ) (s : State) : Type 0 where
   pub stands : StandFor left right s
-  pub rests : ((side : Side) × IsKeptOn side left right s) ⊎ (IsUnbegun true left × IsUnbegun false right)
+  pub rests : ((side : Side) × IsKeptOn side left right s) ⊎ (IsUnbegun true left
+      × IsUnbegun false right)
 
--- Settled: they stand for the state, the disk of this side is open with a 0 behind its last record, and the other is
--- closed, or older. So it is after an opening and after each call that met no fault.
+-- Settled: they stand for the state, the disk of this side is open with a 0 behind its last record,
+-- and the other is closed, or older. So it is after an opening and after each call that met no
+-- fault.
 pub record IsSettledFor (side : Side) (left right : List ℕ) (s : State) : Type 0 where
   pub stands : StandFor left right s
   pub written : Written

@@ -1,5 +1,6 @@
--- What a run leaves of its disks: each image that one of them may have had since then, and both at the end. It began
--- with l and r on them, which were kept for the state `start`, and answered these requests.
+-- What a run leaves of its disks: each image that one of them may have had since then, and both at
+-- the end. It began with l and r on them, which were kept for the state `start`, and answered these
+-- requests.
 use Rattle.std.specs.Prelude.{◌≡◌, ◌⊎◌, ℕ, ◌<◌, ◌≤◌, List, [], ◌∷◌, ◌++◌, take, fold, count_by}
 use Rattle.liq_types.specs.declared.requests.Command.{Command}
 use Rattle.liq_types.specs.declared.requests.Request.{Request}
@@ -15,7 +16,8 @@ use Rattle.liq_pairs.specs.Pair.{StandFor}
 use Rattle.liq_pairs.specs.Sides.{beside, has_odd, on, other}
 use Rattle.liq_pairs.specs.Unfinished.{HoldsUnfinished, IsRecovered}
 
--- Where a disk met a fault, with which a run ends: nowhere, in the opening, or at this command behind the requests.
+-- Where a disk met a fault, with which a run ends: nowhere, in the opening, or at this command
+-- behind the requests.
 pub data Fault : Type 0 where
   NoFault : Fault
   InOpening : Fault
@@ -51,8 +53,8 @@ abbrev pub IsOfFailed : Side → State → Fault → List ℕ → Type 0
 IsOfFailed side s (AtCommand c) image = (ruling s c ≡ Allowed) × StandsAlone side image (after s c)
 IsOfFailed side s _ image = ⊥
 
--- An image that the disk of this side may have had: no journal is open on it, or it is as it stood at the start, or it
--- stands for a state of the run.
+-- An image that the disk of this side may have had: no journal is open on it, or it is as it stood
+-- at the start, or it stands for a state of the run.
 abbrev pub IsOfRun : Side → List ℕ → List ℕ → State → List Request → Fault → List ℕ → Type 0
 IsOfRun side l r start requests fault image =
     (found_on (has_odd side) image ≡ Absent)
@@ -63,7 +65,8 @@ IsOfRun side l r start requests fault image =
 
 -- ---- all of them
 
--- At the start the disk of this side was open, and the other one was not, or was of a smaller generation.
+-- At the start the disk of this side was open, and the other one was not, or was of a smaller
+-- generation.
 pub record IsTakenFirst (side : Side) (l r : List ℕ) : Type 0 where
   pub written : Written
   pub found : found_on (has_odd side) (on side l r) ≡ Open written
@@ -76,8 +79,8 @@ abbrev pub rotations : State → List Request → Fault → ℕ
 rotations start requests fault =
     count_by (λ (c : Command). is_rotate c.call) (accepted start requests ++ failed_commands fault)
 
--- All that a crash at some moment since these may have left of either disk. The disk that was taken first is absent in
--- none of it, unless there were two rotations.
+-- All that a crash at some moment since these may have left of either disk. The disk that was taken
+-- first is absent in none of it, unless there were two rotations.
 pub record LeavesPast
     {D : Type 0} (at : D → DiskAt) (since : Side → ℕ)
     (l r : List ℕ) (start : State) (requests : List Request) (fault : Fault)
@@ -92,8 +95,8 @@ pub record LeavesPast
 
 -- ---- both at the end
 
--- Kept for the state after the requests; after a fault in the opening for what an opening leaves; after one at a
--- command for the state before it, or after it where it is accepted.
+-- Kept for the state after the requests; after a fault in the opening for what an opening leaves;
+-- after one at a command for the state before it, or after it where it is accepted.
 abbrev pub KeptAtEnd : List ℕ → List ℕ → State → List Request → Fault → List ℕ → List ℕ → Type 0
 KeptAtEnd l r start requests NoFault a b = IsKept a b (run start requests).0
 KeptAtEnd l r start requests InOpening a b = (requests ≡ []) × IsRecovered l r start a b

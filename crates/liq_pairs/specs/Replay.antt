@@ -17,7 +17,8 @@ use Rattle.liq_journal.specs.Written.{Written}
 
 -- a checkpoint's damage, by its place in the checkpoint, which stands behind the journal's header
 abbrev pub bad_checkpoint : Written → ℕ → Result State Damage
-bad_checkpoint w place = Err (record { index = 0; what = what.Form (header_size (layout_with w.limit) + place) })
+bad_checkpoint w place =
+    Err (record { index = 0; what = what.Form (header_size (layout_with w.limit) + place) })
 
 -- the image is of this journal's generation, and of the limit of its version
 abbrev pub is_image_of : Written → Image → Bool
@@ -33,8 +34,8 @@ abbrev pub read_base : Written → Result Image ℕ → Result State Damage
 read_base w (Err place) = bad_checkpoint w place
 read_base w (Ok i) = sound_base w i (first_unsound i 0)
 
--- The state with which a journal begins: the first generation with the opening under the limit of its version, each
--- later one with the image in its checkpoint.
+-- The state with which a journal begins: the first generation with the opening under the limit of
+-- its version, each later one with the image in its checkpoint.
 unfoldable pub base_of : Written → Result State Damage
 base_of w =
     if w.generation == 1
@@ -43,14 +44,16 @@ base_of w =
 
 -- ---- what follows
 
--- A record is damaged where the rules refuse its command, or find it a repetition; else the replay goes on.
+-- A record is damaged where the rules refuse its command, or find it a repetition; else the replay
+-- goes on.
 abbrev pub replayed : ℕ → Ruling → Result State Damage → Result State Damage
-replayed index (Refused refusal) rest = Err (record { index = index; what = what.Replay (code_of refusal) })
+replayed index (Refused refusal) rest =
+    Err (record { index = index; what = what.Replay (code_of refusal) })
 replayed index (Repeated kept) rest = Err (record { index = index; what = what.Replay 0 })
 replayed index Allowed rest = rest
 
--- the state after these commands, the first being the record of this number; or the damage of the first that is not
--- accepted
+-- the state after these commands, the first being the record of this number; or the damage of the
+-- first that is not accepted
 unfoldable pub replay : ℕ → State → List Command → Result State Damage
 replay index s [] = Ok s
 replay index s (c ∷ cs) = replayed index (ruling s c) (replay (index + 1) (after s c) cs)
@@ -59,6 +62,7 @@ abbrev pub replay_from : Result State Damage → List Command → Result State D
 replay_from (Ok s) commands = replay 1 s commands
 replay_from (Err damage) commands = Err damage
 
--- the state after all that is written, or its first damage: the checkpoint's comes before any record's
+-- the state after all that is written, or its first damage: the checkpoint's comes before any
+-- record's
 abbrev pub outcome : Written → Result State Damage
 outcome w = replay_from (base_of w) w.commands

@@ -1,5 +1,5 @@
--- What an opening finds of two disks that a stop left, and what a stop leaves of the opening: a command may be
--- unfinished, that is whole behind a byte that is neither shut nor open.
+-- What an opening finds of two disks that a stop left, and what a stop leaves of the opening: a
+-- command may be unfinished, that is whole behind a byte that is neither shut nor open.
 use Rattle.std.specs.Prelude.{◌≡◌, ◌⊎◌, ℕ, List, [], Bool, true, false}
 use Rattle.liq_types.specs.declared.requests.Command.{Command}
 use Rattle.liq_types.specs.State.{State}
@@ -18,7 +18,8 @@ pub record IsUnfinishedRecord (odd : Bool) (bytes : List ℕ) (s : State) (c : C
   pub unshut : HasGate (end_of written) bytes → ⊥
 
 -- a rotation, and place 0 isn't 0
-pub record IsUnfinishedRotation (odd : Bool) (bytes : List ℕ) (s : State) (c : Command) : Type 0 where
+pub record IsUnfinishedRotation (odd : Bool) (bytes : List ℕ) (s : State) (c : Command) :
+    Type 0 where
   pub rotation : HoldsRotation odd bytes s c
   pub unshut : IsUnshut bytes
 
@@ -28,15 +29,15 @@ HoldsUnfinished left right s c =
     × (IsUnfinishedRecord (has_odd side) (on side left right) s c
     ⊎ IsUnfinishedRotation (has_odd side) (on side left right) s c)
 
--- Two disks that an opening may leave, of two others that were kept for the state: kept for it, or for it after the
--- command that those held unfinished.
+-- Two disks that an opening may leave, of two others that were kept for the state: kept for it, or
+-- for it after the command that those held unfinished.
 abbrev pub IsRecovered : List ℕ → List ℕ → State → List ℕ → List ℕ → Type 0
 IsRecovered left right s a b =
     IsKept a b s ⊎ ((c : Command) × HoldsUnfinished left right s c × IsKept a b (after s c))
 
--- What a stop in an opening leaves of the left disk: what the opening of its journal leaves; or, where neither disk has
--- one, what the creation of the first generation leaves. Of the right disk it leaves what the opening of its journal
--- leaves.
+-- What a stop in an opening leaves of the left disk: what the opening of its journal leaves; or,
+-- where neither disk has one, what the creation of the first generation leaves. Of the right disk
+-- it leaves what the opening of its journal leaves.
 abbrev pub LeftLeaves : List ℕ → List ℕ → List ℕ → Type 0
 LeftLeaves left right image =
     OpenLeaves true left image

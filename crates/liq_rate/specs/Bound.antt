@@ -10,4 +10,7 @@ fee_bound bound least = (nat_lt ONE bound || nat_lt bound least, FeeBound bound 
 
 -- the fee is a greater part of the amount than the bound
 abbrev pub fee_over : ℕ → ℕ → ℕ → Rule
-fee_over fee amount bound = (nat_lt (bound * amount) (fee * ONE), FeeOver (fee * ONE) (bound * amount))
+fee_over fee amount bound = (
+  nat_lt (bound * amount) (fee * ONE),
+  FeeOver (fee * ONE) (bound * amount),
+)

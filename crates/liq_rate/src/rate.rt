@@ -35,7 +35,10 @@ impl Rate {
     pub fn on_borrow(&self, now: u64) -> Rate
         requires base { self.now.base ≤ ONE }
         requires later { self.now.minute ≤ now }
-        ensures rate { result ≡ record { base = rules.decayed self.now.base self.now.minute now; minute = now } }
+        ensures rate { result ≡ record {
+          base = rules.decayed self.now.base self.now.minute now;
+          minute = now;
+        } }
         ensures within { result.base ≤ self.now.base }
     {
         Rate {
@@ -44,14 +47,19 @@ impl Rate {
         }
     }
 
-    /// The rate after a redemption (micro-LUSD) out of a supply (micro-LUSD): what is left of it and half of the part of the
-    /// supply that is redeemed, at most the whole.
+    /// The rate after a redemption (micro-LUSD) out of a supply (micro-LUSD): what is left of it
+    /// and half of the part of the supply that is redeemed, at most the whole.
     pub fn on_redeem(&self, now: u64, redeemed: u64, supply: u64) -> Rate
         requires base { self.now.base ≤ ONE }
         requires later { self.now.minute ≤ now }
         requires some { 1 ≤ redeemed }
         requires part { redeemed ≤ supply }
-        ensures rate { result ≡ record { base = rules.risen (rules.decayed self.now.base self.now.minute now) redeemed supply; minute = now } }
+        ensures rate { result
+            ≡ record {
+              base = rules.risen (rules.decayed self.now.base self.now.minute now) redeemed
+                  supply;
+              minute = now;
+            } }
         ensures within { result.base ≤ ONE }
     {
         let part = share_of(redeemed, supply);
@@ -71,7 +79,8 @@ pub fn borrow_fee(decayed: u64, amount: u64) -> u64
     part_of(amount, (decayed + FLOOR_RATE).min(MAX_BORROW_RATE))
 }
 
-/// The fee of a redemption that draws so much collateral (gwei), where the base rate after it is this.
+/// The fee of a redemption that draws so much collateral (gwei), where the base rate after it is
+/// this.
 pub fn redeem_fee(base: u64, drawn: u64) -> u64
     requires { base ≤ ONE }
     ensures fee { result ≡ rules.redeem_fee base drawn }

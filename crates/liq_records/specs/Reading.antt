@@ -1,5 +1,5 @@
--- The number of a record that is read, and the count of faults over reading: it rose exactly where a fault is the
--- answer.
+-- The number of a record that is read, and the count of faults over reading: it rose exactly where
+-- a fault is the answer.
 use Rattle.std.specs.Prelude.{◌≡◌, ◌≤◌, ℕ, Result, Ok, Err}
 use Rattle.liq_journal.specs.Causes.{Counted}
 use Rattle.liq_records.specs.declared.answers.AcceptedFault.{AcceptedFault}

@@ -11,9 +11,11 @@ use Rattle.liq_records.specs.declared.answers.AcceptedFault.TheVariants as fault
 
 -- a command that is not accepted damages its record, whichever it is and whatever follows it
 abbrev pub IsDamageBy : State → Command → ℕ → Damage → Type 0
-IsDamageBy s c index damage = (rest : Result State Damage) → replayed index (ruling s c) rest ≡ Err damage
+IsDamageBy s c index damage = (rest : Result State Damage) → replayed index (ruling s c) rest
+    ≡ Err damage
 
--- What becomes of the record of this number in the state before it: its command is accepted there, or damages it.
+-- What becomes of the record of this number in the state before it: its command is accepted there,
+-- or damages it.
 abbrev pub IsOutcome : State → Command → ℕ → Core → Result (Unit {0}) AcceptedFault → Type 0
 IsOutcome s c index core (Ok done) = (ruling s c ≡ Allowed) × StandsFor core (after s c)
 IsOutcome s c index core (Err fault.DiskFault) = Unit {0}

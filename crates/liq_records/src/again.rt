@@ -21,7 +21,8 @@ use liq_pairs::code_of;
 use liq_types::{Command, Steps};
 use std::sync::ledger::{Blank, Ledger};
 
-// The record of this number is damaged: the rules refuse its command, with this code; or it is a repetition, and the code is 0.
+// The record of this number is damaged: the rules refuse its command, with this code; or it is a
+// repetition, and the code is 0.
 fn unaccepted(index: u64, code: u8) -> AcceptedFault
     ensures { result ≡ AcceptedFault.Damaged (record { index = index; what = What.Replay code }) }
 {

@@ -19,7 +19,8 @@ pub fn later_side(left: &Guided, right: &Guided) -> Side
 
 /// Whether the protocol is of this generation and of this limit.
 pub fn is_of(protocol: &Protocol, generation: u64, limit: u64) -> bool
-    ensures { result ≡ (protocol.now.image.generation == generation && protocol.now.image.limit == limit) }
+    ensures { result ≡ (protocol.now.image.generation == generation && protocol.now.image.limit
+        == limit) }
 {
     protocol.generation() == generation && protocol.limit() == limit
 }

@@ -1,5 +1,5 @@
-//! Commands and their records: how one is written, and how those of a journal are made again. And what decides which disk, of
-//! which generation and limit, goes on.
+//! Commands and their records: how one is written, and how those of a journal are made again. And
+//! what decides which disk, of which generation and limit, goes on.
 #![tactic(auto)]
 
 mod again;

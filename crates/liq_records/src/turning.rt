@@ -15,8 +15,9 @@ use liq_journal::{DiskFault, Journal};
 use liq_outside::Disk;
 use liq_pairs::Side;
 
-/// Begins the next generation with this checkpoint on the disk beside the one that is taken, as `Journal::turn` does, and tells
-/// the side that is taken from then on: the other one. After `DiskFault` the same disk is taken, and its journal is as it was.
+/// Begins the next generation with this checkpoint on the disk beside the one that is taken, as
+/// `Journal::turn` does, and tells the side that is taken from then on: the other one. After
+/// `DiskFault` the same disk is taken, and its journal is as it was.
 pub fn turn<D: Disk>(
     taken: &mut Journal<D>,
     beside: &mut D,

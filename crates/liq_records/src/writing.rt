@@ -12,8 +12,9 @@ use liq_outside::Disk;
 use liq_types::Command;
 use liq_wire::encode;
 
-/// Writes the record of a command, which may be answered behind it: at `Ok` the record is on the disk, and is read back as the
-/// command. After `DiskFault` nothing more may be written. A crash at any moment leaves the records before it, or with it.
+/// Writes the record of a command, which may be answered behind it: at `Ok` the record is on the
+/// disk, and is read back as the command. After `DiskFault` nothing more may be written. A crash at
+/// any moment leaves the records before it, or with it.
 pub fn write_record<D: Disk>(taken: &mut Journal<D>, command: &Command) -> Result<(), DiskFault>
     requires stays { is_rotate command.now.call ≡ false }
     requires few { taken.old.count < 1000000 }

@@ -45,7 +45,8 @@ pub record IsVisit (p : Parts) (price : ℕ) (v : Visit) : Type 0 where
 -- each is, and no account comes twice
 abbrev pub AreVisits : Parts → ℕ → List Visit → Type 0
 AreVisits p price [] = Unit {0}
-AreVisits p price (v ∷ vs) = IsVisit p price v × AllByRecursion (λ (w : Visit). IsOther v.account w.account) vs × AreVisits p price vs
+AreVisits p price (v ∷ vs) = IsVisit p price v × AllByRecursion (λ (w : Visit). IsOther v.account w.account) vs
+    × AreVisits p price vs
 
 -- collateral of all troves, and what owners may claim
 abbrev pub coll_of : Parts → ℕ
@@ -59,7 +60,8 @@ pub record Stands (p : Parts) : Type 0 where
 -- ---- a trove that is visited
 
 -- what is drawn for a lot is less than the trove has
-pub draw_less : (coll debt price lot : ℕ) → 1 ≤ price → RESERVE ≤ debt → lot ≤ debt - RESERVE → is_below_percent coll debt price MCR ≡ false → draw_of price lot < coll
+pub draw_less : (coll debt price lot : ℕ) → 1 ≤ price → RESERVE ≤ debt → lot ≤ debt - RESERVE
+    → is_below_percent coll debt price MCR ≡ false → draw_of price lot < coll
 draw_less coll debt price lot some least part above =
     elim (cases_lt (draw_of price lot) coll) [ inl less ↦ less | inr more ↦ absurd (clash more) ]
   where
@@ -76,9 +78,11 @@ pub record HasTrove (p : Parts) (account : ℕ) (own : ℕ × ℕ) : Type 0 wher
   pub there : at p.troves account ≡ Some trove
   pub own_is : entire_by p.sums trove ≡ own
 
-has_trove : (p : Parts) (account : ℕ) (own : ℕ × ℕ) → entire_in p.sums p.troves account ≡ Some own → HasTrove p account own
+has_trove : (p : Parts) (account : ℕ) (own : ℕ × ℕ) → entire_in p.sums p.troves account ≡ Some own
+    → HasTrove p account own
 has_trove p account own h = by (at p.troves account) refl h where
-  by : (o : Option Trove) → at p.troves account ≡ o → option_map (entire_by p.sums) o ≡ Some own → HasTrove p account own
+  by : (o : Option Trove) → at p.troves account ≡ o → option_map (entire_by p.sums) o ≡ Some own
+      → HasTrove p account own
   by None e f = cc
   by (Some t) e f = record { trove = t; there = e; own_is = the (entire_by p.sums t) f }
     where
@@ -87,7 +91,8 @@ has_trove p account own h = by (at p.troves account) refl h where
 
 -- ---- claims of others
 
-claim_other : (rows : Table ℕ) (a b coll : ℕ) → IsOther a b → surplus_in (with_surplus rows a coll) b ≡ surplus_in rows b
+claim_other : (rows : Table ℕ) (a b coll : ℕ) → IsOther a b → surplus_in (with_surplus rows a coll) b
+    ≡ surplus_in rows b
 claim_other rows a b coll other = by (coll == 0) where
   by : (t : Bool) → surplus_in (cond t (without rows a) (put rows a coll)) b ≡ surplus_in rows b
   by true = ap (λ (o : Option ℕ). unwrap_or o 0) (at-without_other rows a b other)
@@ -105,7 +110,8 @@ pub record After (p q : Parts) (cut : Cut) : Type 0 where
   pub listed : (b : ℕ) → IsOther cut.account b → key_in q.order b ≡ key_in p.order b
   pub claims : (b : ℕ) → IsOther cut.account b → surplus_in q.surplus b ≡ surplus_in p.surplus b
 
-module _ (p : Parts) (stands : Stands p) (price : ℕ) (price_some : 1 ≤ price) (v : Visit) (is : IsVisit p price v) (wanted : ℕ) where
+module _ (p : Parts) (stands : Stands p) (price : ℕ) (price_some : 1 ≤ price) (v : Visit) (is : IsVisit p price v)
+    (wanted : ℕ) where
   abbrev cut : Cut
   cut = cut_of price v wanted
 
@@ -131,7 +137,8 @@ module _ (p : Parts) (stands : Stands p) (price : ℕ) (price_some : 1 ≤ price
   lot_part = omega arith
 
   draw_part : cut.draw < v.coll
-  draw_part = let least = own.least in draw_less v.coll v.debt price cut.lot price_some (omega (arith, least)) lot_part is.above
+  draw_part = let least = own.least in draw_less v.coll v.debt price cut.lot price_some (omega (arith, least)) lot_part
+      is.above
 
   -- the parts without the trove
   abbrev left : Books
@@ -141,12 +148,17 @@ module _ (p : Parts) (stands : Stands p) (price : ℕ) (price_some : 1 ≤ price
   gone = record (with_books p left) { order = without_ranked p.order v.account }
 
   gone_is : lifted_parts p v.account ≡ gone
-  gone_is = ap (λ (o : Option Trove). record (with_books p (lifted_row b v.account o)) { order = without_ranked p.order v.account }) has.there
+  gone_is = ap (λ (o : Option Trove). record (with_books p (lifted_row b v.account o)) {
+    order = without_ranked p.order
+        v.account;
+  }) has.there
 
   left_stands : TrovesStand left
-  left_stands = subst (λ (o : Option Trove). TrovesStand (lifted_row b v.account o)) has.there (lift_stands b v.account stands.troves)
+  left_stands = subst (λ (o : Option Trove). TrovesStand (lifted_row b v.account o)) has.there
+      (lift_stands b v.account stands.troves)
 
-  left_others : (q : ℕ) → IsOther v.account q → entire_in p.sums (without p.troves v.account) q ≡ entire_in p.sums p.troves q
+  left_others : (q : ℕ) → IsOther v.account q → entire_in p.sums (without p.troves v.account) q
+      ≡ entire_in p.sums p.troves q
   left_others q n = ap (λ (o : Option Trove). option_map (entire_by p.sums) o) (at-without_other p.troves v.account q n)
 
   -- it is closed
@@ -172,7 +184,8 @@ module _ (p : Parts) (stands : Stands p) (price : ℕ) (price_some : 1 ≤ price
       }
 
   -- or it is left with less
-  left_with : MIN_NET ≤ v.debt - RESERVE - cut.lot → After p (placed_parts gone v.account (v.coll - cut.draw) (v.debt - cut.lot)) cut
+  left_with : MIN_NET ≤ v.debt - RESERVE - cut.lot
+      → After p (placed_parts gone v.account (v.coll - cut.draw) (v.debt - cut.lot)) cut
   left_with enough =
       let w = within in
       let c = coll_is in
@@ -184,31 +197,44 @@ module _ (p : Parts) (stands : Stands p) (price : ℕ) (price_some : 1 ≤ price
       let row = set_row left.sums (v.coll - cut.draw) (v.debt - cut.lot) in
       record {
         stands = record {
-          troves = place_stands left v.account (v.coll - cut.draw) (v.debt - cut.lot) (at-without_same p.troves v.account stands.troves.ascend) (omega (arith, draw)) (omega (arith, enough, least)) left_stands;
+          troves = place_stands left v.account (v.coll - cut.draw) (v.debt - cut.lot)
+              (at-without_same p.troves v.account stands.troves.ascend) (omega (arith, draw)) (omega (
+                arith,
+                enough,
+                least,
+              )) left_stands;
           coll = omega (arith, w.coll, w.pending_coll, c, draw, total);
           debt = omega (arith, w.debt, w.pending_debt, d, debts);
         };
         coll = omega (arith, w.coll, w.pending_coll, c, draw);
         fees = refl;
         surplus = omega arith;
-        others = λ q n. ap (λ (o : Option Trove). option_map (entire_by p.sums) o) (at-put_other (without p.troves v.account) v.account row q n) ∙ left_others q n;
-        listed = λ q n. key_with_other (without_ranked p.order v.account) (key_by row, v.account) q n ∙ key_without_other p.order v.account q n;
+        others = λ q n. ap (λ (o : Option Trove). option_map (entire_by p.sums) o)
+            (at-put_other (without p.troves v.account) v.account row q n) ∙ left_others q n;
+        listed = λ q n. key_with_other (without_ranked p.order v.account) (key_by row, v.account) q n
+            ∙ key_without_other p.order v.account q n;
         claims = λ q n. refl;
       }
 
   -- which of the two the cut says
   after_cut : (troves : ℕ) → stops_before v cut troves ≡ false → After p (cut_parts p cut) cut
   after_cut troves goes = by cut.full refl goes where
-    by : (t : Bool) → cut.full ≡ t → cond t (nat_le troves 1) (nat_lt (net_debt v - cut.lot) MIN_NET) ≡ false → After p (cut_parts p cut) cut
+    by : (t : Bool) → cut.full ≡ t → cond t (nat_le troves 1) (nat_lt (net_debt v - cut.lot) MIN_NET) ≡ false
+        → After p (cut_parts p cut) cut
     by true e g =
-        subst (λ (q : Parts). After p q cut) (sym (cut_closed p cut (v.coll, v.debt) (sym is.entire_is) e ∙ ap (λ (q : Parts). closed_parts q v.account (v.coll - cut.draw)) gone_is)) closed
+        subst (λ (q : Parts). After p q cut) (sym (cut_closed p cut (v.coll, v.debt) (sym is.entire_is) e
+        ∙ ap (λ (q : Parts). closed_parts q v.account (v.coll - cut.draw)) gone_is)) closed
     by false e g =
-        subst (λ (q : Parts). After p q cut) (sym (cut_placed p cut (v.coll, v.debt) (sym is.entire_is) e ∙ ap (λ (q : Parts). placed_parts q v.account (v.coll - cut.draw) (v.debt - cut.lot)) gone_is)) (left_with (ltb-false (net_debt v - cut.lot) MIN_NET g))
+        subst (λ (q : Parts). After p q cut) (sym (cut_placed p cut (v.coll, v.debt) (sym is.entire_is) e
+        ∙ ap (λ (q : Parts). placed_parts q v.account (v.coll - cut.draw) (v.debt - cut.lot)) gone_is))
+        (left_with (ltb-false (net_debt v - cut.lot) MIN_NET g))
 
   -- what a trove that stays keeps
-  still_owed : (troves : ℕ) → stops_before v cut troves ≡ false → cut.full ≡ false → RESERVE + MIN_NET ≤ v.debt - cut.lot
+  still_owed : (troves : ℕ) → stops_before v cut troves ≡ false → cut.full ≡ false
+      → RESERVE + MIN_NET ≤ v.debt - cut.lot
   still_owed troves goes part =
-      let enough = ltb-false (net_debt v - cut.lot) MIN_NET (sym (ap (λ t. cond t (nat_le troves 1) (nat_lt (net_debt v - cut.lot) MIN_NET)) part) ∙ goes) in
+      let enough = ltb-false (net_debt v - cut.lot) MIN_NET
+      (sym (ap (λ t. cond t (nat_le troves 1) (nat_lt (net_debt v - cut.lot) MIN_NET)) part) ∙ goes) in
       let least = own.least in
       omega (arith, enough, least)
 
@@ -248,7 +274,8 @@ pub record AllFit (p : Parts) (cuts : List Cut) : Type 0 where
 none_fit : (p : Parts) → AllFit p []
 none_fit p = record { fit = tt; coll = omega arith; fees = refl }
 
-one_more : (p : Parts) (cut : Cut) (cuts : List Cut) → CutFits p cut → After p (cut_parts p cut) cut → AllFit (cut_parts p cut) cuts → AllFit p (cut ∷ cuts)
+one_more : (p : Parts) (cut : Cut) (cuts : List Cut) → CutFits p cut → After p (cut_parts p cut) cut
+    → AllFit (cut_parts p cut) cuts → AllFit p (cut ∷ cuts)
 one_more p cut cuts fits after later =
     let draws = sum_by-cons (λ (x : Cut). x.draw) cut cuts in
     record {
@@ -257,30 +284,41 @@ one_more p cut cuts fits after later =
       fees = later.fees ∙ after.fees;
     }
 
-visits_kept : (p q : Parts) (price : ℕ) (cut : Cut) → After p q cut → (vs : List Visit) → AllByRecursion (λ (w : Visit). IsOther cut.account w.account) vs → AreVisits p price vs → AreVisits q price vs
+visits_kept : (p q : Parts) (price : ℕ) (cut : Cut) → After p q cut → (vs : List Visit)
+    → AllByRecursion (λ (w : Visit). IsOther cut.account w.account) vs → AreVisits p price vs → AreVisits q price vs
 visits_kept p q price cut after [] apart h = tt
 visits_kept p q price cut after (w ∷ ws) apart h = (
   record {
     entire_is = after.others w.account apart.0 ∙ h.0.entire_is;
     above = h.0.above;
     listed = subst (λ (o : Option ℤ). IsSome o) (sym (after.listed w.account apart.0)) h.0.listed;
-    claim = let same = after.claims w.account apart.0 in let claim = h.0.claim in let more = after.surplus in omega (arith, same, claim, more);
+    claim = let same = after.claims w.account apart.0 in let claim = h.0.claim in let more = after.surplus
+        in omega (arith, same, claim, more);
   },
   h.1,
   visits_kept p q price cut after ws apart.1 h.2,
 )
 
 module _ (price : ℕ) (price_some : 1 ≤ price) where
-  pub all_fit : (vs : List Visit) (p : Parts) (troves wanted : ℕ) → Stands p → AreVisits p price vs → AllFit p (cuts price troves wanted vs)
+  pub all_fit : (vs : List Visit) (p : Parts) (troves wanted : ℕ) → Stands p → AreVisits p price vs
+      → AllFit p (cuts price troves wanted vs)
   all_fit [] p troves wanted stands h = none_fit p
-  all_fit (v ∷ vs) p troves wanted stands h = by (wanted == 0) (stops_before v (cut_of price v wanted) troves) refl (λ q s g. all_fit vs q (troves_after (cut_of price v wanted) troves) (wanted - (cut_of price v wanted).lot) s g) where
-    by : (done stops : Bool) → stops_before v (cut_of price v wanted) troves ≡ stops → ((q : Parts) → Stands q → AreVisits q price vs → AllFit q (cuts price (troves_after (cut_of price v wanted) troves) (wanted - (cut_of price v wanted).lot) vs)) → AllFit p (cond done [] (cond stops [] (cut_of price v wanted ∷ cuts price (troves_after (cut_of price v wanted) troves) (wanted - (cut_of price v wanted).lot) vs)))
-    by true stops e later = none_fit p
-    by false true e later = none_fit p
-    by false false e later =
-        let after = after_cut p stands price price_some v h.0 wanted troves e in
-        one_more p (cut_of price v wanted) (cuts price (troves_after (cut_of price v wanted) troves) (wanted - (cut_of price v wanted).lot) vs) (fits p stands price price_some v h.0 wanted troves e) after
-        (later (cut_parts p (cut_of price v wanted)) after.stands (visits_kept p (cut_parts p (cut_of price v wanted)) price (cut_of price v wanted) after vs h.1 h.2))
+  all_fit (v ∷ vs) p troves wanted stands h = by (wanted == 0) (stops_before v (cut_of price v wanted) troves) refl
+      (λ q s g. all_fit vs q (troves_after (cut_of price v wanted) troves) (wanted - (cut_of price v wanted).lot) s
+      g) where
+        by : (done stops : Bool) → stops_before v (cut_of price v wanted) troves ≡ stops → ((q : Parts) → Stands q
+            → AreVisits q price vs
+            → AllFit q (cuts price (troves_after (cut_of price v wanted) troves) (wanted - (cut_of price v wanted).lot) vs))
+            → AllFit p (cond done [] (cond stops [] (cut_of price v wanted
+            ∷ cuts price (troves_after (cut_of price v wanted) troves) (wanted - (cut_of price v wanted).lot) vs)))
+        by true stops e later = none_fit p
+        by false true e later = none_fit p
+        by false false e later =
+            let after = after_cut p stands price price_some v h.0 wanted troves e in
+            one_more p (cut_of price v wanted) (cuts price (troves_after (cut_of price v wanted) troves)
+            (wanted - (cut_of price v wanted).lot) vs) (fits p stands price price_some v h.0 wanted troves e) after
+            (later (cut_parts p (cut_of price v wanted)) after.stands (visits_kept p (cut_parts p (cut_of price v wanted))
+            price (cut_of price v wanted) after vs h.1 h.2))
 
 -- ---- the visits of sound parts
 
@@ -295,19 +333,24 @@ module _ (p : Parts) (price : ℕ) where
   own_visit account own = record { account = account; coll = own.0; debt = own.1 }
 
   abbrev then_visits : ℕ → Option (ℕ × ℕ) → List Ranked → List Visit
-  then_visits account o list = filter (is_visited price) (cons_option (option_map (own_visit account) o) (filter_map (visit p.sums p.troves) (accounts list)))
+  then_visits account o list = filter (is_visited price) (cons_option (option_map (own_visit account) o)
+      (filter_map (visit p.sums p.troves) (accounts list)))
 
-  others_visited : (account : ℕ) (list : List Ranked) → IsAbsent account list → AllByRecursion (λ (v : Visit). IsOther account v.account) (visits_in list)
+  others_visited : (account : ℕ) (list : List Ranked) → IsAbsent account list
+      → AllByRecursion (λ (v : Visit). IsOther account v.account) (visits_in list)
   others_visited account [] h = tt
   others_visited account (e ∷ es) h = by (entire_in p.sums p.troves e.1) (others_visited account es h.1) where
     other : IsOther account e.1
     other = let n : e.1 ≢ account = h.0 in grind (arith, nat_tests)
 
-    test : (own : ℕ × ℕ) (b : Bool) → AllByRecursion (λ (v : Visit). IsOther account v.account) (visits_in es) → AllByRecursion (λ (v : Visit). IsOther account v.account) (cond b (own_visit e.1 own ∷ visits_in es) (visits_in es))
+    test : (own : ℕ × ℕ) (b : Bool) → AllByRecursion (λ (v : Visit). IsOther account v.account) (visits_in es)
+        → AllByRecursion (λ (v : Visit). IsOther account v.account) (cond b (own_visit e.1 own ∷ visits_in es)
+        (visits_in es))
     test own true later = (other, later)
     test own false later = later
 
-    by : (o : Option (ℕ × ℕ)) → AllByRecursion (λ (v : Visit). IsOther account v.account) (visits_in es) → AllByRecursion (λ (v : Visit). IsOther account v.account) (then_visits e.1 o es)
+    by : (o : Option (ℕ × ℕ)) → AllByRecursion (λ (v : Visit). IsOther account v.account) (visits_in es)
+        → AllByRecursion (λ (v : Visit). IsOther account v.account) (then_visits e.1 o es)
     by None later = later
     by (Some own) later = test own (is_visited price (own_visit e.1 own)) later
 
@@ -315,10 +358,14 @@ module _ (p : Parts) (price : ℕ) where
   not_false true h = cc
   not_false false h = refl
 
-  visits_are : ((account : ℕ) → IsSome (at p.troves account) → IsSome (key_in p.order account)) → ((account : ℕ) → surplus_in p.surplus account ≤ p.pools.surplus) → (list : List Ranked) → AreDistinct list → AreVisits p price (visits_in list)
+  visits_are : ((account : ℕ) → IsSome (at p.troves account) → IsSome (key_in p.order account))
+      → ((account : ℕ) → surplus_in p.surplus account ≤ p.pools.surplus) → (list : List Ranked) → AreDistinct list
+      → AreVisits p price (visits_in list)
   visits_are listed claims [] h = tt
   visits_are listed claims (e ∷ es) h = by (entire_in p.sums p.troves e.1) refl (visits_are listed claims es h.1) where
-    test : (own : ℕ × ℕ) → entire_in p.sums p.troves e.1 ≡ Some own → (b : Bool) → is_visited price (own_visit e.1 own) ≡ b → AreVisits p price (visits_in es) → AreVisits p price (cond b (own_visit e.1 own ∷ visits_in es) (visits_in es))
+    test : (own : ℕ × ℕ) → entire_in p.sums p.troves e.1 ≡ Some own → (b : Bool) → is_visited price (own_visit e.1 own)
+        ≡ b → AreVisits p price (visits_in es)
+        → AreVisits p price (cond b (own_visit e.1 own ∷ visits_in es) (visits_in es))
     test own is true f later =
         let there = has_trove p e.1 own is in (
           record {
@@ -332,7 +379,8 @@ module _ (p : Parts) (price : ℕ) where
         )
     test own is false f later = later
 
-    by : (o : Option (ℕ × ℕ)) → entire_in p.sums p.troves e.1 ≡ o → AreVisits p price (visits_in es) → AreVisits p price (then_visits e.1 o es)
+    by : (o : Option (ℕ × ℕ)) → entire_in p.sums p.troves e.1 ≡ o → AreVisits p price (visits_in es)
+        → AreVisits p price (then_visits e.1 o es)
     by None is later = later
     by (Some own) is later = test own is (is_visited price (own_visit e.1 own)) refl later
 
@@ -345,7 +393,8 @@ pub record IsCovered (p : Parts) (wallet : Wallet) (plan : RedeemPlan) : Type 0 
   pub fee : plan.fee ≤ plan.drawn
   pub redeemed : plan.redeemed ≤ wallet.lusd
 
-pub planned_covered : (p : Parts) (wallet : Wallet) (plan : RedeemPlan) → AreSoundParts p wallet → IsPlannedOn p wallet plan → IsCovered p wallet plan
+pub planned_covered : (p : Parts) (wallet : Wallet) (plan : RedeemPlan) → AreSoundParts p wallet
+    → IsPlannedOn p wallet plan → IsCovered p wallet plan
 planned_covered p wallet plan s h =
     let m = h.market in
     let list = reverse p.order in
@@ -358,6 +407,12 @@ planned_covered p wallet plan s h =
     let least = h.sound.price_least in
     let total = s.coll in
     let stands : Stands p = record { troves = s.troves; coll = omega (arith, total); debt = s.debt } in
-    let fit = all_fit m.price (omega (arith, least)) vs p m.troves h.amount stands (visits_are p m.price s.listed s.claims list (distinct_turned p.order s.distinct)) in
+    let fit = all_fit m.price (omega (arith, least)) vs p m.troves h.amount stands
+    (visits_are p m.price s.listed s.claims list (distinct_turned p.order s.distinct)) in
     let within = redeemed_within m.price vs m.troves h.amount in
-    subst (λ (x : RedeemPlan). IsCovered p wallet x) told.1 (record { cuts = fit; drawn = refl; fee = omega (arith, fee); redeemed = omega (arith, within, enough) })
+    subst (λ (x : RedeemPlan). IsCovered p wallet x) told.1 (record {
+      cuts = fit;
+      drawn = refl;
+      fee = omega (arith, fee);
+      redeemed = omega (arith, within, enough);
+    })

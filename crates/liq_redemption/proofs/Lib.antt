@@ -1,8 +1,8 @@
 pub mod Ahead
 pub mod Cutting
 pub mod Following
-pub mod Parts
-pub mod Paying
+mod Parts
+mod Paying
 mod Refused
-pub mod Stepping
+mod Stepping
 pub mod Taking

@@ -16,7 +16,8 @@ use Rattle.liq_order.specs.Listed.{Listed}
 use Rattle.liq_standing.specs.Books.{books_kept, pools_with}
 
 -- parts are the same where each of them is
-pub same_parts : (p q : Parts) → p.sums ≡ q.sums → p.troves ≡ q.troves → p.pools ≡ q.pools → p.surplus ≡ q.surplus → p.order ≡ q.order → p ≡ q
+pub same_parts : (p q : Parts) → p.sums ≡ q.sums → p.troves ≡ q.troves → p.pools ≡ q.pools → p.surplus ≡ q.surplus
+    → p.order ≡ q.order → p ≡ q
 same_parts p q sums troves pools surplus order =
     ap (λ (x : Sums). record p { sums = x }) sums
     ∙ ap (λ (x : Table Trove). record p { sums = q.sums; troves = x }) troves
@@ -26,31 +27,44 @@ same_parts p q sums troves pools surplus order =
 
 -- ---- a cut is one of two
 
-pub cut_closed : (p : Parts) (cut : Cut) (own : ℕ × ℕ) → Some own ≡ entire_in p.sums p.troves cut.account → cut.full ≡ true → cut_parts p cut ≡ closed_parts (lifted_parts p cut.account) cut.account (own.0 - cut.draw)
+pub cut_closed : (p : Parts) (cut : Cut) (own : ℕ × ℕ) → Some own ≡ entire_in p.sums p.troves cut.account
+    → cut.full ≡ true → cut_parts p cut ≡ closed_parts (lifted_parts p cut.account) cut.account (own.0 - cut.draw)
 cut_closed p cut own is full =
     ap (λ (o : Option (ℕ × ℕ)). cut_own p cut o) (sym is)
-    ∙ ap (λ b. cond b (closed_parts (lifted_parts p cut.account) cut.account (own.0 - cut.draw)) (placed_parts (lifted_parts p cut.account) cut.account (own.0 - cut.draw) (own.1 - cut.lot))) full
+    ∙ ap (λ b. cond b (closed_parts (lifted_parts p cut.account) cut.account (own.0 - cut.draw))
+    (placed_parts (lifted_parts p cut.account) cut.account (own.0 - cut.draw) (own.1 - cut.lot))) full
 
-pub cut_placed : (p : Parts) (cut : Cut) (own : ℕ × ℕ) → Some own ≡ entire_in p.sums p.troves cut.account → cut.full ≡ false → cut_parts p cut ≡ placed_parts (lifted_parts p cut.account) cut.account (own.0 - cut.draw) (own.1 - cut.lot)
+pub cut_placed : (p : Parts) (cut : Cut) (own : ℕ × ℕ) → Some own ≡ entire_in p.sums p.troves cut.account
+    → cut.full ≡ false → cut_parts p cut ≡ placed_parts (lifted_parts p cut.account) cut.account (own.0 - cut.draw)
+    (own.1 - cut.lot)
 cut_placed p cut own is full =
     ap (λ (o : Option (ℕ × ℕ)). cut_own p cut o) (sym is)
-    ∙ ap (λ b. cond b (closed_parts (lifted_parts p cut.account) cut.account (own.0 - cut.draw)) (placed_parts (lifted_parts p cut.account) cut.account (own.0 - cut.draw) (own.1 - cut.lot))) full
+    ∙ ap (λ b. cond b (closed_parts (lifted_parts p cut.account) cut.account (own.0 - cut.draw))
+    (placed_parts (lifted_parts p cut.account) cut.account (own.0 - cut.draw) (own.1 - cut.lot))) full
 
 -- ---- a trove leaves, or comes
 
 module _ (old new : Pools) (before after : Kept) (list next : Listed) (surplus : WithRoom ℕ) (account : ℕ) where
-  pub lifted_is : books_kept after new ≡ lift (books_kept before old) account → new ≡ pools_with old (books_kept after new) → next.entries ≡ without_ranked list.entries account → parts_of new surplus after next ≡ lifted_parts (parts_of old surplus before list) account
+  pub lifted_is : books_kept after new ≡ lift (books_kept before old) account
+      → new ≡ pools_with old (books_kept after new) → next.entries ≡ without_ranked list.entries account
+      → parts_of new surplus after next ≡ lifted_parts (parts_of old surplus before list) account
   lifted_is books rest order =
       same_parts (parts_of new surplus after next) (lifted_parts (parts_of old surplus before list) account)
-      (ap (λ (b : Books). b.sums) books) (ap (λ (b : Books). b.troves) books) (rest ∙ ap (λ (b : Books). pools_with old b) books) refl order
+      (ap (λ (b : Books). b.sums) books) (ap (λ (b : Books). b.troves) books) (rest
+      ∙ ap (λ (b : Books). pools_with old b) books) refl order
 
-  pub placed_is : (coll debt : ℕ) → books_kept after new ≡ place (books_kept before old) account coll debt → new ≡ pools_with old (books_kept after new) → next.entries ≡ with_ranked list.entries (key_by (set_row before.sums coll debt), account) → parts_of new surplus after next ≡ placed_parts (parts_of old surplus before list) account coll debt
+  pub placed_is : (coll debt : ℕ) → books_kept after new ≡ place (books_kept before old) account coll debt
+      → new ≡ pools_with old (books_kept after new)
+      → next.entries ≡ with_ranked list.entries (key_by (set_row before.sums coll debt), account)
+      → parts_of new surplus after next ≡ placed_parts (parts_of old surplus before list) account coll debt
   placed_is coll debt books rest order =
       same_parts (parts_of new surplus after next) (placed_parts (parts_of old surplus before list) account coll debt)
-      (ap (λ (b : Books). b.sums) books) (ap (λ (b : Books). b.troves) books) (rest ∙ ap (λ (b : Books). pools_with old b) books) refl order
+      (ap (λ (b : Books). b.sums) books) (ap (λ (b : Books). b.troves) books) (rest
+      ∙ ap (λ (b : Books). pools_with old b) books) refl order
 
 -- an account that has entire amounts has a trove
-pub trove_there : (p : Parts) (account : ℕ) (own : ℕ × ℕ) → entire_in p.sums p.troves account ≡ Some own → IsSome (at p.troves account)
+pub trove_there : (p : Parts) (account : ℕ) (own : ℕ × ℕ) → entire_in p.sums p.troves account ≡ Some own
+    → IsSome (at p.troves account)
 trove_there p account own h = by (at p.troves account) h where
   by : (o : Option Trove) → option_map (entire_by p.sums) o ≡ Some own → IsSome o
   by None e = cc

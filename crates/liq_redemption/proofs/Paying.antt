@@ -12,7 +12,8 @@ use Rattle.liq_types.proofs.Lookups.{at-put_same, at-without_same}
 use Rattle.liq_ledger.specs.Refusals.{charging, ruled}
 
 -- no refusal comes where neither condition holds
-none_comes : (first second : Bool) (x y : Refusal) → first ≡ false → second ≡ false → ruled ((first, x) ∷ (second, y) ∷ []) ≡ ruled []
+none_comes : (first second : Bool) (x y : Refusal) → first ≡ false → second ≡ false
+    → ruled ((first, x) ∷ (second, y) ∷ []) ≡ ruled []
 none_comes first second x y f s =
     ap (λ b. ruled ((b, x) ∷ (second, y) ∷ [])) f ∙ ap (λ b. ruled ((b, y) ∷ [])) s
 
@@ -30,7 +31,8 @@ pub record IsLess (wallet had : Wallet) : Type 0 where
   pub lusd : wallet.lusd ≤ had.lusd
 
 -- a wallet that was charged has no more than before
-pub charged_less : (wallets : Table Wallet) (account lusd : ℕ) → Ascends wallets → IsLess (wallet_in (charged_in wallets account 0 lusd) account) (wallet_in wallets account)
+pub charged_less : (wallets : Table Wallet) (account lusd : ℕ) → Ascends wallets
+    → IsLess (wallet_in (charged_in wallets account 0 lusd) account) (wallet_in wallets account)
 charged_less wallets account lusd h = by (is_used_wallet left) where
   had : Wallet
   had = wallet_in wallets account
@@ -42,5 +44,7 @@ charged_less wallets account lusd h = by (is_used_wallet left) where
   less = record { coll = omega arith; lusd = omega arith }
 
   by : (b : Bool) → IsLess (wallet_in (cond b (put wallets account left) (without wallets account)) account) had
-  by true = subst (λ (o : Option Wallet). IsLess (unwrap_or o no_wallet) had) (sym (at-put_same wallets account left)) less
-  by false = subst (λ (o : Option Wallet). IsLess (unwrap_or o no_wallet) had) (sym (at-without_same wallets account h)) (record { coll = omega arith; lusd = omega arith })
+  by true = subst (λ (o : Option Wallet). IsLess (unwrap_or o no_wallet) had)
+      (sym (at-put_same wallets account left)) less
+  by false = subst (λ (o : Option Wallet). IsLess (unwrap_or o no_wallet) had) (sym (at-without_same wallets account h))
+      (record { coll = omega arith; lusd = omega arith })

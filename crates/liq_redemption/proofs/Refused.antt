@@ -18,27 +18,36 @@ refused : {X Y : Type 0} (o : Option Refusal) (x : X) (y : Y) (e : Refusal) → 
 refused None x y e h = cc
 refused (Some refusal) x y e h = cc
 
-refused_before : {X Y : Type 0} (rules rest : List Rule) (x : X) (y : Y) (e : Refusal) → outcome (first_refusal rules) x ≡ Err e → outcome (first_refusal (rules ++ rest)) y ≡ Err e
+refused_before : {X Y : Type 0} (rules rest : List Rule) (x : X) (y : Y) (e : Refusal) → outcome (first_refusal rules) x
+    ≡ Err e → outcome (first_refusal (rules ++ rest)) y ≡ Err e
 refused_before [] rest x y e h = cc
 refused_before {X} {Y} (rule ∷ rules) rest x y e h = by rule.0 h (refused_before rules rest x y e) where
-  by : (b : Bool) → outcome (cond b (Some rule.1) (first_refusal rules)) x ≡ Err e → (outcome (first_refusal rules) x ≡ Err e → outcome (first_refusal (rules ++ rest)) y ≡ Err e) → outcome (cond b (Some rule.1) (first_refusal (rules ++ rest))) y ≡ Err e
+  by : (b : Bool) → outcome (cond b (Some rule.1) (first_refusal rules)) x ≡ Err e
+      → (outcome (first_refusal rules) x ≡ Err e → outcome (first_refusal (rules ++ rest)) y ≡ Err e)
+      → outcome (cond b (Some rule.1) (first_refusal (rules ++ rest))) y ≡ Err e
   by true k later = refused (Some rule.1) x y e k
   by false k later = later k
 
 passed : (rules rest : List Rule) → first_refusal rules ≡ None → first_refusal (rules ++ rest) ≡ first_refusal rest
 passed [] rest h = refl
 passed (rule ∷ rules) rest h = by rule.0 h (passed rules rest) where
-  by : (b : Bool) → cond b (Some rule.1) (first_refusal rules) ≡ None → (first_refusal rules ≡ None → first_refusal (rules ++ rest) ≡ first_refusal rest) → cond b (Some rule.1) (first_refusal (rules ++ rest)) ≡ first_refusal rest
+  by : (b : Bool) → cond b (Some rule.1) (first_refusal rules) ≡ None → (first_refusal rules ≡ None
+      → first_refusal (rules ++ rest) ≡ first_refusal rest) → cond b (Some rule.1) (first_refusal (rules ++ rest))
+      ≡ first_refusal rest
   by true k later = cc
   by false k later = later k
 
 -- the net debt is told where nothing is redeemed
-taking_alike : (terms : RedeemTerms) (net other amount bound : ℕ) → (terms.redeemed ≡ 0 → net ≡ other) → first_refusal (taking_rules terms net amount bound) ≡ first_refusal (taking_rules terms other amount bound)
+taking_alike : (terms : RedeemTerms) (net other amount bound : ℕ) → (terms.redeemed ≡ 0 → net ≡ other)
+    → first_refusal (taking_rules terms net amount bound) ≡ first_refusal (taking_rules terms other amount bound)
 taking_alike terms net other amount bound same =
-    by (terms.redeemed == 0) refl (first_refusal ((nat_le terms.drawn terms.fee, FeeEatsAll terms.fee terms.drawn) ∷ fee_over terms.fee terms.drawn bound ∷ []))
+    by (terms.redeemed == 0) refl (first_refusal ((nat_le terms.drawn terms.fee, FeeEatsAll terms.fee terms.drawn)
+    ∷ fee_over terms.fee terms.drawn bound ∷ []))
   where
-    by : (b : Bool) → (terms.redeemed == 0) ≡ b → (later : Option Refusal) → cond b (Some (NothingRedeemed amount net)) later ≡ cond b (Some (NothingRedeemed amount other)) later
-    by true is later = let none : terms.redeemed ≡ 0 = grind (arith, nat_tests, is) in ap (λ n. Some (NothingRedeemed amount n)) (same none)
+    by : (b : Bool) → (terms.redeemed == 0) ≡ b → (later : Option Refusal)
+        → cond b (Some (NothingRedeemed amount net)) later ≡ cond b (Some (NothingRedeemed amount other)) later
+    by true is later = let none : terms.redeemed ≡ 0 = grind (arith, nat_tests, is)
+        in ap (λ n. Some (NothingRedeemed amount n)) (same none)
     by false is later = refl
 
 -- ---- a redemption along these visits
@@ -47,13 +56,20 @@ module _ (m : Market) (wallet : Wallet) (visits : List Visit) (amount bound : �
   abbrev taking : List Rule
   taking = taking_rules (redeeming_terms m visits amount) (first_net visits) amount bound
 
-  pub asked_refuses : (e : Refusal) → outcome {X = Unit {0}} (first_refusal (asking_rules m wallet amount bound)) tt ≡ Err e → redeem_plan m wallet visits amount bound ≡ Err e
-  asked_refuses e h = refused_before (asking_rules m wallet amount bound) taking tt (redeeming_terms m visits amount) e h
+  pub asked_refuses : (e : Refusal) → outcome {X = Unit {0}} (first_refusal (asking_rules m wallet amount bound)) tt
+      ≡ Err e → redeem_plan m wallet visits amount bound ≡ Err e
+  asked_refuses e h = refused_before (asking_rules m wallet amount bound) taking tt
+      (redeeming_terms m visits amount) e h
 
   -- where nothing asked is refused, and these cuts were made along the visits, of which the first had this net debt
-  pub behind_asked : (done : Unit {0}) → outcome (first_refusal (asking_rules m wallet amount bound)) tt ≡ Ok done → (made : List Cut) → made ≡ cuts m.price m.troves amount visits → (net : ℕ) → (redeemed made ≡ 0 → net ≡ first_net visits) → redeem_plan m wallet visits amount bound ≡ outcome (first_refusal (taking_rules (terms_of m made) net amount bound)) (terms_of m made)
+  pub behind_asked : (done : Unit {0}) → outcome (first_refusal (asking_rules m wallet amount bound)) tt ≡ Ok done
+      → (made : List Cut) → made ≡ cuts m.price m.troves amount visits → (net : ℕ) → (redeemed made ≡ 0
+      → net ≡ first_net visits) → redeem_plan m wallet visits amount bound
+      ≡ outcome (first_refusal (taking_rules (terms_of m made) net amount bound)) (terms_of m made)
   behind_asked done asked made made_is net net_is =
       let none = made_by (first_refusal (asking_rules m wallet amount bound)) tt done asked in
       ap (λ o. outcome o (redeeming_terms m visits amount)) (passed (asking_rules m wallet amount bound) taking none.0)
-      ∙ ap (λ (l : List Cut). outcome (first_refusal (taking_rules (terms_of m l) (first_net visits) amount bound)) (terms_of m l)) (sym made_is)
-      ∙ ap (λ o. outcome o (terms_of m made)) (sym (taking_alike (terms_of m made) net (first_net visits) amount bound net_is))
+      ∙ ap (λ (l : List Cut). outcome (first_refusal (taking_rules (terms_of m l) (first_net visits) amount bound))
+      (terms_of m l)) (sym made_is)
+      ∙ ap (λ o. outcome o (terms_of m made)) (sym (taking_alike (terms_of m made) net (first_net visits) amount bound
+      net_is))

@@ -35,18 +35,21 @@ pub record IsEntireWithin (own : ℕ × ℕ) : Type 0 where
   pub debt : own.1 ≤ LIM
 
 abbrev pub AreEntireWithin : Sums → Table Trove → Type 0
-AreEntireWithin sums troves = AllByRecursion (λ (row : ℕ × Trove). IsEntireWithin (entire_by sums row.1)) troves
+AreEntireWithin sums troves = AllByRecursion (λ (row : ℕ × Trove). IsEntireWithin
+    (entire_by sums row.1)) troves
 
 -- ---- what is carried out
 
--- Of the parts and of the redeemer's wallet: the troves are within the active and the default pool; each is in the list, and
--- stands there once; nobody may claim more than there is; what the redeemer has and the pools together are within the limit.
+-- Of the parts and of the redeemer's wallet: the troves are within the active and the default pool;
+-- each is in the list, and stands there once; nobody may claim more than there is; what the
+-- redeemer has and the pools together are within the limit.
 pub record AreSoundParts (p : Parts) (wallet : Wallet) : Type 0 where
   pub troves : TrovesStand (books_in p)
   pub listed : (account : ℕ) → IsSome (at p.troves account) → IsSome (key_in p.order account)
   pub distinct : AreDistinct p.order
   pub claims : (account : ℕ) → surplus_in p.surplus account ≤ p.pools.surplus
-  pub coll : wallet.coll + p.pools.active_coll + p.pools.default_coll + p.pools.surplus + p.pools.fee_coll ≤ LIM
+  pub coll : wallet.coll + p.pools.active_coll + p.pools.default_coll + p.pools.surplus
+      + p.pools.fee_coll ≤ LIM
   pub debt : p.pools.active_debt + p.pools.default_debt ≤ LIM
 
 -- the plan is what planning answered in this state
@@ -55,7 +58,8 @@ pub record IsPlannedOn (p : Parts) (wallet : Wallet) (plan : RedeemPlan) : Type 
   pub amount : ℕ
   pub bound : ℕ
   pub sound : IsMarket market wallet
-  pub planned : redeem_plan market wallet (visited_by market.price p.sums p.troves p.order) amount bound ≡ Ok plan
+  pub planned : redeem_plan market wallet (visited_by market.price p.sums p.troves p.order) amount
+      bound ≡ Ok plan
 
 -- ---- room
 
@@ -65,7 +69,8 @@ HasRoomToClose surplus cut = IsTrue cut.full → HasRoom surplus cut.account
 
 -- for all that a plan of the account's redemption writes
 abbrev pub HasRoomFor : RedeemPlan → ℕ → WithRoom Wallet → WithRoom ℕ → Type 0
-HasRoomFor plan account wallets surplus = HasRoom wallets account × AllByRecursion (HasRoomToClose surplus) plan.cuts
+HasRoomFor plan account wallets surplus = HasRoom wallets account
+    × AllByRecursion (HasRoomToClose surplus) plan.cuts
 
 -- ---- a single cut
 

@@ -1,4 +1,5 @@
--- The steps of a redemption. The trove that is cut last alone may stay in the list, and moves there.
+-- The steps of a redemption. The trove that is cut last alone may stay in the list, and moves
+-- there.
 use Rattle.std.specs.Prelude.{◌≡◌, ℕ, ◌+◌, ◌≤◌, true, List, [], ◌∷◌, length, Option, None}
 use Rattle.liq_types.specs.declared.hints.Hint.{Hint}
 use Rattle.liq_types.specs.Ranked.{Ranked}

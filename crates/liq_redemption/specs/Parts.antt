@@ -30,7 +30,13 @@ pub record Parts : Type 0 where
 -- the same without the room that they have
 abbrev pub parts_of : Pools → WithRoom ℕ → Kept → Listed → Parts
 parts_of pools surplus troves order =
-    record { sums = troves.sums; troves = troves.table.rows; pools = pools; surplus = surplus.rows; order = order.entries }
+    record {
+      sums = troves.sums;
+      troves = troves.table.rows;
+      pools = pools;
+      surplus = surplus.rows;
+      order = order.entries;
+    }
 
 -- ---- the books
 
@@ -44,7 +50,10 @@ with_books p b = record p { sums = b.sums; troves = b.troves; pools = pools_with
 
 -- a trove leaves
 abbrev pub lifted_parts : Parts → ℕ → Parts
-lifted_parts p account = record (with_books p (lift (books_in p) account)) { order = without_ranked p.order account }
+lifted_parts p account = record (with_books p (lift (books_in p) account)) {
+  order = without_ranked
+      p.order account;
+}
 
 -- a trove stands with these amounts, at its key
 abbrev pub placed_parts : Parts → ℕ → ℕ → ℕ → Parts
@@ -57,7 +66,11 @@ placed_parts p account coll debt =
 abbrev pub closed_parts : Parts → ℕ → ℕ → Parts
 closed_parts p account coll =
     record p {
-      pools = record p.pools { reserve = p.pools.reserve - RESERVE; surplus = p.pools.surplus + coll };
+      pools = record p.pools {
+        reserve = p.pools.reserve - RESERVE;
+        surplus = p.pools.surplus
+            + coll;
+      };
       surplus = surplus_added_in p.surplus account coll;
     }
 
@@ -91,4 +104,10 @@ redeemed_wallets wallets account terms =
 -- the parts of a state, with some list
 abbrev pub parts_with : State → List Ranked → Parts
 parts_with s order =
-    record { sums = sums_words s; troves = trove_rows s; pools = pools_of s; surplus = s.surplus_rows; order = order }
+    record {
+      sums = sums_words s;
+      troves = trove_rows s;
+      pools = pools_of s;
+      surplus = s.surplus_rows;
+      order = order;
+    }

@@ -35,7 +35,8 @@ Visit = TroveVisit
 -- the account's trove, if it has one
 abbrev pub visit : Sums → Table Trove → ℕ → Option Visit
 visit sums troves account =
-    option_map (λ (own : ℕ × ℕ). record { account = account; coll = own.0; debt = own.1 }) (entire_in sums troves account)
+    option_map (λ (own : ℕ × ℕ). record { account = account; coll = own.0; debt = own.1 })
+    (entire_in sums troves account)
 
 -- a trove below the least ratio is left to liquidation
 abbrev pub is_visited : ℕ → Visit → Bool
@@ -51,7 +52,8 @@ visit_at price sums troves account = where_visited price (visit sums troves acco
 
 -- the visited troves, from the list's end to its front
 abbrev pub visited_by : ℕ → Sums → Table Trove → List Ranked → List Visit
-visited_by price sums troves order = filter (is_visited price) (filter_map (visit sums troves) (from_last order))
+visited_by price sums troves order = filter (is_visited price) (filter_map (visit sums troves)
+    (from_last order))
 
 -- ---- the cuts
 
@@ -110,7 +112,14 @@ RedeemTerms = RedeemPlan
 abbrev pub terms_of : Market → List Cut → RedeemTerms
 terms_of m cuts =
     let rate = rate_redeemed m (redeemed cuts) in
-    record { cuts = cuts; redeemed = redeemed cuts; drawn = drawn cuts; fee = redeem_fee rate.base (drawn cuts); rate = rate }
+    record {
+      cuts = cuts;
+      redeemed = redeemed cuts;
+      drawn = drawn cuts;
+      fee = redeem_fee rate.base
+          (drawn cuts);
+      rate = rate;
+    }
 
 -- the cuts along these visits, and what comes of them
 abbrev pub redeeming_terms : Market → List Visit → ℕ → RedeemTerms
@@ -139,11 +148,13 @@ taking_rules terms net amount bound =
 
 abbrev pub redeem_rules : Market → Wallet → List Visit → ℕ → ℕ → List Rule
 redeem_rules m wallet visits amount bound =
-    asking_rules m wallet amount bound ++ taking_rules (redeeming_terms m visits amount) (first_net visits) amount bound
+    asking_rules m wallet amount bound ++ taking_rules (redeeming_terms m visits amount)
+    (first_net visits) amount bound
 
 abbrev pub redeem_plan : Market → Wallet → List Visit → ℕ → ℕ → Result RedeemTerms Refusal
 redeem_plan m wallet visits amount bound =
-    outcome (first_refusal (redeem_rules m wallet visits amount bound)) (redeeming_terms m visits amount)
+    outcome (first_refusal (redeem_rules m wallet visits amount bound))
+    (redeeming_terms m visits amount)
 
 -- ---- in a state
 
@@ -167,7 +178,8 @@ closed_by s cut own =
 abbrev pub cut_entire : State → Cut → Option (ℕ × ℕ) → State
 cut_entire s cut None = s
 cut_entire s cut (Some own) =
-    if cut.full then closed_by s cut own else set_trove s cut.account (own.0 - cut.draw) (own.1 - cut.lot)
+    if cut.full then closed_by s cut own else set_trove s cut.account (own.0 - cut.draw)
+    (own.1 - cut.lot)
 
 abbrev pub cut_down : State → Cut → State
 cut_down s cut = cut_entire s cut (entire_of s cut.account)
@@ -176,5 +188,11 @@ cut_down s cut = cut_entire s cut (entire_of s cut.account)
 abbrev pub redeemed_by : State → ℕ → RedeemTerms → State
 redeemed_by s account terms =
     let cut = fold cut_down s terms.cuts in
-    let given = credited (charged cut account 0 terms.redeemed) account (terms.drawn - terms.fee) 0 in
-    record given { base = terms.rate.base; fee_minute = terms.rate.minute; fee_coll = s.fee_coll + terms.fee }
+    let given = credited (charged cut account 0 terms.redeemed) account (terms.drawn - terms.fee) 0
+    in
+    record given {
+      base = terms.rate.base;
+      fee_minute = terms.rate.minute;
+      fee_coll = s.fee_coll
+          + terms.fee;
+    }

@@ -32,10 +32,11 @@ pub struct RedeemPlan {
     pub rate: Rate,
 }
 
-/// Plans the redemption of LUSD (micro-LUSD) out of a wallet, along the order from its end, where the fee may be at most
-/// the part `bound` of what is drawn, over 10^18. Nothing changes. Refused, in this order: `AmountZero`; `FeeBound`;
-/// `Bootstrap`; `SystemUnder`; `ShortTokens`; `NothingRedeemed`; `FeeEatsAll`; `FeeOver`. Memory is taken for the cuts alone,
-/// so there may be none only where none of the first five comes.
+/// Plans the redemption of LUSD (micro-LUSD) out of a wallet, along the order from its end, where
+/// the fee may be at most the part `bound` of what is drawn, over 10^18. Nothing changes. Refused,
+/// in this order: `AmountZero`; `FeeBound`; `Bootstrap`; `SystemUnder`; `ShortTokens`;
+/// `NothingRedeemed`; `FeeEatsAll`; `FeeOver`. Memory is taken for the cuts alone, so there may be
+/// none only where none of the first five comes.
 pub fn plan(
     alloc: Global,
     m: &Market,
@@ -48,18 +49,20 @@ pub fn plan(
     requires market { IsMarket m.now wallet.now }
     requires entire { AreEntireWithin troves.now.sums troves.now.table.rows }
     requires distinct { AreDistinct order.now.entries }
-    ensures { Answers m.now wallet.now (rules.visited_by m.now.price troves.now.sums troves.now.table.rows order.now.entries) amount bound result }
+    ensures { Answers m.now wallet.now (rules.visited_by m.now.price troves.now.sums
+        troves.now.table.rows order.now.entries) amount bound result }
 {
     check_asked(m, wallet, amount, bound)?;
     let walk = along(alloc, m.price, m.troves, troves, order, amount)?;
     Ok(come_to(m, walk, amount, bound)?)
 }
 
-/// What is refused before any trove is visited. Where nothing is, all debt is worth less than all collateral, which has 64 bits;
-/// so is what is asked for.
+/// What is refused before any trove is visited. Where nothing is, all debt is worth less than all
+/// collateral, which has 64 bits; so is what is asked for.
 fn check_asked(m: &Market, wallet: &Wallet, amount: u64, bound: u64) -> Result<(), Refusal>
     requires { IsMarket m.now wallet.now }
-    ensures refused { result ≡ outcome (first_refusal (rules.asking_rules m.now wallet.now amount bound)) tt }
+    ensures refused { result
+        ≡ outcome (first_refusal (rules.asking_rules m.now wallet.now amount bound)) tt }
     ensures some { OnOk result (1 ≤ amount) }
     ensures enough { OnOk result (amount ≤ wallet.now.lusd) }
     ensures worth { OnOk result (amount * GWEI_PER_ETH < 2 ^ 64 * m.now.price) }
@@ -90,14 +93,16 @@ fn check_asked(m: &Market, wallet: &Wallet, amount: u64, bound: u64) -> Result<(
     Ok(())
 }
 
-/// What the cuts of a walk come to, of an amount of which at most this was wanted, or why that is refused.
+/// What the cuts of a walk come to, of an amount of which at most this was wanted, or why that is
+/// refused.
 fn come_to(m: &Market, walk: Walk, amount: u64, bound: u64) -> Result<RedeemPlan, Refusal>
     requires base { m.now.base ≤ ONE }
     requires past_fee { m.now.fee_minute ≤ m.now.minute }
     requires part { amount ≤ m.now.total_debt }
     requires wanted { rules.redeemed walk.cuts + walk.wanted ≡ amount }
     requires drawn { rules.drawn walk.cuts < 2 ^ 64 }
-    ensures { result ≡ outcome (first_refusal (rules.taking_rules (rules.terms_of m.now walk.cuts) (unwrap_or walk.first_net 0) amount bound)) (rules.terms_of m.now walk.cuts) }
+    ensures { result ≡ outcome (first_refusal (rules.taking_rules (rules.terms_of m.now walk.cuts)
+        (unwrap_or walk.first_net 0) amount bound)) (rules.terms_of m.now walk.cuts) }
 {
     let redeemed = amount - walk.wanted;
     if redeemed == 0 {

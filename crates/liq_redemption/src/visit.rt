@@ -28,7 +28,8 @@ impl Visit {
     }
 }
 
-/// The account's trove, if it has one that is visited: one below the least ratio is left to liquidation.
+/// The account's trove, if it has one that is visited: one below the least ratio is left to
+/// liquidation.
 pub(crate) fn visit_at(price: u64, troves: &Troves, account: u32) -> Option<Visit>
     requires price { price ≤ PRICE_MOST }
     requires entire { AreEntireWithin troves.now.sums troves.now.table.rows }

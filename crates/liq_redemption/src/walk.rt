@@ -31,16 +31,24 @@ pub struct Walk {
 }
 
 impl Walk {
-    /// Passes the account's trove, and takes of it what may be taken. Answers whether the redemption goes on.
+    /// Passes the account's trove, and takes of it what may be taken. Answers whether the
+    /// redemption goes on.
     fn pass(&mut self, price: u64, troves: &Troves, account: u32) -> Result<bool, NoMemory>
         requires least { PRICE_LEAST ≤ price }
         requires most { price ≤ PRICE_MOST }
         requires entire { AreEntireWithin troves.now.sums troves.now.table.rows }
         requires some { 1 ≤ self.old.wanted }
         requires wanted { self.old.wanted * GWEI_PER_ETH < 2 ^ 64 * price }
-        ensures cuts { IfOk result (λ on. (ahead : List rules.Visit) → all_cuts price self.new (ahead_where on ahead) ≡ all_cuts price self.old (cons_option (rules.visit_at price troves.now.sums troves.now.table.rows account) ahead)) }
-        ensures first { IfOk result (λ on. (ahead : List rules.Visit) → first_net_of self.new (ahead_where on ahead) ≡ first_net_of self.old (cons_option (rules.visit_at price troves.now.sums troves.now.table.rows account) ahead)) }
-        ensures wanted { IfOk result (λ _. rules.redeemed self.new.cuts + self.new.wanted ≡ rules.redeemed self.old.cuts + self.old.wanted) }
+        ensures cuts { IfOk result (λ on. (ahead : List rules.Visit)
+            → all_cuts price self.new (ahead_where on ahead) ≡ all_cuts price self.old
+            (cons_option (rules.visit_at price troves.now.sums troves.now.table.rows account)
+            ahead)) }
+        ensures first { IfOk result (λ on. (ahead : List rules.Visit)
+            → first_net_of self.new (ahead_where on ahead)
+            ≡ first_net_of self.old (cons_option (rules.visit_at price troves.now.sums
+            troves.now.table.rows account) ahead)) }
+        ensures wanted { IfOk result (λ _. rules.redeemed self.new.cuts + self.new.wanted
+            ≡ rules.redeemed self.old.cuts + self.old.wanted) }
     {
         match visit_at(price, troves, account) {
             Some(visit) => self.take(price, &visit),
@@ -53,9 +61,13 @@ impl Walk {
         requires least { PRICE_LEAST ≤ price }
         requires some { 1 ≤ self.old.wanted }
         requires wanted { self.old.wanted * GWEI_PER_ETH < 2 ^ 64 * price }
-        ensures cuts { IfOk result (λ on. (ahead : List rules.Visit) → all_cuts price self.new (ahead_where on ahead) ≡ all_cuts price self.old (visit.now ∷ ahead)) }
-        ensures first { IfOk result (λ _. self.new.first_net ≡ Some (unwrap_or self.old.first_net (rules.net_debt visit.now))) }
-        ensures wanted { IfOk result (λ _. rules.redeemed self.new.cuts + self.new.wanted ≡ rules.redeemed self.old.cuts + self.old.wanted) }
+        ensures cuts { IfOk result (λ on. (ahead : List rules.Visit)
+            → all_cuts price self.new (ahead_where on ahead) ≡ all_cuts price self.old (visit.now
+            ∷ ahead)) }
+        ensures first { IfOk result (λ _. self.new.first_net
+            ≡ Some (unwrap_or self.old.first_net (rules.net_debt visit.now))) }
+        ensures wanted { IfOk result (λ _. rules.redeemed self.new.cuts + self.new.wanted
+            ≡ rules.redeemed self.old.cuts + self.old.wanted) }
     {
         self.first_net = Some(self.first_net.unwrap_or(visit.net_debt()));
         let cut = cut_of(price, visit, self.wanted);
@@ -87,8 +99,8 @@ fn cut_of(price: u64, visit: &Visit, wanted: u64) -> Cut
     }
 }
 
-/// Whether a redemption ends before a cut: the protocol keeps one of its troves, and a trove that is left keeps the least
-/// debt.
+/// Whether a redemption ends before a cut: the protocol keeps one of its troves, and a trove that
+/// is left keeps the least debt.
 fn stops_before(visit: &Visit, cut: &Cut, troves: u64) -> bool
     ensures { result ≡ rules.stops_before visit.now cut.now troves }
 {
@@ -99,8 +111,8 @@ fn stops_before(visit: &Visit, cut: &Cut, troves: u64) -> bool
     }
 }
 
-/// The cuts along the troves from the list's end, for so much LUSD (micro-LUSD) at most, where the protocol has so many
-/// troves.
+/// The cuts along the troves from the list's end, for so much LUSD (micro-LUSD) at most, where the
+/// protocol has so many troves.
 pub fn along(
     alloc: Global,
     price: u64,
@@ -115,8 +127,11 @@ pub fn along(
     requires distinct { AreDistinct order.now.entries }
     requires some { 1 ≤ amount }
     requires amount { amount * GWEI_PER_ETH < 2 ^ 64 * price }
-    ensures cuts { IfOk result (λ w. w.cuts ≡ rules.cuts price count amount (rules.visited_by price troves.now.sums troves.now.table.rows order.now.entries)) }
-    ensures first { IfOk result (λ w. rules.redeemed w.cuts ≡ 0 → unwrap_or w.first_net 0 ≡ rules.first_net (rules.visited_by price troves.now.sums troves.now.table.rows order.now.entries)) }
+    ensures cuts { IfOk result (λ w. w.cuts ≡ rules.cuts price count amount
+        (rules.visited_by price troves.now.sums troves.now.table.rows order.now.entries)) }
+    ensures first { IfOk result (λ w. rules.redeemed w.cuts ≡ 0 → unwrap_or w.first_net 0
+        ≡ rules.first_net (rules.visited_by price troves.now.sums troves.now.table.rows
+        order.now.entries)) }
     ensures wanted { IfOk result (λ w. rules.redeemed w.cuts + w.wanted ≡ amount) }
 {
     let mut walk = Walk {

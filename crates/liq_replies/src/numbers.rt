@@ -1,11 +1,13 @@
-//! The numbers that a reply shows: a refusal's code and values, and how many values an accepted command shows.
+//! The numbers that a reply shows: a refusal's code and values, and how many values an accepted
+//! command shows.
 
 ghost use Rattle.std.specs.Prelude.{◌≡◌, ◌≤◌, take, slice_index};
 ghost use Rattle.liq_types.specs.Codes.{refusal_numbers, value_counts};
 
 use liq_types::Refusal;
 
-/// A refusal's code and the values that it carries, in front of noughts, and how many numbers these are.
+/// A refusal's code and the values that it carries, in front of noughts, and how many numbers these
+/// are.
 pub fn numbers_of(refusal: &Refusal) -> ([u128; 6], usize)
     ensures numbers { take result.1 result.0 ≡ refusal_numbers refusal.now }
     ensures few { (1 ≤ result.1) × (result.1 ≤ 6) }

@@ -5,7 +5,8 @@ ghost use Rattle.liq_replies.specs.Told.{deposit_words, trove_words, system_word
 
 use liq_types::{Info, Reply};
 
-/// Balance (micro-LUSD) and gain (gwei) of a deposit, by the reply to a query for one; zeros by any other reply.
+/// Balance (micro-LUSD) and gain (gwei) of a deposit, by the reply to a query for one; zeros by any
+/// other reply.
 pub fn deposit_in(reply: &Reply) -> (u64, u64)
     ensures { result ≡ deposit_words reply.now }
 {
@@ -15,7 +16,8 @@ pub fn deposit_in(reply: &Reply) -> (u64, u64)
     }
 }
 
-/// Collateral (gwei) and debt (micro-LUSD) of a trove, by the reply to a query for one; zeros by any other reply.
+/// Collateral (gwei) and debt (micro-LUSD) of a trove, by the reply to a query for one; zeros by
+/// any other reply.
 pub fn trove_in(reply: &Reply) -> (u64, u64)
     ensures { result ≡ trove_words reply.now }
 {
@@ -25,7 +27,8 @@ pub fn trove_in(reply: &Reply) -> (u64, u64)
     }
 }
 
-/// The ten words of the totals, in their order, by the reply to a query for them; zeros by any other reply.
+/// The ten words of the totals, in their order, by the reply to a query for them; zeros by any
+/// other reply.
 pub fn system_in(reply: &Reply) -> [u64; 10]
     ensures { result ≡ system_words reply.now }
 {

@@ -1,3 +1,3 @@
-pub mod Halving
-pub mod Refusing
-pub mod Telling
+mod Halving
+mod Refusing
+mod Telling

@@ -19,7 +19,8 @@ pub fn encode(reply: &Reply) -> Reply96
     }
 }
 
-/// The 96 bytes that say that there is no command or query: the field that begins at this byte fits none.
+/// The 96 bytes that say that there is no command or query: the field that begins at this byte fits
+/// none.
 #[tactic(auto, unfolding(crate::specs::Replies::bad96))]
 pub fn bad(place: u8) -> Reply96
     ensures { result ≡ bad96 place }

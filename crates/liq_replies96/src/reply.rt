@@ -21,13 +21,14 @@ pub const NO_MEMORY: u8 = 5;
 pub struct Reply96 {
     /// What kind of reply: [`ACCEPTED`], [`TOLD`], [`REFUSED`], [`BAD`] or [`NO_MEMORY`].
     pub kind: u8,
-    /// The place of the command's verb in the list of verbs or of what a query asks in the list of queries,
-    /// from 1, or the refusal's code; else 0.
+    /// The place of the command's verb in the list of verbs or of what a query asks in the list of
+    /// queries, from 1, or the refusal's code; else 0.
     pub which: u8,
     /// How many numbers there are: none where there is no trove or deposit.
     pub count: u8,
     /// Noughts.
     pub zero: [u8; 5],
-    /// The numbers, and noughts behind them. A number is one word; in a refusal it is two, the low one first.
+    /// The numbers, and noughts behind them. A number is one word; in a refusal it is two, the low
+    /// one first.
     pub values: [u64; 11],
 }

@@ -44,21 +44,25 @@ named words =
 module _ {s t : State} (h : Alike s t) where
   deposit_alike : (account : ℕ) → deposit_text s account ≡ deposit_text t account
   deposit_alike account =
-      ap₂ (λ (balance gain : ℕ). object_text ((codes "account", decimal account) ∷ (codes "balance", decimal balance) ∷ (codes "gain", decimal gain) ∷ [])) (balance_alike h account) (gain_alike h account)
+      ap₂ (λ (balance gain : ℕ). object_text ((codes "account", decimal account) ∷ (codes "balance", decimal balance)
+      ∷ (codes "gain", decimal gain) ∷ [])) (balance_alike h account) (gain_alike h account)
 
   accounts_alike : keys_of s.deposits ≡ keys_of t.deposits
   accounts_alike =
-      sym (keys_of-map_values (deposit_row s) s.deposits) ∙ ap (λ (i : Image). keys_of i.deposits) h.image ∙ keys_of-map_values (deposit_row t) t.deposits
+      sym (keys_of-map_values (deposit_row s) s.deposits) ∙ ap (λ (i : Image). keys_of i.deposits) h.image
+      ∙ keys_of-map_values (deposit_row t) t.deposits
 
   deposits_alike : deposits_text s ≡ deposits_text t
-  deposits_alike = ap list_text (map_alike (deposit_text s) (deposit_text t) deposit_alike (keys_of s.deposits) ∙ ap (λ (ks : List ℕ). map (deposit_text t) ks) accounts_alike)
+  deposits_alike = ap list_text (map_alike (deposit_text s) (deposit_text t) deposit_alike (keys_of s.deposits)
+      ∙ ap (λ (ks : List ℕ). map (deposit_text t) ks) accounts_alike)
 
   troves_alike : troves_text s ≡ troves_text t
   troves_alike = ap (λ (i : Image). list_text (map (trove_text (sums_by i)) i.troves)) h.image
 
   pool_alike : pool_text s ≡ pool_text t
   pool_alike =
-      ap (λ (i : Image). object_text ((codes "epoch", decimal i.epoch) ∷ (codes "p", string_text (decimal i.p)) ∷ (codes "scale", decimal i.scale) ∷ (codes "sum", string_text (decimal i.sum)) ∷ [])) h.image
+      ap (λ (i : Image). object_text ((codes "epoch", decimal i.epoch) ∷ (codes "p", string_text (decimal i.p))
+      ∷ (codes "scale", decimal i.scale) ∷ (codes "sum", string_text (decimal i.sum)) ∷ [])) h.image
 
   totals_alike : system_text s ≡ system_text t
   unfolding told_words
@@ -67,5 +71,7 @@ module _ {s t : State} (h : Alike s t) where
   pub report_alike : report_text s ≡ report_text t
   unfolding report_text
   report_alike =
-      ap₂ (λ (a b : List ℕ). object_text ((codes "deposits", a) ∷ (codes "pool", b) ∷ (codes "system", system_text s) ∷ (codes "troves", troves_text s) ∷ [])) deposits_alike pool_alike
-      ∙ ap₂ (λ (a b : List ℕ). object_text ((codes "deposits", deposits_text t) ∷ (codes "pool", pool_text t) ∷ (codes "system", a) ∷ (codes "troves", b) ∷ [])) totals_alike troves_alike
+      ap₂ (λ (a b : List ℕ). object_text ((codes "deposits", a) ∷ (codes "pool", b) ∷ (codes "system", system_text s)
+      ∷ (codes "troves", troves_text s) ∷ [])) deposits_alike pool_alike
+      ∙ ap₂ (λ (a b : List ℕ). object_text ((codes "deposits", deposits_text t) ∷ (codes "pool", pool_text t)
+      ∷ (codes "system", a) ∷ (codes "troves", b) ∷ [])) totals_alike troves_alike

@@ -40,24 +40,35 @@ module _ {X : Type 0} where
   abbrev IsFoundIn : Table X → ℕ × X → Type 0
   IsFoundIn table row = at table row.0 ≡ Some row.1
 
-  found_further : (e : ℕ × X) (table rest : Table X) → AllByRecursion (λ y. nat_cmp e.0 y ≡ Less) (keys_of rest) → AllByRecursion (IsFoundIn table) rest → AllByRecursion (IsFoundIn (e ∷ table)) rest
+  found_further : (e : ℕ × X) (table rest : Table X) → AllByRecursion (λ y. nat_cmp e.0 y ≡ Less) (keys_of rest)
+      → AllByRecursion (IsFoundIn table) rest → AllByRecursion (IsFoundIn (e ∷ table)) rest
   found_further e table [] low h = tt
-  found_further e table (f ∷ fs) low h = (ap (λ b. cond b (Some e.1) (at table f.0)) (away e.0 f.0 low.0) ∙ h.0, found_further e table fs low.1 h.1) where
+  found_further e table (f ∷ fs) low h = (
+    ap (λ b. cond b (Some e.1) (at table f.0)) (away e.0 f.0 low.0)
+        ∙ h.0,
+    found_further e table fs low.1 h.1,
+  ) where
     away : (j k : ℕ) → nat_cmp j k ≡ Less → is_eq (nat_cmp k j) ≡ false
     away j k l = grind (arith, nat_tests, l)
 
   found : (table : Table X) → Ascends table → AllByRecursion (IsFoundIn table) table
   found [] s = tt
-  found (e ∷ es) s = (ap (λ b. cond b (Some e.1) (at es e.0)) (itself e.0), found_further e es es (sorted_head nat_cmp e.0 (keys_of es) s) (found es (sorted_tail nat_cmp e.0 (keys_of es) s))) where
+  found (e ∷ es) s = (
+    ap (λ b. cond b (Some e.1) (at es e.0)) (itself e.0),
+    found_further e es es (sorted_head nat_cmp e.0 (keys_of es) s)
+        (found es (sorted_tail nat_cmp e.0 (keys_of es) s)),
+  ) where
     itself : (k : ℕ) → is_eq (nat_cmp k k) ≡ true
     itself k = grind (arith, nat_tests)
 
-  rows_stand : {R : Type 0} (f : R → ℕ × X) (table : Table X) (P : R → Type 0) → ((r : R) → (f r).0 < ACCOUNTS → at table (f r).0 ≡ Some (f r).1 → P r)
+  rows_stand : {R : Type 0} (f : R → ℕ × X) (table : Table X) (P : R → Type 0) → ((r : R) → (f r).0 < ACCOUNTS
+      → at table (f r).0 ≡ Some (f r).1 → P r)
       → (rs : List R) → AllByRecursion (IsFoundIn table) (map f rs) → KeysBelow (map f rs) → AllByRecursion P rs
   rows_stand f table P step [] stand keys = tt
   rows_stand f table P step (r ∷ rs) stand keys = (step r keys.0 stand.0, rows_stand f table P step rs stand.1 keys.1)
 
-  all_stand : {R : Type 0} (f : R → ℕ × X) (table : Table X) (P : R → Type 0) → ((r : R) → (f r).0 < ACCOUNTS → at table (f r).0 ≡ Some (f r).1 → P r)
+  all_stand : {R : Type 0} (f : R → ℕ × X) (table : Table X) (P : R → Type 0) → ((r : R) → (f r).0 < ACCOUNTS
+      → at table (f r).0 ≡ Some (f r).1 → P r)
       → (rs : List R) → map f rs ≡ table → Ascends table → KeysBelow table → AllByRecursion P rs
   all_stand f table P step rs are ascends keys =
       rows_stand f table P step rs
@@ -78,27 +89,37 @@ module _ (s : State) (h : IsSoundState s) where
       (subst (λ (ks : List ℕ). IsStrictlySortedBy nat_cmp ks) keys h.ordered.1)
       (subst (λ (ks : List ℕ). AllByRecursion (λ key. key < ACCOUNTS) ks) keys (sound_facts s h).stands.trove_keys)
 
-  pub deposits_stand : (rs : List DepositRow) → map rows.deposit_row rs ≡ deposit_rows s → AllByRecursion (λ (r : DepositRow). HasDeposit s r.account) rs
+  pub deposits_stand : (rs : List DepositRow) → map rows.deposit_row rs ≡ deposit_rows s
+      → AllByRecursion (λ (r : DepositRow). HasDeposit s r.account) rs
   deposits_stand rs are =
       let keys = sym (keys_of-map_values (deposit_row s) s.deposits) in
       all_stand rows.deposit_row (deposit_rows s) (λ (r : DepositRow). HasDeposit s r.account)
-      (λ r range stand. (range, some_entry (deposit_row s) (at s.deposits r.account) (rows.deposit_row r).1 (sym (at-map (deposit_row s) s.deposits r.account) ∙ stand))) rs are
+      (λ r range stand. (
+        range,
+        some_entry (deposit_row s) (at s.deposits r.account) (rows.deposit_row r).1
+            (sym (at-map (deposit_row s) s.deposits r.account) ∙ stand),
+      )) rs are
       (subst (λ (ks : List ℕ). IsStrictlySortedBy nat_cmp ks) keys h.ordered.3)
       (subst (λ (ks : List ℕ). AllByRecursion (λ key. key < ACCOUNTS) ks) keys (sound_facts s h).stands.deposit_keys)
 
-by_account : (g : ℕ → List ℕ) (rs : List DepositRow) → map (λ (r : DepositRow). g r.account) rs ≡ map g (keys_of (map rows.deposit_row rs))
+by_account : (g : ℕ → List ℕ) (rs : List DepositRow) → map (λ (r : DepositRow). g r.account) rs
+    ≡ map g (keys_of (map rows.deposit_row rs))
 by_account g [] = refl
 by_account g (r ∷ rs) = ap (λ (ts : List (List ℕ)). g r.account ∷ ts) (by_account g rs)
 
-pub deposits_are : (s : State) (rs : List DepositRow) → map rows.deposit_row rs ≡ deposit_rows s → list_text (map (λ (r : DepositRow). deposit_text s r.account) rs) ≡ deposits_text s
+pub deposits_are : (s : State) (rs : List DepositRow) → map rows.deposit_row rs ≡ deposit_rows s
+    → list_text (map (λ (r : DepositRow). deposit_text s r.account) rs) ≡ deposits_text s
 deposits_are s rs are =
-    ap list_text (by_account (deposit_text s) rs ∙ ap (λ (ks : List ℕ). map (deposit_text s) ks) (ap keys_of are ∙ keys_of-map_values (deposit_row s) s.deposits))
+    ap list_text (by_account (deposit_text s) rs ∙ ap (λ (ks : List ℕ). map (deposit_text s) ks) (ap keys_of are
+    ∙ keys_of-map_values (deposit_row s) s.deposits))
 
-by_row : (g : ℕ × Trove → List ℕ) (rs : List TroveRow) → map (λ (r : TroveRow). g (rows.trove_row r)) rs ≡ map g (map rows.trove_row rs)
+by_row : (g : ℕ × Trove → List ℕ) (rs : List TroveRow) → map (λ (r : TroveRow). g (rows.trove_row r)) rs
+    ≡ map g (map rows.trove_row rs)
 by_row g [] = refl
 by_row g (r ∷ rs) = ap (λ (ts : List (List ℕ)). g (rows.trove_row r) ∷ ts) (by_row g rs)
 
-pub troves_are : (s : State) (rs : List TroveRow) → map rows.trove_row rs ≡ trove_rows s → list_text (map (λ (r : TroveRow). trove_text (sums_words s) (rows.trove_row r)) rs) ≡ troves_text s
+pub troves_are : (s : State) (rs : List TroveRow) → map rows.trove_row rs ≡ trove_rows s
+    → list_text (map (λ (r : TroveRow). trove_text (sums_words s) (rows.trove_row r)) rs) ≡ troves_text s
 troves_are s rs are = ap list_text (by_row (trove_text (sums_words s)) rs ∙ ap (map (trove_text (sums_words s))) are)
 
 -- ---- what the protocol tells
@@ -106,13 +127,16 @@ troves_are s rs are = ap list_text (by_row (trove_text (sums_words s)) rs ∙ ap
 below : (account : ℕ) → account < ACCOUNTS → nat_le ACCOUNTS account ≡ false
 below account l = grind (arith, nat_tests, l)
 
-pub deposit_told : (s : State) (account : ℕ) → HasDeposit s account → answer s (query.Deposit account) ≡ Told (info.Deposit (balance_of s account) (gain_of s account))
+pub deposit_told : (s : State) (account : ℕ) → HasDeposit s account → answer s (query.Deposit account)
+    ≡ Told (info.Deposit (balance_of s account) (gain_of s account))
 deposit_told s account h =
-    ap (λ (b : Bool). if b then No (AccountRange account) else Told (deposit_info s account (at s.deposits account))) (below account h.0)
+    ap (λ (b : Bool). if b then No (AccountRange account) else Told (deposit_info s account (at s.deposits account)))
+    (below account h.0)
     ∙ ap (λ (o : Option DepositEntry). Told (deposit_info s account o)) h.1.1
 
 pub trove_told_of : (s : State) (r : TroveRow) → HasTrove s r
-    → answer s (query.Trove r.account) ≡ Told (info.Trove (entire_by (sums_words s) (rows.trove_row r).1).0 (entire_by (sums_words s) (rows.trove_row r).1).1 r.stake)
+    → answer s (query.Trove r.account) ≡ Told (info.Trove (entire_by (sums_words s) (rows.trove_row r).1).0
+    (entire_by (sums_words s) (rows.trove_row r).1).1 r.stake)
 unfolding trove_told
 trove_told_of s r h =
     grind (arith, nat_tests, below r.account h.0, trove_told_at s r.account, h.1)

@@ -1,5 +1,5 @@
--- The report of a state: its totals, the Stability Pool's words, and each trove and deposit as it stands. It is one
--- object in JSON, without spaces, and the names of every object ascend.
+-- The report of a state: its totals, the Stability Pool's words, and each trove and deposit as it
+-- stands. It is one object in JSON, without spaces, and the names of every object ascend.
 use Rattle.std.specs.Prelude.{ℕ, List, [], ◌∷◌, codes, decimal, map}
 use Rattle.std.specs.Map.{keys_of}
 use Rattle.liq_types.specs.declared.figures.Trove.{Trove}

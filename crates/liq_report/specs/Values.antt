@@ -1,5 +1,5 @@
--- A value in JSON and its text, numbers as members of an object, which rows of an image stand in a state's tables, and a
--- state's totals by their names.
+-- A value in JSON and its text, numbers as members of an object, which rows of an image stand in a
+-- state's tables, and a state's totals by their names.
 use Rattle.std.specs.Prelude.{ℕ, ◌≡◌, ◌<◌, List, [], ◌∷◌, Some, false}
 use Rattle.std.specs.Borrow.{Bor}
 use Rattle.liq_types.specs.declared.amounts.TheConstants.{ACCOUNTS}
@@ -27,7 +27,8 @@ with_numbers (n ∷ ns) ms = with_numbers ns (put n.0.now (number (unsigned n.1)
 
 -- the account has a deposit
 abbrev pub HasDeposit : State → ℕ → Type 0
-HasDeposit s account = (account < ACCOUNTS) × ((d : DepositEntry) × (at s.deposits account ≡ Some d))
+HasDeposit s account = (account < ACCOUNTS) × ((d : DepositEntry)
+    × (at s.deposits account ≡ Some d))
 
 -- the account has this trove
 abbrev pub HasTrove : State → TroveRow → Type 0

@@ -27,7 +27,8 @@ pub fn deposits(
     protocol: &Protocol,
     rows: &[DepositRow],
 ) -> Result<Value, AllocError>
-    requires { AllByRecursion (λ (row : DepositRow). HasDeposit (state_of protocol.now) row.account) rows.now }
+    requires { AllByRecursion (λ (row : DepositRow). HasDeposit (state_of protocol.now) row.account)
+        rows.now }
     ensures { IfOk result (HasText (list_text
         (map (λ (row : DepositRow). deposit_text (state_of protocol.now) row.account) rows.now))) }
 {
@@ -42,7 +43,8 @@ pub fn deposits(
 pub fn troves(alloc: Global, protocol: &Protocol, rows: &[TroveRow]) -> Result<Value, AllocError>
     requires { AllByRecursion (HasTrove (state_of protocol.now)) rows.now }
     ensures { IfOk result (HasText (list_text
-        (map (λ (row : TroveRow). trove_text (sums_words (state_of protocol.now)) (trove_row row)) rows.now))) }
+        (map (λ (row : TroveRow). trove_text (sums_words (state_of protocol.now)) (trove_row row))
+        rows.now))) }
 {
     let mut values = Vec::new(alloc);
     for row in rows {
@@ -62,7 +64,8 @@ fn deposit(alloc: Global, protocol: &Protocol, account: u32) -> Result<Value, Al
 /// One trove.
 fn trove(alloc: Global, protocol: &Protocol, row: &TroveRow) -> Result<Value, AllocError>
     requires { HasTrove (state_of protocol.now) row.now }
-    ensures { IfOk result (HasText (trove_text (sums_words (state_of protocol.now)) (trove_row row.now))) }
+    ensures { IfOk result (HasText (trove_text (sums_words (state_of protocol.now))
+        (trove_row row.now))) }
 {
     trove_object(alloc, row.account, entire(protocol, row), row.stake)
 }
@@ -70,7 +73,10 @@ fn trove(alloc: Global, protocol: &Protocol, row: &TroveRow) -> Result<Value, Al
 /// What is left of a deposit (micro-LUSD), and what it has gained (gwei).
 fn position(protocol: &Protocol, account: u32) -> (u64, u64)
     requires { HasDeposit (state_of protocol.now) account }
-    ensures { result ≡ (balance_of (state_of protocol.now) account, gain_of (state_of protocol.now) account) }
+    ensures { result ≡ (
+      balance_of (state_of protocol.now) account,
+      gain_of (state_of protocol.now) account,
+    ) }
 {
     protocols_stand(protocol);
     let reply = protocol.query(&Query::Deposit(account));

@@ -1,4 +1,5 @@
-//! The report: a protocol's totals, its Stability Pool, and each trove and deposit as it stands, as one text in JSON.
+//! The report: a protocol's totals, its Stability Pool, and each trove and deposit as it stands, as
+//! one text in JSON.
 #![tactic(auto)]
 
 mod entries;

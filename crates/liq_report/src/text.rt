@@ -16,11 +16,13 @@ use liq_types::{Image, NoMemory};
 use serde_json::Value;
 use std::alloc::{AllocError, Global};
 
-/// The report of a protocol: one object in JSON without spaces, in which the names of every object ascend. Collateral is
-/// in gwei, debt and LUSD in micro-LUSD. How the protocol came to be shows nowhere: states with one image and as many
-/// records have one report. Its names are `deposits`, `pool`, `system` and `troves`. [`NoMemory`] is the only error.
+/// The report of a protocol: one object in JSON without spaces, in which the names of every object
+/// ascend. Collateral is in gwei, debt and LUSD in micro-LUSD. How the protocol came to be shows
+/// nowhere: states with one image and as many records have one report. Its names are `deposits`,
+/// `pool`, `system` and `troves`. [`NoMemory`] is the only error.
 pub fn report(alloc: Global, protocol: &Protocol) -> Result<Vec<u8>, NoMemory>
-    ensures { IfOk result (λ text. (s : State) → StandsFor protocol.now s → text.items ≡ report_text s) }
+    ensures { IfOk result (λ text. (s : State) → StandsFor protocol.now s
+        → text.items ≡ report_text s) }
 {
     reports_follow_the_image();
     protocols_stand(protocol);

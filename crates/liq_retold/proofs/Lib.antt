@@ -1,2 +1,2 @@
-pub mod Replays
+mod Replays
 pub mod Runs

@@ -19,19 +19,23 @@ pub record IsRun (s : State) (commands : List Command) (end : State) : Type 0 wh
   pub again : accepted s (map Do commands) ≡ commands
   pub state : (run s (map Do commands)).0 ≡ end
 
-run_one : (s : State) (c : Command) (cs : List Command) (end : State) → ruling s c ≡ Allowed → IsRun (after s c) cs end → IsRun s (c ∷ cs) end
+run_one : (s : State) (c : Command) (cs : List Command) (end : State) → ruling s c ≡ Allowed → IsRun (after s c) cs end
+    → IsRun s (c ∷ cs) end
 run_one s c cs end is h =
     record {
-      again = ap (λ r. cond (is_allowed r) (c ∷ []) [] ++ accepted (after_ruling s c r).0 (map Do cs)) is ∙ ap (λ (ks : List Command). c ∷ ks) h.again;
+      again = ap (λ r. cond (is_allowed r) (c ∷ []) [] ++ accepted (after_ruling s c r).0 (map Do cs)) is
+          ∙ ap (λ (ks : List Command). c ∷ ks) h.again;
       state = ap (λ r. (run (after_ruling s c r).0 (map Do cs)).0) is ∙ h.state;
     }
 
 module _ (end : State) where
-  pub replay_runs : (commands : List Command) (index : ℕ) (s : State) → replay index s commands ≡ Ok end → IsRun s commands end
+  pub replay_runs : (commands : List Command) (index : ℕ) (s : State) → replay index s commands ≡ Ok end
+      → IsRun s commands end
   unfolding replay
   replay_runs [] index s h = record { again = refl; state = cc }
   replay_runs (c ∷ cs) index s h = by (ruling s c) refl h (λ k. replay_runs cs (index + 1) (after s c) k) where
-    by : (r : Ruling) → ruling s c ≡ r → replayed index r (replay (index + 1) (after s c) cs) ≡ Ok end → (replay (index + 1) (after s c) cs ≡ Ok end → IsRun (after s c) cs end) → IsRun s (c ∷ cs) end
+    by : (r : Ruling) → ruling s c ≡ r → replayed index r (replay (index + 1) (after s c) cs) ≡ Ok end
+        → (replay (index + 1) (after s c) cs ≡ Ok end → IsRun (after s c) cs end) → IsRun s (c ∷ cs) end
     by (Refused refusal) is k more = cc
     by (Repeated kept) is k more = cc
     by Allowed is k more = run_one s c cs end is (more k)
@@ -39,20 +43,24 @@ module _ (end : State) where
 -- ---- its commands are few
 
 module _ (end : State) where
-  pub replay_few : (commands : List Command) (index : ℕ) (s : State) → HaveNoRotation commands → s.records ≤ RECORDS_MOST → replay index s commands ≡ Ok end → s.records + length commands ≤ RECORDS_MOST
+  pub replay_few : (commands : List Command) (index : ℕ) (s : State) → HaveNoRotation commands
+      → s.records ≤ RECORDS_MOST → replay index s commands ≡ Ok end → s.records + length commands ≤ RECORDS_MOST
   unfolding replay
   replay_few [] index s none few h = omega arith
-  replay_few (c ∷ cs) index s none few h = by (ruling s c) refl h (λ less k. replay_few cs (index + 1) (after s c) (λ i d lt. none (suc i) d (omega arith)) less k) where
-    stays : rotates c.call ≡ false
-    stays = never_rotates c.call (none zero c (omega arith))
+  replay_few (c ∷ cs) index s none few h = by (ruling s c) refl h (λ less k. replay_few cs (index + 1) (after s c)
+      (λ i d lt. none (suc i) d (omega arith)) less k) where
+        stays : rotates c.call ≡ false
+        stays = never_rotates c.call (none zero c (omega arith))
 
-    counted : (after s c).records ≡ s.records + 1
-    counted = after-records s c stays
+        counted : (after s c).records ≡ s.records + 1
+        counted = after-records s c stays
 
-    by : (r : Ruling) → ruling s c ≡ r → replayed index r (replay (index + 1) (after s c) cs) ≡ Ok end → ((after s c).records ≤ RECORDS_MOST → replay (index + 1) (after s c) cs ≡ Ok end → (after s c).records + length cs ≤ RECORDS_MOST) → s.records + length (c ∷ cs) ≤ RECORDS_MOST
-    by (Refused refusal) is k more = cc
-    by (Repeated kept) is k more = cc
-    by Allowed is k more =
-        let less = allowed_few s c is stays in
-        let rest = more (omega (arith, counted, less)) k in
-        omega (arith, counted, rest)
+        by : (r : Ruling) → ruling s c ≡ r → replayed index r (replay (index + 1) (after s c) cs) ≡ Ok end
+            → ((after s c).records ≤ RECORDS_MOST → replay (index + 1) (after s c) cs ≡ Ok end
+            → (after s c).records + length cs ≤ RECORDS_MOST) → s.records + length (c ∷ cs) ≤ RECORDS_MOST
+        by (Refused refusal) is k more = cc
+        by (Repeated kept) is k more = cc
+        by Allowed is k more =
+            let less = allowed_few s c is stays in
+            let rest = more (omega (arith, counted, less)) k in
+            omega (arith, counted, rest)

@@ -15,7 +15,8 @@ use Rattle.liq_retold.specs.Retold.{noted_of}
 
 -- there was no memory, or the replay stops at this command
 abbrev pub StopsAt : State → Command → ℕ → ReplayFault → Type 0
-StopsAt s c index (Damaged damage) = (rest : Result State Damage) → replayed index (ruling s c) rest ≡ Err damage
+StopsAt s c index (Damaged damage) = (rest : Result State Damage) → replayed index (ruling s c) rest
+    ≡ Err damage
 StopsAt s c index NoMemory = Unit {0}
 
 abbrev pub PlansNext : State → Command → ℕ → Result Plan ReplayFault → Type 0

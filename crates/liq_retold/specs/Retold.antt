@@ -1,5 +1,6 @@
--- Commands that are made again from the opening under a limit on, and what is noted of them. What is noted of a command
--- depends on the minute in which it is made, on its reply, and on what it does to the Stability Pool.
+-- Commands that are made again from the opening under a limit on, and what is noted of them. What
+-- is noted of a command depends on the minute in which it is made, on its reply, and on what it
+-- does to the Stability Pool.
 use Rattle.std.specs.Prelude.{◌≡◌, ℕ, ◌≤◌, List, [], ◌∷◌, ◌++◌, length, Ok}
 use Rattle.liq_types.specs.declared.amounts.TheConstants.{RECORDS_MOST}
 use Rattle.liq_types.specs.declared.events.PoolEvent.{PoolEvent}
@@ -24,7 +25,8 @@ module _ {N : Type 0} (adds : ℕ → Done → List PoolEvent → List N) where
   noted s (c ∷ cs) = noted_of s c.call ++ noted (after s c) cs
 
   -- The core stands for the state after all of the commands, and what was noted of them is this.
-  pub record IsRetold (limit : ℕ) (commands : List Command) (core : Core) (notes : List N) : Type 0 where
+  pub record IsRetold (limit : ℕ) (commands : List Command) (core : Core) (notes : List N) :
+      Type 0 where
     pub state : State
     pub replays : replay 1 (opening_with limit) commands ≡ Ok state
     pub stands : StandsFor core state

@@ -8,7 +8,8 @@ use liq_types::NoMemory;
 /// Why a list of commands is not replayed to its end.
 #[derive(Clone, Copy)]
 pub enum ReplayFault {
-    /// A command is not accepted: the damage tells its number, from 1, and the refusal's code, or 0 for a repetition.
+    /// A command is not accepted: the damage tells its number, from 1, and the refusal's code, or 0
+    /// for a repetition.
     Damaged(Damage),
     NoMemory,
 }

@@ -1,4 +1,5 @@
-//! The replay of a list of commands, from the opening under a limit on, with an onlooker who is told of each.
+//! The replay of a list of commands, from the opening under a limit on, with an onlooker who is
+//! told of each.
 #![tactic(auto)]
 
 mod fault;

@@ -18,12 +18,15 @@ pub trait Onlooker {
     /// What was noted, in order.
     ghost notes: { Self → List Self.Note };
 
-    /// What is noted of a command that is made in this minute, is answered so and does this to the Stability Pool.
+    /// What is noted of a command that is made in this minute, is answered so and does this to the
+    /// Stability Pool.
     ghost adds: { ℕ → Done → List PoolEvent → List Self.Note };
 
     /// Notes a command before it is made. All commands before it were noted.
     fn see(&mut self, before: &Protocol, planned: &Planned) -> Result<(), NoMemory>
         requires come { HasCome adds before.now (notes self.old) }
         requires planned { IsPlannedOn before.now planned.now }
-        ensures { OnOk result ((s : State) → StandsFor before.now s → notes self.new ≡ notes self.old ++ adds s.minute planned.now.done planned.now.events) };
+        ensures { OnOk result ((s : State) → StandsFor before.now s
+            → notes self.new ≡ notes self.old ++ adds s.minute planned.now.done
+            planned.now.events) };
 }

@@ -22,9 +22,10 @@ use std::alloc::Global;
 use std::marker::Brand;
 use std::sync::ledger::{Blank, Ledger};
 
-/// Makes the commands, one after the other, on a protocol of their own that begins with the opening under this limit, and gives
-/// the protocol after them. The onlooker notes each. [`ReplayFault::Damaged`] comes exactly where the replay does not accept a
-/// command, where there is memory.
+/// Makes the commands, one after the other, on a protocol of their own that begins with the opening
+/// under this limit, and gives the protocol after them. The onlooker notes each.
+/// [`ReplayFault::Damaged`] comes exactly where the replay does not accept a command, where there
+/// is memory.
 pub fn retold<O: Onlooker>(
     alloc: Global,
     limit: u64,
@@ -35,8 +36,10 @@ pub fn retold<O: Onlooker>(
     // The commands of one generation hold no rotation.
     requires no_rotation { All (λ (c : Command). is_rotate c.call ≡ false) commands.now }
     requires fresh { O.notes onlooker.old ≡ [] }
-    ensures done { IfOk result (λ protocol. IsRetold O.adds limit commands.now protocol (O.notes onlooker.new)) }
-    ensures damaged { (damage : Damage) → result ≡ Err (ReplayFault.Damaged damage) → replay 1 (opening_with limit) commands.now ≡ Err damage }
+    ensures done { IfOk result (λ protocol. IsRetold O.adds limit commands.now protocol
+        (O.notes onlooker.new)) }
+    ensures damaged { (damage : Damage) → result ≡ Err (ReplayFault.Damaged damage)
+        → replay 1 (opening_with limit) commands.now ≡ Err damage }
 {
     retold_on::<O, Brand>(alloc, limit, commands, onlooker, Blank::new(1))
 }
@@ -55,8 +58,10 @@ fn retold_on<O: Onlooker, L: Ledger>(
     requires name { blank.name ≡ L.name }
     requires parts { blank.parts ≡ L.parts }
     requires one { L.parts ≡ 1 }
-    ensures done { IfOk result (λ protocol. IsRetold O.adds limit commands.now protocol (O.notes onlooker.new)) }
-    ensures damaged { (damage : Damage) → result ≡ Err (ReplayFault.Damaged damage) → replay 1 (opening_with limit) commands.now ≡ Err damage }
+    ensures done { IfOk result (λ protocol. IsRetold O.adds limit commands.now protocol
+        (O.notes onlooker.new)) }
+    ensures damaged { (damage : Damage) → result ≡ Err (ReplayFault.Damaged damage)
+        → replay 1 (opening_with limit) commands.now ≡ Err damage }
 {
     let mut steps = Steps::<L>::new(blank);
     let mut protocol = Guided::with_limit(alloc, limit);
@@ -78,7 +83,8 @@ fn make<O: Onlooker, L: Ledger>(
 ) -> Result<(), ReplayFault>
     requires { HasCome O.adds protocol.old (O.notes onlooker.old) }
     ensures { (s : State) → StandsFor protocol.old s
-        → MakesNext O.adds s command.now index protocol.new (O.notes onlooker.old) (O.notes onlooker.new) result }
+        → MakesNext O.adds s command.now index protocol.new (O.notes onlooker.old)
+        (O.notes onlooker.new) result }
 {
     let planned = plan(protocol, command, index)?;
     onlooker.see(protocol.protocol(), &planned)?;

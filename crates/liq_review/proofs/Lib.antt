@@ -1,6 +1,6 @@
-pub mod Gains
-pub mod Lines
+mod Gains
+mod Lines
 mod Paying
-pub mod Residual
-pub mod Rows
-pub mod Runs
+mod Residual
+mod Rows
+mod Runs

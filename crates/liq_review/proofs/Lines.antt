@@ -15,14 +15,17 @@ module _ {A : Type 0} (written : A → List ℕ) where
   pub cut : (xs : List A) (i : ℕ) (d : A) → i < length xs → drop i xs ≡ get_or xs i d ∷ drop (i + 1) xs
   cut xs i d lt = rw (add-one, drop-cons xs i d) refl
 
-  pub one_more : (out next : List ℕ) (xs : List A) (i : ℕ) (d : A) (whole : List ℕ) → i < length xs → next ≡ out ++ written (get_or xs i d) → out ++ flat_map written (drop i xs) ≡ whole → next ++ flat_map written (drop (i + 1) xs) ≡ whole
+  pub one_more : (out next : List ℕ) (xs : List A) (i : ℕ) (d : A) (whole : List ℕ) → i < length xs
+      → next ≡ out ++ written (get_or xs i d) → out ++ flat_map written (drop i xs) ≡ whole
+      → next ++ flat_map written (drop (i + 1) xs) ≡ whole
   one_more out next xs i d whole lt e so_far =
       ap (λ (t : List ℕ). t ++ flat_map written (drop (i + 1) xs)) e
       ∙ append_assoc out (written (get_or xs i d)) (flat_map written (drop (i + 1) xs))
       ∙ ap (λ (ys : List A). out ++ flat_map written ys) (sym (cut xs i d lt))
       ∙ so_far
 
-  pub no_more : (out : List ℕ) (xs : List A) (i : ℕ) (whole : List ℕ) → length xs ≤ i → out ++ flat_map written (drop i xs) ≡ whole → out ≡ whole
+  pub no_more : (out : List ℕ) (xs : List A) (i : ℕ) (whole : List ℕ) → length xs ≤ i
+      → out ++ flat_map written (drop i xs) ≡ whole → out ≡ whole
   no_more out xs i whole le e =
       let none : drop i xs ≡ [] = drop_of_length-le xs le in
       sym (append-nil out) ∙ ap (λ (ys : List A). out ++ flat_map written ys) (sym none) ∙ e
@@ -33,7 +36,9 @@ join_spaced : (n : ℕ) (ns : List ℕ) → join_with_byte 32 (map decimal (n �
 join_spaced n [] = sym (append-nil (decimal n))
 join_spaced n (next ∷ ns) = ap (λ (rest : List ℕ). decimal n ++ (32 ∷ rest)) (join_spaced next ns)
 
-pub joined : (out mid new numbers : List ℕ) → 1 ≤ length numbers → mid ≡ out ++ decimal (get_or numbers 0 0) → new ≡ mid ++ spaced (take (length numbers - 1) (drop 1 numbers)) → new ≡ out ++ join_with_byte 32 (map decimal numbers)
+pub joined : (out mid new numbers : List ℕ) → 1 ≤ length numbers → mid ≡ out ++ decimal (get_or numbers 0 0)
+    → new ≡ mid ++ spaced (take (length numbers - 1) (drop 1 numbers))
+    → new ≡ out ++ join_with_byte 32 (map decimal numbers)
 joined out mid new [] some first second = absurd (omega arith)
 joined out mid new (n ∷ ns) some first second =
     let all : take (length (n ∷ ns) - 1) ns ≡ ns = take_all (length (n ∷ ns) - 1) ns (omega arith) in

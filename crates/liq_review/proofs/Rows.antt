@@ -26,13 +26,15 @@ is_within-true row h = both (both (both (le h.balance_hi) (le h.balance_lo)) (le
   both {p} {q} x y = ap (λ b. b && q) x ∙ y
 
 module _ (s : State) (told : List PoolEvent) (h : IsFinished s told) (gains : offsets_coll told ≤ LIM) where
-  count_all : (accounts : List ℕ) → count_by is_within (map (row_of told) (map (engine_row s told) accounts)) ≡ length (map (row_of told) (map (engine_row s told) accounts))
+  count_all : (accounts : List ℕ) → count_by is_within (map (row_of told) (map (engine_row s told) accounts))
+      ≡ length (map (row_of told) (map (engine_row s told) accounts))
   count_all [] = refl
   count_all (account ∷ accounts) =
       let engine = engine_row s told account in
       let row = within_with told h.lawful gains h.few s engine (h.shares account) refl refl in
       let one = ap {B = ℕ} (λ b. cond b 1 0) (is_within-true (row_of told engine) row) in
-      let all = sum_by-cons (λ (r : Row). cond (is_within r) 1 0) (row_of told engine) (map (row_of told) (map (engine_row s told) accounts)) in
+      let all = sum_by-cons (λ (r : Row). cond (is_within r) 1 0) (row_of told engine)
+      (map (row_of told) (map (engine_row s told) accounts)) in
       let more = count_all accounts in
       omega (arith, all, one, more)
 

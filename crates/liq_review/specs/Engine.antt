@@ -26,7 +26,12 @@ rows_of s events = map (row_of events) (engine_rows s events)
 
 -- of an account that was paid so much
 abbrev pub paid_row : State → ℕ × ℕ → EngineRow
-paid_row s paid = record { account = paid.0; balance = balance_of s paid.0; gain = gain_of s paid.0 + paid.1 }
+paid_row s paid = record {
+  account = paid.0;
+  balance = balance_of s paid.0;
+  gain = gain_of s paid.0
+      + paid.1;
+}
 
 -- the account is in range, and all that it gained by the core's state fits 64 bits
 pub record Pays (core : Core) (paid : ℕ × ℕ) : Type 0 where

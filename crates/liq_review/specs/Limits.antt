@@ -6,7 +6,8 @@ use Rattle.liq_types.specs.declared.events.PoolEvent.{PoolEvent}
 use Rattle.liq_types.specs.PlainLedger.{coll_of}
 use Rattle.liq_audit.specs.Auditable.{limit_passed}
 
--- the first sum of the offsets' collateral that is above the limit, where there was so much before these events
+-- the first sum of the offsets' collateral that is above the limit, where there was so much before
+-- these events
 abbrev pub coll_above : ℕ → List PoolEvent → Option ℕ
 coll_above before [] = None
 coll_above before (e ∷ es) =
@@ -17,6 +18,7 @@ abbrev pub or_count : Option ℕ → Option (ℕ × ℕ) → Option ℕ
 or_count (Some sum) passed = Some sum
 or_count None passed = option_map (λ (p : ℕ × ℕ). p.0) passed
 
--- what passes a limit: a sum of the offsets' collateral, or else the offsets, or else the accounts, in number
+-- what passes a limit: a sum of the offsets' collateral, or else the offsets, or else the accounts,
+-- in number
 abbrev pub number_above : List PoolEvent → Option ℕ
 number_above events = or_count (coll_above 0 events) (limit_passed events)

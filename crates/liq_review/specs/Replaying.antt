@@ -19,7 +19,8 @@ fault_of_replay (retold.Damaged damage) = stopped damage
 fault_of_replay retold.NoMemory = NoMemory
 
 -- the core is that of the commands from the opening under this limit, and these are their events
-pub record IsReplayed (limit : ℕ) (commands : List Command) (core : Core) (told : List PoolEvent) : Type 0 where
+pub record IsReplayed (limit : ℕ) (commands : List Command) (core : Core) (told : List PoolEvent) :
+    Type 0 where
   pub state : State
   pub replays : replay 1 (opening_with limit) commands ≡ Ok state
   pub stands : StandsFor core state
@@ -29,4 +30,5 @@ pub record IsReplayed (limit : ℕ) (commands : List Command) (core : Core) (tol
 abbrev pub StopsWithin : ℕ → List Command → ReviewFault → Type 0
 StopsWithin limit commands fault =
     (fault ≡ NoMemory)
-    ⊎ ((damage : Damage) × (fault ≡ stopped damage) × (replay 1 (opening_with limit) commands ≡ Err damage))
+    ⊎ ((damage : Damage) × (fault ≡ stopped damage) × (replay 1 (opening_with limit) commands
+    ≡ Err damage))

@@ -1,5 +1,5 @@
--- The review of a list of commands: the audit of what they do to the Stability Pool from the opening under a limit on, as
--- a text.
+-- The review of a list of commands: the audit of what they do to the Stability Pool from the
+-- opening under a limit on, as a text.
 use Rattle.std.specs.Prelude.{ℕ, List, Result, Ok, Err, Option, Some, None}
 use Rattle.liq_types.specs.declared.events.PoolEvent.{PoolEvent}
 use Rattle.liq_types.specs.declared.requests.Command.{Command}

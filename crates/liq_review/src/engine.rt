@@ -23,7 +23,8 @@ pub(crate) fn engine_rows(
     paid: &BTreeMap<u32, u64>,
 ) -> Result<Vec<EngineRow>, NoMemory>
     requires { AllByRecursion (Pays protocol.now) paid.now.entries }
-    ensures rows { IfOk result (λ rows. (s : State) → StandsFor protocol.now s → rows.items ≡ map (paid_row s) paid.now.entries) }
+    ensures rows { IfOk result (λ rows. (s : State) → StandsFor protocol.now s
+        → rows.items ≡ map (paid_row s) paid.now.entries) }
     ensures accounts { IfOk result (λ rows. accounts_of rows.items ≡ keys_of paid.now.entries) }
 {
     let mut rows = Vec::with_capacity(alloc, paid.len())?;
@@ -52,7 +53,8 @@ fn engine_row(protocol: &Protocol, account: u32, paid: u64) -> EngineRow
 /// An account's balance, and the gain that it may take.
 fn position(protocol: &Protocol, account: u32) -> (u64, u64)
     requires { account < ACCOUNTS }
-    ensures { (s : State) → StandsFor protocol.now s → result ≡ (balance_of s account, gain_of s account) }
+    ensures { (s : State) → StandsFor protocol.now s
+        → result ≡ (balance_of s account, gain_of s account) }
 {
     match protocol.query(&Query::Deposit(account)) {
         Reply::Told(Info::Deposit { balance, gain }) => (balance, gain),

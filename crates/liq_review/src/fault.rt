@@ -11,10 +11,12 @@ use liq_types::NoMemory;
 /// Why a list of commands has no review.
 #[derive(Clone, Copy)]
 pub enum ReviewFault {
-    /// The command of this number, from 1, is refused with this code; or it is a repetition, and the code is 0.
+    /// The command of this number, from 1, is refused with this code; or it is a repetition, and
+    /// the code is 0.
     Refused { index: u64, code: u8 },
-    /// A limit is passed: by the first sum of the offsets' collateral above [`liq_types::amounts::LIM`] (gwei), or else by the
-    /// count of offsets ([`liq_audit::OFFSETS_MOST`]), or else by that of accounts ([`liq_audit::ACCOUNTS_MOST`]).
+    /// A limit is passed: by the first sum of the offsets' collateral above
+    /// [`liq_types::amounts::LIM`] (gwei), or else by the count of offsets
+    /// ([`liq_audit::OFFSETS_MOST`]), or else by that of accounts ([`liq_audit::ACCOUNTS_MOST`]).
     Limit { number: u128 },
     NoMemory,
 }

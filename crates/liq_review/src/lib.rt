@@ -1,5 +1,5 @@
-//! The audit of a list of commands, as a text: they are replayed from the opening, and what the protocol then gives each
-//! depositor stands beside its exact share.
+//! The audit of a list of commands, as a text: they are replayed from the opening, and what the
+//! protocol then gives each depositor stands beside its exact share.
 #![tactic(auto)]
 
 mod engine;

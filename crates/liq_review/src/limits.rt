@@ -12,7 +12,8 @@ use liq_types::amounts::LIM;
 pub(crate) fn limit_gains(events: &[PoolEvent]) -> Result<(), ReviewFault>
     ensures within { OnOk result (coll_above 0 events.now ≡ None) }
     ensures sum { OnOk result (offsets_coll events.now ≤ LIM) }
-    ensures above { IfErr result (λ fault. (sum : ℕ) × (coll_above 0 events.now ≡ Some sum) × (fault ≡ ReviewFault.Limit sum)) }
+    ensures above { IfErr result (λ fault. (sum : ℕ) × (coll_above 0 events.now ≡ Some sum)
+        × (fault ≡ ReviewFault.Limit sum)) }
 {
     let mut sum: u128 = 0;
     for event in events {

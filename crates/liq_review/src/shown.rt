@@ -34,7 +34,8 @@ fn count_within(rows: &[Row]) -> usize
     count
 }
 
-/// Whether neither balance nor gain is above the enclosure, nor below it by more than the allowance.
+/// Whether neither balance nor gain is above the enclosure, nor below it by more than the
+/// allowance.
 fn is_row_within(row: &Row) -> bool
     ensures { result ≡ is_within row.now }
 {
@@ -56,7 +57,8 @@ fn put_row(text: &mut Vec<u8>, row: &Row) -> Result<(), AllocError>
 
 /// Appends numbers with one space between two.
 fn put_numbers(text: &mut Vec<u8>, numbers: &[u128]) -> Result<(), AllocError>
-    ensures { OnOk result (text.new.items ≡ text.old.items ++ join_with_byte 32 (map decimal numbers.now)) }
+    ensures { OnOk result (text.new.items ≡ text.old.items ++ join_with_byte 32
+        (map decimal numbers.now)) }
 {
     let [first, rest @ ..] = numbers else {
         return Ok(());

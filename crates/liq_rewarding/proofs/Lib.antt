@@ -1,5 +1,5 @@
-pub mod Minutes
-pub mod Following
-pub mod Lines
-pub mod Finding
-pub mod Tagging
+mod Minutes
+mod Following
+mod Lines
+mod Finding
+mod Tagging

@@ -31,7 +31,8 @@ lifted-minute s account (Some t) = refl
 cut-minute : (s : State) (cut : Cut) (o : Option (ℕ × ℕ)) → (cut_entire s cut o).minute ≡ s.minute
 cut-minute s cut None = refl
 cut-minute s cut (Some own) = by cut.full where
-  by : (b : Bool) → (cond b (closed_by s cut own) (set_trove s cut.account (own.0 - cut.draw) (own.1 - cut.lot))).minute ≡ s.minute
+  by : (b : Bool) → (cond b (closed_by s cut own) (set_trove s cut.account (own.0 - cut.draw) (own.1 - cut.lot))).minute
+      ≡ s.minute
   by true = lifted-minute s cut.account (at s.troves cut.account)
   by false = lifted-minute s cut.account (at s.troves cut.account)
 
@@ -41,13 +42,16 @@ cuts-minute (cut ∷ cuts) s = cuts-minute cuts (cut_down s cut) ∙ cut-minute 
 
 liquidated-minute : (s : State) (liquidator : ℕ) (v : Victim) → (liquidated s liquidator v).minute ≡ s.minute
 liquidated-minute s liquidator v = by (at s.troves v.account) (v.one.offset_debt == 0) where
-  by : (o : Option TroveEntry) (b : Bool) → (cond b (lifted_entry s v.account o) (offset (lifted_entry s v.account o) v.one.offset_debt v.one.offset_coll)).minute ≡ s.minute
+  by : (o : Option TroveEntry) (b : Bool)
+      → (cond b (lifted_entry s v.account o) (offset (lifted_entry s v.account o) v.one.offset_debt
+      v.one.offset_coll)).minute ≡ s.minute
   by o true = lifted-minute s v.account o
   by o false = lifted-minute s v.account o
 
 all-minute : (vs : List Victim) (s : State) (liquidator : ℕ) → (all_liquidated s liquidator vs).minute ≡ s.minute
 all-minute [] s liquidator = refl
-all-minute (v ∷ vs) s liquidator = all-minute vs (liquidated s liquidator v) liquidator ∙ liquidated-minute s liquidator v
+all-minute (v ∷ vs) s liquidator = all-minute vs (liquidated s liquidator v) liquidator
+    ∙ liquidated-minute s liquidator v
 
 same : (m n : ℕ) → m ≡ n → n ≤ m
 same m n h = omega (arith, h)
@@ -62,7 +66,8 @@ effect_later s (Open account coll borrow bound hint) = same _ _ refl
 effect_later s (Adjust account coll_in coll_out borrow repay bound hint) =
     let change : Change = record { coll_in = coll_in; coll_out = coll_out; borrow = borrow; repay = repay } in
     let plan = adjusting_terms (market_of s) (or_nothing (entire_of s account)) change in
-    same _ _ (lifted-minute (credited (charged (with_fee s plan) account coll_in repay) account coll_out borrow) account (at s.troves account))
+    same _ _ (lifted-minute (credited (charged (with_fee s plan) account coll_in repay) account coll_out borrow) account
+    (at s.troves account))
 effect_later s (Close account) =
     let terms = closing_terms (or_nothing (entire_of s account)) in
     let settled = credited (charged s account 0 terms.0) account terms.1 0 in
@@ -70,9 +75,11 @@ effect_later s (Close account) =
 effect_later s (Provide account lusd) = same _ _ refl
 effect_later s (Withdraw account lusd) = same _ _ refl
 effect_later s (GainToTrove account hint) = same _ _ (lifted-minute (owned s account 0 0) account (at s.troves account))
-effect_later s (Liquidate liquidator account) = same _ _ (all-minute (listed (victim_by account (one s account))) s liquidator)
+effect_later s (Liquidate liquidator account) =
+    same _ _ (all-minute (listed (victim_by account (one s account))) s liquidator)
 effect_later s (LiquidateLowest liquidator count) = same _ _ (all-minute (lowest s count) s liquidator)
-effect_later s (Redeem account lusd bound hint) = same _ _ (cuts-minute (redeeming_terms (market_of s) (visited s) lusd).cuts s)
+effect_later s (Redeem account lusd bound hint) =
+    same _ _ (cuts-minute (redeeming_terms (market_of s) (visited s) lusd).cuts s)
 effect_later s (Claim account) = same _ _ refl
 effect_later s Rotate = same _ _ refl
 

@@ -11,11 +11,12 @@ use Rattle.liq_rewards.specs.Timed.{Timed}
 abbrev pub happens : ℕ → List Timed → PoolEvent → List Timed
 happens minute past e = record { minute = minute; event = e } ∷ past
 
--- behind what happened before: what each of a list of commands does, each allowed after those before it, in the minute
--- in which it is made
+-- behind what happened before: what each of a list of commands does, each allowed after those
+-- before it, in the minute in which it is made
 abbrev pub past_after : List Timed → State → List Command → List Timed
 past_after past s [] = past
-past_after past s (c ∷ cs) = past_after (fold (happens s.minute) past (call_events s c.call)) (after s c) cs
+past_after past s (c ∷ cs) = past_after (fold (happens s.minute) past (call_events s c.call))
+    (after s c) cs
 
 -- the minute after all of them
 abbrev pub minute_after : State → List Command → ℕ

@@ -1,5 +1,5 @@
--- The text that tells rewards: a reply for each line, what each account has earned and keeps of it, and what was
--- issued.
+-- The text that tells rewards: a reply for each line, what each account has earned and keeps of it,
+-- and what was issued.
 use Rattle.std.specs.Prelude.{ℕ, List, [], ◌∷◌, ◌++◌, Option, map, codes, decimal}
 use Rattle.std.specs.List.{flat_map}
 use Rattle.liq_types.specs.declared.requests.Command.{Command}
@@ -23,11 +23,13 @@ row_words row tag =
     ++ front_word tag ∷ decimal (given_of row.reward tag) ∷ []
 
 abbrev pub row_line : Tags → ℕ → List Timed → ℕ → List ℕ
-row_line tags minute past account = words_line (row_words (row_of account minute past) (at tags account))
+row_line tags minute past account =
+    words_line (row_words (row_of account minute past) (at tags account))
 
 abbrev pub issued_words : ℕ → List Timed → List (List ℕ)
 issued_words minute past =
-    codes "issued" ∷ decimal (issued minute) ∷ codes "unshared" ∷ decimal (unshared_at minute past) ∷ []
+    codes "issued" ∷ decimal (issued minute) ∷ codes "unshared"
+    ∷ decimal (unshared_at minute past) ∷ []
 
 -- what is told of these accounts at a minute, after all that happened
 abbrev pub told : List TagLine → ℕ → List Timed → List ℕ → List ℕ
@@ -36,9 +38,10 @@ told lines minute past accounts =
     ++ flat_map (row_line (tags_of lines) minute past) accounts
     ++ words_line (issued_words minute past)
 
--- the text for these commands of a journal, from the opening under its limit on, and these lines: of each account with
--- an own operation, ascending
+-- the text for these commands of a journal, from the opening under its limit on, and these lines:
+-- of each account with an own operation, ascending
 abbrev pub rewarded_text : ℕ → List Command → List TagLine → List ℕ
 rewarded_text limit commands lines =
     let start = opening_with limit in
-    told lines (minute_after start commands) (past_after [] start commands) (owners_of (events start commands))
+    told lines (minute_after start commands) (past_after [] start commands)
+    (owners_of (events start commands))

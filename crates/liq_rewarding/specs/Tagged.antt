@@ -14,7 +14,8 @@ use Rattle.liq_rewarding.specs.declared.tags.TagRefusal.TheVariants.{AccountRang
 abbrev pub Tags : Type 0
 Tags = Table TagLine
 
--- An account names one front end: a further tag of it is refused, but none counts that was refused itself.
+-- An account names one front end: a further tag of it is refused, but none counts that was refused
+-- itself.
 abbrev pub refusal_of : Tags → TagLine → Option TagRefusal
 refusal_of tags t =
     if nat_le ACCOUNTS t.account then Some (AccountRange t.account)

@@ -18,12 +18,14 @@ use liq_rewards::TagLine;
 use liq_types::Command;
 use std::alloc::Global;
 
-/// The text that tells rewards on these lines, for a journal's commands, which are replayed from the opening under the
-/// journal's limit: a reply for each line, a line `ACCOUNT REWARD ALLOW KEPT FRONT GIVEN` for each account with an own
-/// operation, ascending, and a line `issued I unshared U`. Units are shared by those who have a deposit by then, and
-/// those of the last minutes by those who have one in the end.
+/// The text that tells rewards on these lines, for a journal's commands, which are replayed from
+/// the opening under the journal's limit: a reply for each line, a line
+/// `ACCOUNT REWARD ALLOW KEPT FRONT GIVEN` for each account with an own operation, ascending, and a
+/// line `issued I unshared U`. Units are shared by those who have a deposit by then, and those of
+/// the last minutes by those who have one in the end.
 ///
-/// [`ReplayFault::Damaged`] comes exactly where the replay does not accept a command, where there is memory.
+/// [`ReplayFault::Damaged`] comes exactly where the replay does not accept a command, where there
+/// is memory.
 pub fn rewarded(
     alloc: Global,
     limit: u64,
@@ -36,7 +38,8 @@ pub fn rewarded(
     ensures text { IfOk result (λ text. text.items ≡ rewarded_text limit commands.now lines.now) }
     ensures damaged { (damage : Damage) → result ≡ Err (ReplayFault.Damaged damage)
         → replay 1 (opening_with limit) commands.now ≡ Err damage }
-    ensures whole { OnOk result ((damage : Damage) → replay 1 (opening_with limit) commands.now ≡ Err damage → ⊥) }
+    ensures whole { OnOk result ((damage : Damage) → replay 1 (opening_with limit) commands.now
+        ≡ Err damage → ⊥) }
 {
     let mut happened = Happened::new(alloc);
     let protocol = retold(alloc, limit, commands, &mut happened)?;

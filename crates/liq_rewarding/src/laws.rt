@@ -1,5 +1,5 @@
-//! What holds of the definitions that the contracts cite. The functions here do nothing: each is the place where the
-//! facts of its contract are proved.
+//! What holds of the definitions that the contracts cite. The functions here do nothing: each is
+//! the place where the facts of its contract are proved.
 
 ghost use Rattle.std.specs.Prelude.{◌≡◌, ℕ, ◌+◌, ◌≤◌, All, List, Ok, false, [], fold};
 ghost use Rattle.liq_types.specs.declared.amounts.TheConstants.{ACCOUNTS};
@@ -16,20 +16,23 @@ ghost use Rattle.liq_rewards.specs.Exact.{IsWithinAllowance, allowance_at};
 ghost use Rattle.liq_rules.specs.Events.{events};
 ghost use Rattle.liq_rewarding.specs.Happened.{past_after, minute_after};
 
-/// The rewards that are told of a journal's commands, which are replayed from the opening under a limit, are exact
-/// shares but for the allowance that is told beside each, and with the unshared units they are at most those that were
-/// issued.
+/// The rewards that are told of a journal's commands, which are replayed from the opening under a
+/// limit, are exact shares but for the allowance that is told beside each, and with the unshared
+/// units they are at most those that were issued.
 pub fn rewards_of_commands_are_shares()
     ensures events { (limit : ℕ) → (commands : List Command)
-        → events_of (past_after [] (opening_with limit) commands) ≡ events (opening_with limit) commands }
+        → events_of (past_after [] (opening_with limit) commands)
+        ≡ events (opening_with limit) commands }
     ensures share { (limit : ℕ) → IsLimit limit → (commands : List Command) → (s : State)
         → replay 1 (opening_with limit) commands ≡ Ok s → (account : ℕ)
         → let past = past_after [] (opening_with limit) commands in
-        IsWithinAllowance account s.minute past (reward_at account s.minute past) (allowance_at account s.minute past) }
+        IsWithinAllowance account s.minute past (reward_at account s.minute past)
+        (allowance_at account s.minute past) }
     ensures units { (limit : ℕ) → IsLimit limit → (commands : List Command) → (s : State)
         → replay 1 (opening_with limit) commands ≡ Ok s
         → let past = past_after [] (opening_with limit) commands in
-        over_accounts ACCOUNTS (λ account. reward_at account s.minute past) + unshared_at s.minute past
+        over_accounts ACCOUNTS (λ account. reward_at account s.minute past)
+        + unshared_at s.minute past
         ≤ issued s.minute }
 {}
 
@@ -39,5 +42,6 @@ pub fn minutes_never_fall()
         → replay 1 (opening_with limit) commands ≡ Ok s
         → AreInOrder s.minute (past_after [] (opening_with limit) commands) }
     ensures last { (limit : ℕ) → (commands : List Command) → (s : State)
-        → replay 1 (opening_with limit) commands ≡ Ok s → minute_after (opening_with limit) commands ≡ s.minute }
+        → replay 1 (opening_with limit) commands ≡ Ok s → minute_after (opening_with limit) commands
+        ≡ s.minute }
 {}

@@ -1,4 +1,5 @@
-//! The rewards of a journal's depositors, and what they and their front ends keep of them, as a text.
+//! The rewards of a journal's depositors, and what they and their front ends keep of them, as a
+//! text.
 #![tactic(auto)]
 
 mod followed;

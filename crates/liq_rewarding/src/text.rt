@@ -13,12 +13,12 @@ use liq_types::NoMemory;
 use std::alloc::{AllocError, Global};
 use std::collections::BTreeMap;
 
-/// Appends the text that tells rewards: a reply for each line on which a depositor names a front end, a line
-/// `ACCOUNT REWARD ALLOW KEPT FRONT GIVEN` for each of these accounts, and a line `issued I unshared U`. Without memory
-/// nothing is appended.
+/// Appends the text that tells rewards: a reply for each line on which a depositor names a front
+/// end, a line `ACCOUNT REWARD ALLOW KEPT FRONT GIVEN` for each of these accounts, and a line
+/// `issued I unshared U`. Without memory nothing is appended.
 ///
-/// KEPT is the part of REWARD that the account's tag says, rounded down, and GIVEN the rest, which is FRONT's; without
-/// a tag FRONT is `-`, and GIVEN is 0.
+/// KEPT is the part of REWARD that the account's tag says, rounded down, and GIVEN the rest, which
+/// is FRONT's; without a tag FRONT is `-`, and GIVEN is 0.
 pub fn rewards_text(
     lines: &[TagLine],
     rewards: &Rewards,
@@ -57,7 +57,8 @@ fn put_rows(
     accounts: &[u32],
 ) -> Result<(), AllocError>
     ensures { OnOk result ((past : List Timed) → IsKeptOf rewards.now past →
-        text.new.items ≡ text.old.items ++ flat_map (row_line tags.now.entries rewards.now.minute past) accounts.now) }
+        text.new.items ≡ text.old.items ++ flat_map (row_line tags.now.entries rewards.now.minute
+        past) accounts.now) }
 {
     for account in accounts {
         let tag = tags.get(account).copied();

@@ -25,8 +25,8 @@ pub(crate) fn put_refusal(text: &mut Vec<u8>, refusal: &TagRefusal) -> Result<()
     }
 }
 
-/// Appends an account's line: its reward, by how much that may fall short, what it keeps, and what its front end is
-/// given.
+/// Appends an account's line: its reward, by how much that may fall short, what it keeps, and what
+/// its front end is given.
 pub(crate) fn put_row(
     text: &mut Vec<u8>,
     row: RewardRow,
@@ -57,7 +57,8 @@ fn put_front(text: &mut Vec<u8>, tag: Option<TagLine>) -> Result<(), AllocError>
 /// Appends the last line.
 pub(crate) fn put_issued(text: &mut Vec<u8>, issued: u64, unshared: u64) -> Result<(), AllocError>
     ensures { OnOk result (text.new.items ≡ text.old.items
-        ++ words_line (codes "issued" ∷ decimal issued ∷ codes "unshared" ∷ decimal unshared ∷ [])) }
+        ++ words_line (codes "issued" ∷ decimal issued ∷ codes "unshared" ∷ decimal unshared
+        ∷ [])) }
 {
     text.extend_from_slice(b"issued")?;
     append_number(text, u128::from(issued))?;

@@ -28,12 +28,14 @@ issued-in year zero low =
 issued-in year (suc r) low =
     let before = issued-in year r (omega arith) in
     let one = issued-more (year * YEAR + r) in
-    let here : units_in (year * YEAR + r) ≡ rate_in year = ap (λ y. UNITS_AT_FIRST / 2 ^ y) (in_year year r (omega arith)) in
+    let here : units_in (year * YEAR + r) ≡ rate_in year =
+    ap (λ y. UNITS_AT_FIRST / 2 ^ y) (in_year year r (omega arith)) in
     let next : issued (year * YEAR + suc r) ≡ issued (year * YEAR + r + 1) = ap issued (omega arith) in
     omega (arith, before, one, here, next)
 
 -- as of a minute, the years so far
-pub issued-years : (minutes year : ℕ) → issued (min minutes ((year + 1) * YEAR)) ≡ issued (min minutes (year * YEAR)) + min (minutes - year * YEAR) YEAR * rate_in year
+pub issued-years : (minutes year : ℕ) → issued (min minutes ((year + 1) * YEAR)) ≡ issued (min minutes (year * YEAR))
+    + min (minutes - year * YEAR) YEAR * rate_in year
 issued-years minutes year = elim (cases_lt minutes (year * YEAR)) [
   | inl less ↦
       let first : issued (min minutes ((year + 1) * YEAR)) ≡ issued minutes = ap issued (omega arith) in
@@ -131,4 +133,5 @@ unfolding issued
 none_yet = refl
 
 pub issued-none : (minutes : ℕ) → 0 ≡ issued (min minutes 0)
-issued-none minutes = let none : issued (min minutes 0) ≡ issued 0 = ap issued (omega arith) in omega (arith, none, none_yet)
+issued-none minutes = let none : issued (min minutes 0) ≡ issued 0 = ap issued (omega arith)
+    in omega (arith, none, none_yet)

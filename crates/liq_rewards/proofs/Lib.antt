@@ -1,12 +1,12 @@
-pub mod Steps
-pub mod Earning
-pub mod Issuing
+mod Steps
+mod Earning
+mod Issuing
 pub mod Along
 pub mod Conserving
-pub mod Reading
+mod Reading
 pub mod Small
-pub mod Dealing
-pub mod Keeping
-pub mod Following
-pub mod Changing
-pub mod Finding
+mod Dealing
+mod Keeping
+mod Following
+mod Changing
+mod Finding

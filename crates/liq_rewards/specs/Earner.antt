@@ -53,7 +53,8 @@ balance_short e = ceiling_of e.weight 1 (10 ^ 9) + e.own_events
 
 -- a sum of so many scales above the mark, once the sum of now has risen
 abbrev pub risen : Earner → PoolWords → ℕ → ℕ → ℕ → ℕ
-risen e words rise i sum = sum + (if is_place (words.epoch, words.scale) (e.epoch, e.scale + i) then rise else 0)
+risen e words rise i sum = sum + (if is_place (words.epoch, words.scale) (e.epoch, e.scale + i)
+    then rise else 0)
 
 abbrev pub sums_risen : Earner → PoolWords → ℕ → Sums
 sums_risen e words rise =
@@ -84,7 +85,8 @@ part_by e i sum = floor_of e.amount sum (e.p * 10 ^ (9 * i))
 abbrev pub reading_by : Earner → ℕ
 reading_by e =
     if e.amount == 0 then 0
-    else part_by e 0 e.sums.first + part_by e 1 e.sums.second + part_by e 2 e.sums.third + part_by e 3 e.sums.fourth
+    else part_by e 0 e.sums.first + part_by e 1 e.sums.second + part_by e 2 e.sums.third
+    + part_by e 3 e.sums.fourth
 
 abbrev pub reward_by : Earner → ℕ
 reward_by e = e.earned + reading_by e
@@ -104,7 +106,8 @@ owned_by e words amount =
 
 -- after an event, beside the words before it
 abbrev pub with_event : Earner → PoolWords → PoolEvent → Earner
-with_event e words (Own owner put paid gain amount) = if owner == e.account then owned_by e words amount else e
+with_event e words (Own owner put paid gain amount) = if owner == e.account
+    then owned_by e words amount else e
 with_event e words (Offset debt coll total rise) = record e { weight = e.weight + cost_now e words }
 
 -- after a sharing and then an event

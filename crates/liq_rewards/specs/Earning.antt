@@ -1,5 +1,6 @@
--- What accounts earn, in whole units: at each place a sum for a whole deposit grows with each sharing, and a deposit
--- earns as the sums of its epoch have grown since its mark. Each division is rounded down.
+-- What accounts earn, in whole units: at each place a sum for a whole deposit grows with each
+-- sharing, and a deposit earns as the sums of its epoch have grown since its mark. Each division is
+-- rounded down.
 use Rattle.std.specs.Prelude.{ℕ, ◌+◌, List, [], ◌∷◌, Option, Some, None, if◌then◌else◌}
 use Rattle.liq_num.specs.Quotient.{floor_of}
 use Rattle.liq_types.specs.PlainLedger.{is_own_of}
@@ -15,7 +16,8 @@ rise_by minute past = floor_of (due_at minute past) (words_at past).p (total_of 
 
 abbrev pub rise_at : ℕ → List Timed → Place → ℕ
 rise_at minute past place =
-    if is_shared_at minute past then (if is_place (place_at past) place then rise_by minute past else 0) else 0
+    if is_shared_at minute past then (if is_place (place_at past) place then rise_by minute past
+    else 0) else 0
 
 -- the sum of a place, after what was shared before each of the events
 abbrev pub sum_of : List Timed → Place → ℕ
@@ -30,7 +32,8 @@ sum_at minute past place = sum_of past place + rise_at minute past place
 abbrev pub mark_sum : ℕ → List Timed → ℕ
 mark_sum account [] = 0
 mark_sum account (t ∷ past) =
-    if is_own_of account t.event then sum_at t.minute past (place_at past) else mark_sum account past
+    if is_own_of account t.event then sum_at t.minute past (place_at past)
+    else mark_sum account past
 
 -- a deposit's mark, with this sum in place of that of the pool's collateral
 abbrev pub reward_mark : ℕ → List Timed → DepositEntry → PoolMark
@@ -52,7 +55,8 @@ abbrev pub earned_of : ℕ → List Timed → ℕ
 earned_of account [] = 0
 earned_of account (t ∷ past) =
     if is_own_of account t.event
-    then earned_of account past + reading account t.minute past (at (state_of past).deposits account)
+    then earned_of account past + reading account t.minute past
+    (at (state_of past).deposits account)
     else earned_of account past
 
 -- all that it has earned, as of a minute

@@ -1,5 +1,5 @@
--- The exact rewards: what each account would have earned if nothing were rounded, as fractions with one denominator;
--- and by how much a reward may fall short.
+-- The exact rewards: what each account would have earned if nothing were rounded, as fractions with
+-- one denominator; and by how much a reward may fall short.
 use Rattle.std.specs.Prelude.{ℕ, ◌+◌, ◌*◌, ◌^◌, ◌≤◌, List, [], ◌∷◌, if◌then◌else◌}
 use Rattle.liq_num.specs.Quotient.{ceiling_of}
 use Rattle.liq_types.specs.declared.events.PoolEvent.{PoolEvent}
@@ -22,7 +22,11 @@ abbrev pub with_units : ℕ → ℕ → RewardShare → RewardShare
 with_units units total x =
     record {
       share =
-          record { den = x.share.den * total; bal = x.share.bal * total; gain = x.share.gain * total };
+          record {
+            den = x.share.den * total;
+            bal = x.share.bal * total;
+            gain = x.share.gain * total;
+          };
       rew = x.rew * total + units * x.share.bal;
     }
 
@@ -31,7 +35,10 @@ abbrev pub with_event : ℕ → PoolEvent → RewardShare → RewardShare
 with_event account (Own owner put paid gain amount) x =
     record x { share = share_after account x.share (Own owner put paid gain amount) }
 with_event account (Offset debt coll total rise) x =
-    record { share = share_after account x.share (Offset debt coll total rise); rew = x.rew * total }
+    record {
+      share = share_after account x.share (Offset debt coll total rise);
+      rew = x.rew * total;
+    }
 
 -- what is due at a minute is shared, where anything is
 abbrev pub with_due : ℕ → List Timed → RewardShare → RewardShare
@@ -40,7 +47,8 @@ with_due minute past x =
 
 abbrev pub share_of : ℕ → List Timed → RewardShare
 share_of account [] = no_reward
-share_of account (t ∷ past) = with_event account t.event (with_due t.minute past (share_of account past))
+share_of account (t ∷ past) =
+    with_event account t.event (with_due t.minute past (share_of account past))
 
 abbrev pub share_at : ℕ → ℕ → List Timed → RewardShare
 share_at account minute past = with_due minute past (share_of account past)
@@ -51,7 +59,8 @@ share_at account minute past = with_due minute past (share_of account past)
 abbrev pub withheld_by : ℕ → ℕ → List Timed → ℕ
 withheld_by account minute past =
     if is_shared_at minute past
-    then ceiling_of (due_at minute past) (balance_allowance account (events_of past)) (total_of past)
+    then ceiling_of (due_at minute past) (balance_allowance account (events_of past))
+    (total_of past)
     else 0
 
 abbrev pub withheld_of : ℕ → List Timed → ℕ
@@ -68,13 +77,16 @@ amount_left (Offset debt coll total rise) = 0
 
 abbrev pub recorded : ℕ → List Timed → ℕ
 recorded account [] = 0
-recorded account (t ∷ past) = if is_own_of account t.event then amount_left t.event else recorded account past
+recorded account (t ∷ past) = if is_own_of account t.event then amount_left t.event
+    else recorded account past
 
 abbrev pub own_place : ℕ → List Timed → Place
 own_place account [] = (0, 0)
-own_place account (t ∷ past) = if is_own_of account t.event then place_at past else own_place account past
+own_place account (t ∷ past) = if is_own_of account t.event then place_at past
+    else own_place account past
 
--- what the sums' rounding may cost at a sharing, in 10^9ths of a unit: as much as an offset may cost
+-- what the sums' rounding may cost at a sharing, in 10^9ths of a unit: as much as an offset may
+-- cost
 abbrev pub cost_by : ℕ → ℕ → List Timed → ℕ
 cost_by account minute past =
     if is_shared_at minute past
@@ -96,7 +108,9 @@ allowance_at account minute past =
     + 4 * own_events_of account (events_of past)
 
 -- a reward is at most the exact one, and falls short of it by at most the allowance
-pub record IsWithinAllowance (account minute : ℕ) (past : List Timed) (reward allowance : ℕ) : Type 0 where
-  pub at_most : reward * (share_at account minute past).share.den ≤ (share_at account minute past).rew
+pub record IsWithinAllowance (account minute : ℕ) (past : List Timed) (reward allowance : ℕ) :
+    Type 0 where
+  pub at_most : reward * (share_at account minute past).share.den
+      ≤ (share_at account minute past).rew
   pub at_least : (share_at account minute past).rew
       ≤ (reward + allowance) * (share_at account minute past).share.den

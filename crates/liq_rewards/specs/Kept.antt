@@ -23,8 +23,8 @@ use Rattle.liq_rewards.specs.Earner.{no_earner, reward_by, allowance_by}
 use Rattle.liq_rewards.specs.Earning.{reward_mark, sum_of, earned_of, reward_at}
 use Rattle.liq_rewards.specs.Exact.{recorded, own_place, withheld_of, costs_of, allowance_at}
 
--- The minute of now; the units that are due then, and those that were not shared before; the pool's words, of which
--- product, place and total count; and the accounts that have room.
+-- The minute of now; the units that are due then, and those that were not shared before; the pool's
+-- words, of which product, place and total count; and the accounts that have room.
 pub record Kept : Type 0 where
   pub minute : ℕ
   pub due : ℕ
@@ -79,7 +79,14 @@ pub record IsEarnerOf (e : Earner) (past : List Timed) : Type 0 where
 abbrev pub words_kept : List Timed → PoolWords
 words_kept past =
     let now = words_at past in
-    record { p = now.p; scale = now.scale; epoch = now.epoch; sum = 0; total = total_of past; coll = 0 }
+    record {
+      p = now.p;
+      scale = now.scale;
+      epoch = now.epoch;
+      sum = 0;
+      total = total_of past;
+      coll = 0;
+    }
 
 pub record IsKeptOf (k : Kept) (past : List Timed) : Type 0 where
   pub lawful : IsLawful opening (events_of past)
@@ -89,7 +96,8 @@ pub record IsKeptOf (k : Kept) (past : List Timed) : Type 0 where
   pub unshared : k.unshared ≡ unshared_of past
   pub words : k.words ≡ words_kept past
   pub rows : AllByRecursion (λ e. IsEarnerOf e past) k.earners
-  pub others : (account : ℕ) → has_row k.earners account ≡ false → IsEarnerOf (no_earner account) past
+  pub others : (account : ℕ) → has_row k.earners account ≡ false
+      → IsEarnerOf (no_earner account) past
 
 -- one event more may happen
 pub record MayHappen (t : Timed) (past : List Timed) : Type 0 where
@@ -99,10 +107,19 @@ pub record MayHappen (t : Timed) (past : List Timed) : Type 0 where
 -- ---- the words that count, after an event
 
 abbrev pub words_then : PoolWords → PoolEvent → PoolWords
-words_then words (Own owner put paid gain amount) = record words { total = words.total - paid + put }
+words_then words (Own owner put paid gain amount) =
+    record words { total = words.total - paid + put }
 words_then words (Offset debt coll total rise) =
     let next = after_offset (words_in words) (offset_in words debt 0) in
-    record { p = next.p; scale = next.scale; epoch = next.epoch; sum = 0; total = words.total - debt; coll = 0 }
+    record {
+      p = next.p;
+      scale = next.scale;
+      epoch = next.epoch;
+      sum = 0;
+      total = words.total
+          - debt;
+      coll = 0;
+    }
 
 pub record CanTake (words : PoolWords) (debt : ℕ) : Type 0 where
   pub some : 1 ≤ debt
@@ -116,7 +133,8 @@ pub record CanTake (words : PoolWords) (debt : ℕ) : Type 0 where
   pub coll : words.coll ≡ 0
 
 abbrev pub CanHappen : PoolWords → PoolEvent → Type 0
-CanHappen words (Own owner put paid gain amount) = (paid ≤ words.total) × (words.total - paid + put ≤ LIM)
+CanHappen words (Own owner put paid gain amount) = (paid ≤ words.total)
+    × (words.total - paid + put ≤ LIM)
 CanHappen words (Offset debt coll total rise) = CanTake words debt
 
 -- ---- what is answered

@@ -1,5 +1,5 @@
--- Rows of accounts, each as of its last change. Offsets that leave the pool at its place cost an account the same each: they
--- are counted, and no row changes.
+-- Rows of accounts, each as of its last change. Offsets that leave the pool at its place cost an
+-- account the same each: they are counted, and no row changes.
 use Rattle.std.specs.Prelude.{◌≡◌, ℕ, ◌+◌, ◌-◌, ◌*◌, ◌<◌, ◌≤◌, List, map, length, get_or, Option, Some}
 use Rattle.std.specs.List.{AllByRecursion}
 use Rattle.liq_types.specs.declared.events.PoolEvent.{PoolEvent}
@@ -22,7 +22,10 @@ no_row account = record { earner = no_earner account; counted = 0 }
 -- an account as of now: the offsets that its row lacks cost it what one costs it now
 abbrev pub now_of : PoolWords → ℕ → Row → Earner
 now_of words offsets row =
-    record row.earner { weight = row.earner.weight + (offsets - row.counted) * cost_now row.earner words }
+    record row.earner {
+      weight = row.earner.weight + (offsets - row.counted) * cost_now
+          row.earner words;
+    }
 
 abbrev pub all_now : PoolWords → Counted → List Earner
 all_now words kept = map (now_of words kept.offsets) kept.rows
@@ -30,7 +33,10 @@ all_now words kept = map (now_of words kept.offsets) kept.rows
 -- a row once what is due is dealt with, and then after an event
 abbrev pub changed_by : PoolWords → Option Sharing → PoolEvent → ℕ → ℕ → Row → Row
 changed_by words sharing event offsets counted row =
-    record { earner = earner_after words sharing event (now_of words offsets row); counted = counted }
+    record {
+      earner = earner_after words sharing event (now_of words offsets row);
+      counted = counted;
+    }
 
 -- ---- where rows stand
 
@@ -46,10 +52,12 @@ pub record IsRowOf (rows : List Row) (account place : ℕ) : Type 0 where
 
 -- an account's number leads to its row
 pub record AreFound (numbers : Table ℕ) (accounts : List ℕ) : Type 0 where
-  pub each : (place : ℕ) → place < length accounts → at numbers (get_or accounts place 0) ≡ Some (place + 1)
+  pub each : (place : ℕ) → place < length accounts → at numbers (get_or accounts place 0)
+      ≡ Some (place + 1)
   pub least : (account number : ℕ) → at numbers account ≡ Some number → 1 ≤ number
   pub most : (account number : ℕ) → at numbers account ≡ Some number → number ≤ length accounts
-  pub back : (account number : ℕ) → at numbers account ≡ Some number → get_or accounts (number - 1) 0 ≡ account
+  pub back : (account number : ℕ) → at numbers account ≡ Some number
+      → get_or accounts (number - 1) 0 ≡ account
 
 pub record AreRows (numbers : Table ℕ) (offsets : ℕ) (rows : List Row) : Type 0 where
   pub found : AreFound numbers (accounts_of rows)

@@ -1,5 +1,5 @@
--- What happens to the Stability Pool, and when. A list of it has the latest first: what stands behind an item is what
--- happened before it.
+-- What happens to the Stability Pool, and when. A list of it has the latest first: what stands
+-- behind an item is what happened before it.
 use Rattle.std.specs.Prelude.{ℕ, ◌+◌, ◌-◌, ◌≤◌, ◌==◌, ◌&&◌, nat_le, not, Bool, List, [], ◌∷◌, ◌++◌, if◌then◌else◌}
 use Rattle.liq_types.specs.declared.events.PoolEvent.{PoolEvent}
 use Rattle.liq_types.specs.Product.{ScaledProduct, place_of}
@@ -23,7 +23,8 @@ abbrev pub events_of : List Timed → List PoolEvent
 events_of [] = []
 events_of (t ∷ past) = events_of past ++ t.event ∷ []
 
--- the pool that they lead to: its state, its total (micro-LUSD), its product, and the place at which it counts
+-- the pool that they lead to: its state, its total (micro-LUSD), its product, and the place at
+-- which it counts
 abbrev pub state_of : List Timed → State
 state_of past = after_events (events_of past)
 

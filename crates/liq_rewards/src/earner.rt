@@ -16,8 +16,8 @@ use liq_types::amounts::{LIM, P_LEAST};
 /// One step of the scale.
 const STEP: u64 = 1_000_000_000;
 
-/// How the sums of an epoch grew since a mark, at the mark's scale and the next three: what a whole deposit got, over
-/// 10^18.
+/// How the sums of an epoch grew since a mark, at the mark's scale and the next three: what a whole
+/// deposit got, over 10^18.
 #[derive(Clone, Copy)]
 pub struct Sums {
     pub first: u128,

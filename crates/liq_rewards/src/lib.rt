@@ -1,5 +1,5 @@
-//! Reward units that depositors of the Stability Pool earn by time: an account beside the protocol, with the law that
-//! what each has earned is its exact share but for a stated allowance.
+//! Reward units that depositors of the Stability Pool earn by time: an account beside the protocol,
+//! with the law that what each has earned is its exact share but for a stated allowance.
 #![tactic(auto)]
 
 mod earner;

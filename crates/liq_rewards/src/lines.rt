@@ -22,9 +22,9 @@ pub struct TagLine {
 #[derive(Clone, Copy, PartialEq, Eq)]
 pub struct BadTagLine;
 
-/// What a line says, the line end not counted: `tag ACCOUNT FRONT RATE`, with one space between two words and numbers
-/// without leading zeros, account and front below 2^32 and the rate below 2^64. [`BadTagLine`] exactly where it is no
-/// such line.
+/// What a line says, the line end not counted: `tag ACCOUNT FRONT RATE`, with one space between two
+/// words and numbers without leading zeros, account and front below 2^32 and the rate below 2^64.
+/// [`BadTagLine`] exactly where it is no such line.
 pub fn read_tag_line(line: &[u8]) -> Result<TagLine, BadTagLine>
     ensures found { IfOk result (λ l. Spells line.now l) }
     // So at most one is spelled.

@@ -33,11 +33,12 @@ pub struct RewardRow {
     pub allow: u128,
 }
 
-/// Reward units, as all events so far and the minutes between them make them. Contracts say what a value stands for by
-/// `IsKeptOf`: a list of events with their minutes, the latest first. Each value stands for a lawful list. Only
-/// [`Rewards::reserve`] takes memory. An event takes time in all accounts that have room, also where nothing is left of
-/// their deposits, if what is due is shared before it, or it is an offset that raises the scale or ends the epoch. Any
-/// other takes no more time with more accounts.
+/// Reward units, as all events so far and the minutes between them make them. Contracts say what a
+/// value stands for by `IsKeptOf`: a list of events with their minutes, the latest first. Each
+/// value stands for a lawful list. Only [`Rewards::reserve`] takes memory. An event takes time in
+/// all accounts that have room, also where nothing is left of their deposits, if what is due is
+/// shared before it, or it is an offset that raises the scale or ends the epoch. Any other takes no
+/// more time with more accounts.
 #[derive(Drop)]
 pub struct Rewards {
     /// The last minute that was told.
@@ -90,14 +91,15 @@ impl Rewards {
         }
     }
 
-    /// Makes room for one event, an own operation of the account if one is named. Nothing else changes; without memory
-    /// nothing changes at all, and where there was room none is wanted. It takes memory by the greatest account too, 24
-    /// bytes for each 1,024 below it.
+    /// Makes room for one event, an own operation of the account if one is named. Nothing else
+    /// changes; without memory nothing changes at all, and where there was room none is wanted. It
+    /// takes memory by the greatest account too, 24 bytes for each 1,024 below it.
     pub fn reserve(&mut self, account: Option<u32>) -> Result<(), NoMemory>
         ensures kept { (past : List Timed) → IsKeptOf self.old past → IsKeptOf self.new past }
         ensures minute { self.new.minute ≡ self.old.minute }
         ensures account { OnOk result (IfSome account (λ a. has_row self.new.earners a ≡ true)) }
-        ensures room { (a : ℕ) → has_row self.old.earners a ≡ true → has_row self.new.earners a ≡ true }
+        ensures room { (a : ℕ) → has_row self.old.earners a ≡ true → has_row self.new.earners a
+            ≡ true }
         ensures had { IfSome account (λ a. has_row self.old.earners a ≡ true) → IsOk result }
         ensures err { OnErr result (self.new ≡ self.old) }
     {
@@ -110,7 +112,8 @@ impl Rewards {
         self.rows.add(account)
     }
 
-    /// It is this minute, which is none before the last one. What is issued until then is due from now on.
+    /// It is this minute, which is none before the last one. What is issued until then is due from
+    /// now on.
     pub fn to_minute(&mut self, minute: u64)
         requires { self.old.minute ≤ minute }
         ensures kept { (past : List Timed) → IsKeptOf self.old past → IsKeptOf self.new past }
@@ -121,16 +124,19 @@ impl Rewards {
         self.minute = minute;
     }
 
-    /// An event happens in the last minute that was told. First what is due is shared, where the pool has enough, or
-    /// counts as unshared. All events so far and this one are a lawful list, and a value takes at most [`EVENTS_MOST`].
+    /// An event happens in the last minute that was told. First what is due is shared, where the
+    /// pool has enough, or counts as unshared. All events so far and this one are a lawful list,
+    /// and a value takes at most [`EVENTS_MOST`].
     pub fn event(&mut self, event: &PoolEvent)
         requires room { HasRoomFor self.old.earners event.now }
         requires lawful { ∥ ((past : List Timed) × IsKeptOf self.old past
             × MayHappen (timed self.old.minute event.now) past) ∥₁ }
-        ensures kept { (past : List Timed) → IsKeptOf self.old past → MayHappen (timed self.old.minute event.now) past →
+        ensures kept { (past : List Timed) → IsKeptOf self.old past
+            → MayHappen (timed self.old.minute event.now) past →
             IsKeptOf self.new (timed self.old.minute event.now ∷ past) }
         ensures minute { self.new.minute ≡ self.old.minute }
-        ensures room { (a : ℕ) → has_row self.old.earners a ≡ true → has_row self.new.earners a ≡ true }
+        ensures room { (a : ℕ) → has_row self.old.earners a ≡ true → has_row self.new.earners a
+            ≡ true }
     {
         let (sharing, words) = shared_first(&self.words, self.due, event);
         self.rows.event(&self.words, &words, sharing, event);
@@ -139,10 +145,11 @@ impl Rewards {
         self.due = 0;
     }
 
-    /// All units that an account has earned, what is due now being shared too: never more than its exact share, and
-    /// less by at most what the row allows.
+    /// All units that an account has earned, what is due now being shared too: never more than its
+    /// exact share, and less by at most what the row allows.
     pub fn row(&self, account: u32) -> RewardRow
-        ensures row { (past : List Timed) → IsKeptOf self.now past → result ≡ row_of account self.now.minute past }
+        ensures row { (past : List Timed) → IsKeptOf self.now past
+            → result ≡ row_of account self.now.minute past }
         ensures share { (past : List Timed) → IsKeptOf self.now past →
             IsWithinAllowance account self.now.minute past result.reward result.allow }
     {
@@ -165,12 +172,15 @@ impl Rewards {
         issued(self.minute)
     }
 
-    /// The units that were not shared, what is due counted where it is not shared now. With all rewards they are at
-    /// most those that were issued.
+    /// The units that were not shared, what is due counted where it is not shared now. With all
+    /// rewards they are at most those that were issued.
     pub fn unshared(&self) -> u64
-        ensures unshared { (past : List Timed) → IsKeptOf self.now past → result ≡ unshared_at self.now.minute past }
-        ensures whole { (past : List Timed) → IsKeptOf self.now past → (n : ℕ) → AreOwnedBelow n (events_of past) →
-            over_accounts n (λ account. reward_at account self.now.minute past) + result ≤ issued self.now.minute }
+        ensures unshared { (past : List Timed) → IsKeptOf self.now past
+            → result ≡ unshared_at self.now.minute past }
+        ensures whole { (past : List Timed) → IsKeptOf self.now past → (n : ℕ)
+            → AreOwnedBelow n (events_of past) →
+            over_accounts n (λ account. reward_at account self.now.minute past) + result
+            ≤ issued self.now.minute }
     {
         let sharing = Sharing::of(&self.words, self.due);
         self.unshared + unshared_by(sharing, self.due)

@@ -53,8 +53,8 @@ impl Row {
     }
 }
 
-/// The rows of all accounts that have room. Offsets that leave the pool at its place cost an account the same each: they
-/// are only counted, and a row has them in its weight once it changes.
+/// The rows of all accounts that have room. Offsets that leave the pool at its place cost an
+/// account the same each: they are only counted, and a row has them in its weight once it changes.
 #[derive(Drop)]
 pub(crate) struct Rows {
     rows: Vec<Row>,
@@ -119,9 +119,10 @@ impl Rows {
         }
     }
 
-    /// What is due is dealt with, and then an event happens; the words are those before it, and those after it. All rows
-    /// change where anything is shared, where an offset moves the pool's place, and where the count is full. Else an own
-    /// operation changes the row of its account, and an offset none.
+    /// What is due is dealt with, and then an event happens; the words are those before it, and
+    /// those after it. All rows change where anything is shared, where an offset moves the pool's
+    /// place, and where the count is full. Else an own operation changes the row of its account,
+    /// and an offset none.
     pub(crate) fn event(
         &mut self,
         words: &PoolWords,
@@ -179,8 +180,8 @@ impl Rows {
     }
 }
 
-/// Each row becomes its account after the event: first the counted offsets, then what is due, then the event. The words
-/// are those before it.
+/// Each row becomes its account after the event: first the counted offsets, then what is due, then
+/// the event. The words are those before it.
 fn change_all(
     rows: &mut [Row],
     offsets: u64,
@@ -188,7 +189,8 @@ fn change_all(
     sharing: Option<Sharing>,
     event: &PoolEvent,
 )
-    requires { AllByRecursion (CanGoOn words.now sharing) (map (now_of words.now offsets) rows.old) }
+    requires { AllByRecursion (CanGoOn words.now sharing)
+        (map (now_of words.now offsets) rows.old) }
     ensures { rows.new ≡ map (changed_by words.now sharing event.now offsets 0) rows.old }
 {
     for row in rows.iter_mut() {
@@ -200,8 +202,8 @@ fn change_all(
     }
 }
 
-/// One row becomes its account after the event: first the counted offsets, then the event. The words are those before
-/// it.
+/// One row becomes its account after the event: first the counted offsets, then the event. The
+/// words are those before it.
 fn change(rows: &mut [Row], place: usize, offsets: u64, words: &PoolWords, event: &PoolEvent)
     requires place { place < length rows.old }
     requires can { CanGoOn words.now None (now_of words.now offsets (row_at rows.old place)) }

@@ -18,7 +18,8 @@ pub struct Sharing {
 }
 
 impl Sharing {
-    /// Units that are due, where they are shared: where there is any, and the pool has at least [`SHARED_LEAST`].
+    /// Units that are due, where they are shared: where there is any, and the pool has at least
+    /// [`SHARED_LEAST`].
     pub(crate) fn of(words: &PoolWords, units: u64) -> Option<Sharing>
         requires units { units ≤ UNITS_MOST }
         requires product { words.now.p ≤ P_OPENING }

@@ -21,9 +21,11 @@ abbrev pub no_sum : FinishedSum
 no_sum = record { epoch = 0; scale = 0; sum = 0 }
 
 pub place_order_total : IsTotalOrder place_order
-place_order_total = then_total (on_total (λ (p : Place). p.0) nat_cmp_total) (on_total (λ (p : Place). p.1) nat_cmp_total)
+place_order_total = then_total (on_total (λ (p : Place). p.0) nat_cmp_total)
+    (on_total (λ (p : Place). p.1) nat_cmp_total)
 
-by_tests : (p q r s : Bool) → (p || (q && r)) ≡ is_lt (ordering_then (cond p Less (cond q Equal Greater)) (cond r Less (cond s Equal Greater)))
+by_tests : (p q r s : Bool)
+    → (p || (q && r)) ≡ is_lt (ordering_then (cond p Less (cond q Equal Greater)) (cond r Less (cond s Equal Greater)))
 by_tests true q r s = refl
 by_tests false true true s = refl
 by_tests false true false true = refl

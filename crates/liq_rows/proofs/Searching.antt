@@ -20,30 +20,39 @@ module _ {K X V : Type 0} {R : K → K → Ordering} (o : IsTotalOrder R) (key :
   -- ---- each row beside the next, and beside all later ones
 
   -- what comes before a key comes before all that the key does
-  after : (a b : X) → R (key a) (key b) ≡ Less → (rows : List X) → AllByRecursion (λ y. R (key b) y ≡ Less) (keys_of (map entry rows)) → AllByRecursion (λ y. R (key a) y ≡ Less) (keys_of (map entry rows))
+  after : (a b : X) → R (key a) (key b) ≡ Less → (rows : List X)
+      → AllByRecursion (λ y. R (key b) y ≡ Less) (keys_of (map entry rows))
+      → AllByRecursion (λ y. R (key a) y ≡ Less) (keys_of (map entry rows))
   after a b first [] h = tt
   after a b first (y ∷ ys) h = (o.trans (key a) (key b) (key y) first h.0, after a b first ys h.1)
 
-  pub ascend : (d : X) (rows : List X) → ((k j : ℕ) → j ≡ k + 1 → j < length rows → R (key (get_or rows k d)) (key (get_or rows j d)) ≡ Less) → Ascend rows
+  pub ascend : (d : X) (rows : List X) → ((k j : ℕ) → j ≡ k + 1 → j < length rows
+      → R (key (get_or rows k d)) (key (get_or rows j d)) ≡ Less) → Ascend rows
   unfolding IsStrictlySortedBy
   ascend d [] next = tt
   ascend d (a ∷ []) next = (tt, tt)
   ascend d (a ∷ b ∷ rows) next =
       let first : R (key a) (key b) ≡ Less = next 0 1 refl (omega arith) in
-      let later = ascend d (b ∷ rows) (λ k j same less. next (suc k) (suc j) (omega (arith, same)) (omega (arith, less))) in
+      let later = ascend d (b ∷ rows) (λ k j same less. next (suc k) (suc j) (omega (arith, same)) (omega (
+        arith,
+        less,
+      ))) in
       ((first, after a b first rows later.0), later)
 
-  all_at : (P : K → Type 0) (rows : List X) (k : ℕ) (d : X) → AllByRecursion P (keys_of (map entry rows)) → k < length rows → P (key (get_or rows k d))
+  all_at : (P : K → Type 0) (rows : List X) (k : ℕ) (d : X) → AllByRecursion P (keys_of (map entry rows))
+      → k < length rows → P (key (get_or rows k d))
   all_at P [] k d h less = absurd (omega (arith, less))
   all_at P (e ∷ es) zero d h less = h.0
   all_at P (e ∷ es) (suc k) d h less = all_at P es k d h.1 (omega (arith, less))
 
-  pub ascending_at : (rows : List X) (j k : ℕ) (d : X) → Ascend rows → j < k → k < length rows → R (key (get_or rows j d)) (key (get_or rows k d)) ≡ Less
+  pub ascending_at : (rows : List X) (j k : ℕ) (d : X) → Ascend rows → j < k → k < length rows
+      → R (key (get_or rows j d)) (key (get_or rows k d)) ≡ Less
   unfolding IsStrictlySortedBy
   ascending_at [] j k d h less short = absurd (omega (arith, short))
   ascending_at (e ∷ es) j zero d h less short = absurd (omega (arith, less))
   ascending_at (e ∷ es) zero (suc k) d h less short = all_at (λ q. R (key e) q ≡ Less) es k d h.0 (omega (arith, short))
-  ascending_at (e ∷ es) (suc j) (suc k) d h less short = ascending_at es j k d h.1 (omega (arith, less)) (omega (arith, short))
+  ascending_at (e ∷ es) (suc j) (suc k) d h less short = ascending_at es j k d h.1 (omega (arith, less))
+      (omega (arith, short))
 
   -- ---- a test of keys that passes the ones tied with a key
 
@@ -51,18 +60,24 @@ module _ {K X V : Type 0} {R : K → K → Ordering} (o : IsTotalOrder R) (key :
     turned : (q : K) → test q ≡ is_eq (ordering_reverse (R q k))
     turned q = same q ∙ ap is_eq (o.antisymm k q)
 
-    pub found : (rows : List X) (at : ℕ) (d : X) → Ascend rows → at < length rows → R (key (get_or rows at d)) k ≡ Equal → lookup test (map entry rows) ≡ Some (value (get_or rows at d))
+    pub found : (rows : List X) (at : ℕ) (d : X) → Ascend rows → at < length rows → R (key (get_or rows at d)) k ≡ Equal
+        → lookup test (map entry rows) ≡ Some (value (get_or rows at d))
     unfolding IsStrictlySortedBy
     found [] at d h less tied = absurd (omega (arith, less))
     found (e ∷ es) zero d h less tied =
-        ap (λ b. cond b (Some (value e)) (lookup test (map entry es))) (turned (key e) ∙ ap (λ r. is_eq (ordering_reverse r)) tied)
+        ap (λ b. cond b (Some (value e)) (lookup test (map entry es))) (turned (key e)
+        ∙ ap (λ r. is_eq (ordering_reverse r)) tied)
     found (e ∷ es) (suc at) d h less tied =
-        let before : R (key e) (key (get_or es at d)) ≡ Less = all_at (λ q. R (key e) q ≡ Less) es at d h.0 (omega (arith, less)) in
+        let before : R (key e) (key (get_or es at d)) ≡ Less = all_at (λ q. R (key e) q ≡ Less) es at d h.0
+        (omega (arith, less)) in
         let away : test (key e) ≡ false =
-        same (key e) ∙ ap is_eq (sym (o.congr (key (get_or es at d)) k (key e) tied) ∙ o.antisymm (key (get_or es at d)) (key e)) ∙ ap (λ r. is_eq (ordering_reverse r)) before in
-        ap (λ b. cond b (Some (value e)) (lookup test (map entry es))) away ∙ found es at d h.1 (omega (arith, less)) tied
+        same (key e) ∙ ap is_eq (sym (o.congr (key (get_or es at d)) k (key e) tied)
+        ∙ o.antisymm (key (get_or es at d)) (key e)) ∙ ap (λ r. is_eq (ordering_reverse r)) before in
+        ap (λ b. cond b (Some (value e)) (lookup test (map entry es))) away
+        ∙ found es at d h.1 (omega (arith, less)) tied
 
-    none : (rows : List X) → ((j : ℕ) (d : X) → j < length rows → is_eq (ordering_reverse (R (key (get_or rows j d)) k)) ≡ false) → lookup test (map entry rows) ≡ None
+    none : (rows : List X) → ((j : ℕ) (d : X) → j < length rows → is_eq (ordering_reverse (R (key (get_or rows j d)) k))
+        ≡ false) → lookup test (map entry rows) ≡ None
     none [] away = refl
     none (e ∷ es) away =
         ap (λ b. cond b (Some (value e)) (lookup test (map entry es))) (turned (key e) ∙ away 0 e (omega arith))
@@ -76,7 +91,8 @@ module _ {K X V : Type 0} {R : K → K → Ordering} (o : IsTotalOrder R) (key :
 
     pub not_found : (rows : List X) (at : ℕ) → Ascend rows → IsParted rows at → lookup test (map entry rows) ≡ None
     not_found rows at h parted =
-        let parts = parted (searchable_from_sorted o key rows k (λ j d low short. ap is_lt (o.antisymm _ _ ∙ ap ordering_reverse (ascending_at rows j (j + 1) d h (omega arith) short)))) in
+        let parts = parted (searchable_from_sorted o key rows k (λ j d low short. ap is_lt (o.antisymm _ _
+        ∙ ap ordering_reverse (ascending_at rows j (j + 1) d h (omega arith) short)))) in
         none rows (λ j d less. elim (cases_lt j at) [
           | inl early ↦ ap (λ r. is_eq (ordering_reverse r)) (parts.0 j d (omega arith) early)
           | inr late ↦ ap (λ r. is_eq (ordering_reverse r)) (parts.1 j d late less)

@@ -11,4 +11,5 @@ abbrev pub is_sound_sum : Place → Place × ℕ → Bool
 is_sound_sum now row = nat_le row.1 (OFFSET_MOST * P_OPENING) && is_before row.0 now
 
 abbrev pub is_deposit_of : Image → Deposit → Bool
-is_deposit_of i d = nat_le d.amount LIM && is_sound_deposit (i.epoch, i.scale) (start_sum i (d.epoch, d.scale)) d
+is_deposit_of i d = nat_le d.amount LIM && is_sound_deposit (i.epoch, i.scale)
+    (start_sum i (d.epoch, d.scale)) d

@@ -1,4 +1,5 @@
-//! Rules 3, 4 and 5: each gwei and each micro-LUSD has one home. Sums are exact, and 2^128 - 1 where they would be more.
+//! Rules 3, 4 and 5: each gwei and each micro-LUSD has one home. Sums are exact, and 2^128 - 1
+//! where they would be more.
 
 ghost use Rattle.std.specs.Prelude.{◌≡◌, map, sum, sum_by};
 ghost use Rattle.std.specs.Map.{values_of};
@@ -24,7 +25,8 @@ pub fn has_coll_at_home(image: &Image) -> bool
     u128::from(image.brought) == at_home
 }
 
-/// Rule 4: whether all debt is within the limit and is the LUSD of the wallets and pools, with a reserve for each trove.
+/// Rule 4: whether all debt is within the limit and is the LUSD of the wallets and pools, with a
+/// reserve for each trove.
 pub fn has_lusd_at_home(image: &Image) -> bool
     ensures { result ≡ has_lusd_at_home image.now }
 {
@@ -49,8 +51,10 @@ pub fn has_surplus_at_home(image: &Image) -> bool
 
 /// The wallets' collateral and their LUSD.
 fn sums_of_wallets(rows: &[WalletRow]) -> (u128, u128)
-    ensures coll { result.0 ≡ capped (sum_by (λ (w : Wallet). w.coll) (values_of (map wallet_row rows.now))) }
-    ensures lusd { result.1 ≡ capped (sum_by (λ (w : Wallet). w.lusd) (values_of (map wallet_row rows.now))) }
+    ensures coll { result.0
+        ≡ capped (sum_by (λ (w : Wallet). w.coll) (values_of (map wallet_row rows.now))) }
+    ensures lusd { result.1
+        ≡ capped (sum_by (λ (w : Wallet). w.lusd) (values_of (map wallet_row rows.now))) }
 {
     let mut coll = 0_u128;
     let mut lusd = 0_u128;

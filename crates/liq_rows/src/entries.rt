@@ -1,4 +1,5 @@
-//! What the tables of an image have, each row as a key and the rest. Without memory nothing is made.
+//! What the tables of an image have, each row as a key and the rest. Without memory nothing is
+//! made.
 
 ghost use Rattle.std.specs.Prelude.{◌≡◌, map, IfOk};
 ghost use Rattle.liq_types.specs.ImageRows.{wallet_row, trove_row, surplus_row, finished_row, deposit_row, client_row};

@@ -1,5 +1,6 @@
-//! The rows of an image's tables: the rules of a sound image that are over rows, tested, and the rows as entries. The tests take
-//! no memory, and any image may be asked: a sum that doesn't fit 128 bits breaks the rule that it is part of.
+//! The rows of an image's tables: the rules of a sound image that are over rows, tested, and the
+//! rows as entries. The tests take no memory, and any image may be asked: a sum that doesn't fit
+//! 128 bits breaks the rule that it is part of.
 #![tactic(auto)]
 
 mod accounts;

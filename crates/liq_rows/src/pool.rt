@@ -13,8 +13,9 @@ use crate::finished::{ascend, is_before, sum_at};
 use liq_types::amounts::{LIM, OFFSET_MOST, P_LEAST, P_OPENING, PLACES_A_RECORD, RECORDS_MOST};
 use liq_types::{DepositRow, FinishedRows, FinishedSum, Image};
 
-/// Rule 9: whether the product and the sum beside it, scale and epoch, and each finished sum lie within their bounds, with the
-/// places of finished sums before the current one. How far scale and epoch may be is by the records beside the image.
+/// Rule 9: whether the product and the sum beside it, scale and epoch, and each finished sum lie
+/// within their bounds, with the places of finished sums before the current one. How far scale and
+/// epoch may be is by the records beside the image.
 pub fn has_sound_words(image: &Image, records: u64) -> bool
     ensures { result ≡ has_sound_words image.now records }
 {
@@ -27,8 +28,8 @@ pub fn has_sound_words(image: &Image, records: u64) -> bool
         && are_sound_sums(&image.finished, now)
 }
 
-/// Rule 10: whether each deposit has an amount and a product within their bounds, a place that is not after the current one, and
-/// a mark of at most the sum at its place.
+/// Rule 10: whether each deposit has an amount and a product within their bounds, a place that is
+/// not after the current one, and a mark of at most the sum at its place.
 pub fn has_sound_deposits(image: &Image) -> bool
     ensures { result ≡ has_sound_deposits image.now }
 {

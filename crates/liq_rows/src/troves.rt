@@ -1,4 +1,5 @@
-//! Rules 6 and 7: the troves, and what is the sum of theirs. Sums are exact, and 2^128 - 1 where they would be more.
+//! Rules 6 and 7: the troves, and what is the sum of theirs. Sums are exact, and 2^128 - 1 where
+//! they would be more.
 
 ghost use Rattle.std.specs.Prelude.{◌≡◌, map, sum_by};
 ghost use Rattle.std.specs.List.{list_all};
@@ -11,8 +12,8 @@ ghost use Rattle.liq_rows.specs.Capped.{capped};
 use liq_types::amounts::{MIN_NET, RESERVE, SUM_MOST};
 use liq_types::{Image, TroveRow, TroveRows};
 
-/// Rule 6: whether each trove has a stake of at most its collateral, its least debt, and marks of at most the sums, which are
-/// within their bound.
+/// Rule 6: whether each trove has a stake of at most its collateral, its least debt, and marks of
+/// at most the sums, which are within their bound.
 pub fn has_sound_troves(image: &Image) -> bool
     ensures { result ≡ has_sound_troves image.now }
 {
@@ -21,8 +22,8 @@ pub fn has_sound_troves(image: &Image) -> bool
         && image.sum_debt <= SUM_MOST
 }
 
-/// Rule 7: whether the stakes and the active pool are the sums over the troves, and the last snapshot has both of its words or
-/// none.
+/// Rule 7: whether the stakes and the active pool are the sums over the troves, and the last
+/// snapshot has both of its words or none.
 pub fn has_troves_added_up(image: &Image) -> bool
     ensures { result ≡ has_troves_added_up image.now }
 {
@@ -61,9 +62,12 @@ struct TroveSums {
 }
 
 fn sums_of_troves(rows: &[TroveRow]) -> TroveSums
-    ensures stakes { result.stakes ≡ capped (sum_by (λ (t : Trove). t.stake) (values_of (map trove_row rows.now))) }
-    ensures coll { result.coll ≡ capped (sum_by (λ (t : Trove). t.coll) (values_of (map trove_row rows.now))) }
-    ensures debt { result.debt ≡ capped (sum_by (λ (t : Trove). t.debt) (values_of (map trove_row rows.now))) }
+    ensures stakes { result.stakes
+        ≡ capped (sum_by (λ (t : Trove). t.stake) (values_of (map trove_row rows.now))) }
+    ensures coll { result.coll
+        ≡ capped (sum_by (λ (t : Trove). t.coll) (values_of (map trove_row rows.now))) }
+    ensures debt { result.debt
+        ≡ capped (sum_by (λ (t : Trove). t.debt) (values_of (map trove_row rows.now))) }
 {
     let mut stakes = 0_u128;
     let mut coll = 0_u128;

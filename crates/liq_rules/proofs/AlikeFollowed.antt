@@ -44,7 +44,9 @@ use Rattle.liq_rules.proofs.AlikeStep.{effect_alike}
 own_event : ℕ → ℕ → ℕ → ℕ → ℕ → List PoolEvent
 own_event account put_in out gain amount = Own account put_in out gain amount ∷ []
 
-own_event_alike : {s t : State} → Alike s t → (account put_in out : ℕ) → own_event account put_in out (gain_of s account) (amount_after s account put_in out) ≡ own_event account put_in out (gain_of t account) (amount_after t account put_in out)
+own_event_alike : {s t : State} → Alike s t → (account put_in out : ℕ)
+    → own_event account put_in out (gain_of s account) (amount_after s account put_in out)
+    ≡ own_event account put_in out (gain_of t account) (amount_after t account put_in out)
 own_event_alike {s} {t} h account put_in out =
     ap (λ n. own_event account put_in out n (amount_after s account put_in out)) (gain_alike h account)
     ∙ ap (own_event account put_in out (gain_of t account)) (amount_alike h account put_in out)
@@ -53,14 +55,19 @@ victim_events_by : One → ℕ → ℕ → List PoolEvent
 victim_events_by one total p =
     if one.offset_debt == 0
     then []
-    else Offset one.offset_debt one.offset_coll total (rise_of p (record { debt = one.offset_debt; coll = one.offset_coll; total = total })) ∷ []
+    else Offset one.offset_debt one.offset_coll total (rise_of p (record {
+      debt = one.offset_debt;
+      coll = one.offset_coll;
+      total = total;
+    })) ∷ []
 
 victim_events_alike : {s t : State} → Alike s t → (one : One) → victim_events s one ≡ victim_events t one
 unfolding victim_events_by
 victim_events_alike {s} {t} h one =
     ap (λ (i : Image). victim_events_by one i.total i.p) h.image
 
-offset_events_alike : (vs : List Victim) {s t : State} → Alike s t → Serves (pool_total s) vs → offset_events s vs ≡ offset_events t vs
+offset_events_alike : (vs : List Victim) {s t : State} → Alike s t → Serves (pool_total s) vs
+    → offset_events s vs ≡ offset_events t vs
 offset_events_alike [] h served = refl
 offset_events_alike (v ∷ vs) {s} {t} h served =
     ap (λ (es : List PoolEvent). es ++ offset_events (struck s v) vs) (victim_events_alike h v.one)
@@ -70,7 +77,8 @@ offset_events_alike (v ∷ vs) {s} {t} h served =
 withdraw_event : State → ℕ → ℕ → List PoolEvent
 withdraw_event s account out = Own account 0 out (gain_of s account) (amount_after s account 0 out) ∷ []
 
-withdraw_event_alike : {s t : State} → Alike s t → (account out : ℕ) → withdraw_event s account out ≡ withdraw_event t account out
+withdraw_event_alike : {s t : State} → Alike s t → (account out : ℕ) → withdraw_event s account out
+    ≡ withdraw_event t account out
 unfolding withdraw_event own_event
 withdraw_event_alike h account out = own_event_alike h account 0 out
 
@@ -78,7 +86,8 @@ pub call_events_alike : {s t : State} → Alike s t → (call : Call) → call_e
 unfolding own_event withdraw_event
 call_events_alike h (Provide account lusd) = own_event_alike h account lusd 0
 call_events_alike {s} {t} h (Withdraw account lusd) =
-    withdraw_event_alike h account (min lusd (balance_of s account)) ∙ ap (λ n. withdraw_event t account (min lusd n)) (balance_alike h account)
+    withdraw_event_alike h account (min lusd (balance_of s account)) ∙ ap (λ n. withdraw_event t account (min lusd n))
+    (balance_alike h account)
 call_events_alike h (GainToTrove account hint) = own_event_alike h account 0 0
 call_events_alike {s} {t} h (Liquidate liquidator account) =
     offset_events_alike (listed (victim_by account (one s account))) h (single_serves s account (one s account) refl)
@@ -99,21 +108,25 @@ abbrev pub told : ℕ → Option Trove → ListChange
 told account None = Gone account
 told account (Some t) = Put (pos (floor_of t.debt ONE t.stake) -ℤ pos t.mark_debt) account
 
-standing-image : (s : State) (account : ℕ) (o : Option TroveEntry) → standing s account o ≡ told account (option_map (trove_row s) o)
+standing-image : (s : State) (account : ℕ) (o : Option TroveEntry)
+    → standing s account o ≡ told account (option_map (trove_row s) o)
 standing-image s account None = refl
 standing-image s account (Some t) = refl
 
 pub stands-image : (s : State) (account : ℕ) → stands s account ≡ told account (at (image s).troves account)
-stands-image s account = standing-image s account (at s.troves account) ∙ ap (told account) (sym (at-map (trove_row s) s.troves account))
+stands-image s account = standing-image s account (at s.troves account)
+    ∙ ap (told account) (sym (at-map (trove_row s) s.troves account))
 
 pub stands_alike : {s t : State} → Alike s t → (account : ℕ) → stands s account ≡ stands t account
 stands_alike {s} {t} h account =
-    stands-image s account ∙ ap (λ (i : Image). told account (at i.troves account)) h.image ∙ sym (stands-image t account)
+    stands-image s account ∙ ap (λ (i : Image). told account (at i.troves account)) h.image
+    ∙ sym (stands-image t account)
 
 pub words_in_alike : {s t : State} → Alike s t → words_in s ≡ words_in t
 words_in_alike h = ap (λ (i : Image). Words i.snap_stakes i.snap_coll i.sum_debt) h.image
 
-victim_changes_alike : (vs : List Victim) {s t : State} → Alike s t → Serves (pool_total s) vs → victim_changes s vs ≡ victim_changes t vs
+victim_changes_alike : (vs : List Victim) {s t : State} → Alike s t → Serves (pool_total s) vs
+    → victim_changes s vs ≡ victim_changes t vs
 victim_changes_alike [] h served = refl
 victim_changes_alike (v ∷ vs) {s} {t} h served =
     let next = struck_alike h v served.0 in
@@ -133,7 +146,8 @@ unfolding stands_in
 call_changes_alike h (Open account coll borrow bound hint) =
     ap (λ (e : ListChange). e ∷ []) (stands_alike (effect_alike h (Open account coll borrow bound hint)) account)
 call_changes_alike h (Adjust account coll_in coll_out borrow repay bound hint) =
-    ap (λ (e : ListChange). e ∷ []) (stands_alike (effect_alike h (Adjust account coll_in coll_out borrow repay bound hint)) account)
+    ap (λ (e : ListChange). e ∷ []) (stands_alike (effect_alike h (Adjust account coll_in coll_out borrow repay bound
+    hint)) account)
 call_changes_alike h (GainToTrove account hint) =
     ap (λ (e : ListChange). e ∷ []) (stands_alike (effect_alike h (GainToTrove account hint)) account)
 call_changes_alike {s} {t} h (Liquidate liquidator account) =
@@ -142,6 +156,8 @@ call_changes_alike {s} {t} h (Liquidate liquidator account) =
 call_changes_alike {s} {t} h (LiquidateLowest liquidator count) =
     victim_changes_alike (lowest s count) h (lowest_serves count s) ∙ ap (victim_changes t) (lowest_alike count h)
 call_changes_alike {s} {t} h (Redeem account lusd bound hint) =
-    ap (λ (f : Cut → ListChange). map f (redeeming_terms (market_of s) (visited s) lusd).cuts) (stands_in_alike (effect_alike h (Redeem account lusd bound hint)))
-    ∙ ap (λ (terms : RedeemTerms). map (stands_in (effect t (Redeem account lusd bound hint))) terms.cuts) (terms_alike h lusd)
+    ap (λ (f : Cut → ListChange). map f (redeeming_terms (market_of s) (visited s) lusd).cuts)
+    (stands_in_alike (effect_alike h (Redeem account lusd bound hint)))
+    ∙ ap (λ (terms : RedeemTerms). map (stands_in (effect t (Redeem account lusd bound hint))) terms.cuts)
+    (terms_alike h lusd)
 call_changes_alike h _ = refl

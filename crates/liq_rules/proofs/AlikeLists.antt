@@ -27,5 +27,9 @@ plans_list_alike h c planned =
     record {
       client = planned.client;
       turn = planned.turn ∙ sym (ap (λ (k : Client). k.last + 1) (client_alike h c.client));
-      call = (planned.call.0, ap (λ (l : List Rule). first_refusal (map in_range (accounts c.call) ++ l)) (before_list_alike h c.call) ∙ planned.call.1);
+      call = (
+        planned.call.0,
+        ap (λ (l : List Rule). first_refusal (map in_range (accounts c.call) ++ l))
+            (before_list_alike h c.call) ∙ planned.call.1,
+      );
     }

@@ -35,11 +35,21 @@ module _ {s t : State} (h : Alike s t) where
 
   pub count_alike : trove_count s ≡ trove_count t
   count_alike =
-      sym (map-length (trove_row s) s.troves) ∙ ap (λ (i : Image). length i.troves) h.image ∙ map-length (trove_row t) t.troves
+      sym (map-length (trove_row s) s.troves) ∙ ap (λ (i : Image). length i.troves) h.image
+      ∙ map-length (trove_row t) t.troves
 
   pub market_alike : market_of s ≡ market_of t
   market_alike =
-      ap (λ (i : Image). record { price = i.price; minute = i.minute; base = i.base; fee_minute = i.fee_minute; limit = i.limit; total_coll = i.active_coll + i.default_coll; total_debt = i.active_debt + i.default_debt; troves = trove_count s }) h.image
+      ap (λ (i : Image). record {
+        price = i.price;
+        minute = i.minute;
+        base = i.base;
+        fee_minute = i.fee_minute;
+        limit = i.limit;
+        total_coll = i.active_coll + i.default_coll;
+        total_debt = i.active_debt + i.default_debt;
+        troves = trove_count s;
+      }) h.image
       ∙ ap (λ n. record (market_of t) { troves = n }) count_alike
 
   pub sums_alike : sums_now s ≡ sums_now t
@@ -53,7 +63,13 @@ module _ {s t : State} (h : Alike s t) where
 -- what an image keeps beside its troves
 abbrev pub sums_by : Image → Sums
 sums_by i =
-    record { coll = i.sum_coll; debt = i.sum_debt; stakes = i.stakes; snap_stakes = i.snap_stakes; snap_coll = i.snap_coll }
+    record {
+      coll = i.sum_coll;
+      debt = i.sum_debt;
+      stakes = i.stakes;
+      snap_stakes = i.snap_stakes;
+      snap_coll = i.snap_coll;
+    }
 
 pub entire_alike : {s t : State} → Alike s t → (account : ℕ) → entire_of s account ≡ entire_of t account
 entire_alike h account = ap (λ (i : Image). entire_in (sums_by i) i.troves account) h.image
@@ -66,7 +82,8 @@ pub none-map : {X Y : Type 0} (f : X → Y) (o : Option X) → is_none (option_m
 none-map f None = refl
 none-map f (Some x) = refl
 
-pub exists_alike : {s t : State} → Alike s t → (account : ℕ) → is_some (at s.troves account) ≡ is_some (at t.troves account)
+pub exists_alike : {s t : State} → Alike s t → (account : ℕ) → is_some (at s.troves account)
+    ≡ is_some (at t.troves account)
 exists_alike {s} {t} h account =
     sym (some-map (trove_row s) (at s.troves account)) ∙ ap is_some (sym (at-map (trove_row s) s.troves account))
     ∙ ap (λ (i : Image). is_some (at i.troves account)) h.image
@@ -84,17 +101,22 @@ last_alike h = ap last_account (order_alike h)
 
 pub balance_alike : {s t : State} → Alike s t → (account : ℕ) → balance_of s account ≡ balance_of t account
 balance_alike {s} {t} h account =
-    balance-image s account ∙ ap (λ (i : Image). balance_row i (at i.deposits account)) h.image ∙ sym (balance-image t account)
+    balance-image s account ∙ ap (λ (i : Image). balance_row i (at i.deposits account)) h.image
+    ∙ sym (balance-image t account)
 
 pub gain_alike : {s t : State} → Alike s t → (account : ℕ) → gain_of s account ≡ gain_of t account
 gain_alike {s} {t} h account =
-    gain-image s h.left account ∙ ap (λ (i : Image). gain_row i (at i.deposits account)) h.image ∙ sym (gain-image t h.right account)
+    gain-image s h.left account ∙ ap (λ (i : Image). gain_row i (at i.deposits account)) h.image
+    ∙ sym (gain-image t h.right account)
 
-pub amount_alike : {s t : State} → Alike s t → (account put_in out : ℕ) → amount_after s account put_in out ≡ amount_after t account put_in out
+pub amount_alike : {s t : State} → Alike s t → (account put_in out : ℕ) → amount_after s account put_in out
+    ≡ amount_after t account put_in out
 amount_alike h account put_in out = ap (λ n. n + put_in - out) (balance_alike h account)
 
-pub no_deposit_alike : {s t : State} → Alike s t → (account : ℕ) → is_none (at s.deposits account) ≡ is_none (at t.deposits account)
+pub no_deposit_alike : {s t : State} → Alike s t → (account : ℕ) → is_none (at s.deposits account)
+    ≡ is_none (at t.deposits account)
 no_deposit_alike {s} {t} h account =
-    sym (none-map (deposit_row s) (at s.deposits account)) ∙ ap is_none (sym (at-map (deposit_row s) s.deposits account))
+    sym (none-map (deposit_row s) (at s.deposits account))
+    ∙ ap is_none (sym (at-map (deposit_row s) s.deposits account))
     ∙ ap (λ (i : Image). is_none (at i.deposits account)) h.image
     ∙ ap is_none (at-map (deposit_row t) t.deposits account) ∙ none-map (deposit_row t) (at t.deposits account)

@@ -39,7 +39,8 @@ not_repeated : (b : Bool) (kept : Done) (r : Ruling) → cond b (Repeated kept) 
 not_repeated true kept r h = cc
 not_repeated false kept r h = h
 
-pub none_first : (rule : Rule) (more : List Rule) → first_refusal (rule ∷ more) ≡ None → (rule.0 ≡ false) × (first_refusal more ≡ None)
+pub none_first : (rule : Rule) (more : List Rule) → first_refusal (rule ∷ more) ≡ None → (rule.0 ≡ false)
+    × (first_refusal more ≡ None)
 none_first rule more = by rule.0 where
   by : (b : Bool) → cond b (Some rule.1) (first_refusal more) ≡ None → (b ≡ false) × (first_refusal more ≡ None)
   by true h = cc
@@ -59,7 +60,8 @@ none_before (rule ∷ first) more h =
 passes : (s : State) (c : Command) → ruling s c ≡ Allowed → first_refusal (tests s c) ≡ None
 passes s c h =
     let later = (unless_allowed (first_refusal (in_range c.client ∷ [])) _ h).1 in
-    (unless_allowed (first_refusal (tests s c)) Allowed (not_repeated (is_repeated s c) (client_of s c.client).kept _ later)).0
+    (unless_allowed (first_refusal (tests s c)) Allowed (not_repeated (is_repeated s c) (client_of s c.client).kept _
+    later)).0
 
 -- what comes behind the test of its number
 abbrev later_tests : State → Command → List Rule
@@ -79,23 +81,34 @@ allowed_rules s c h =
 -- a command that is no rotation has room in the journal
 pub allowed_few : (s : State) (c : Command) → ruling s c ≡ Allowed → rotates c.call ≡ false → s.records < RECORDS_MOST
 allowed_few s c h stays =
-    let last = none_after (map in_range (accounts c.call) ++ rules s c.call) (room_rules s c) (none_first (in_turn s c) (later_tests s c) (passes s c h)).1 in
-    let room = subst (λ b. first_refusal (cond b (where_above (s.generation + 1) GENERATIONS_MOST AmountLimit ∷ where_above (checkpoint_length (image (after s c))) CHECKPOINT_BYTES_MOST AmountLimit ∷ []) ((nat_le RECORDS_MOST s.records, JournalFull RECORDS_MOST) ∷ [])) ≡ None) stays last in
-    let full : nat_le RECORDS_MOST s.records ≡ false = (none_first (nat_le RECORDS_MOST s.records, JournalFull RECORDS_MOST) [] room).0 in
+    let last = none_after (map in_range (accounts c.call) ++ rules s c.call) (room_rules s c) (none_first (in_turn s c)
+    (later_tests s c) (passes s c h)).1 in
+    let room = subst (λ b. first_refusal (cond b (where_above (s.generation + 1) GENERATIONS_MOST AmountLimit
+    ∷ where_above (checkpoint_length (image (after s c))) CHECKPOINT_BYTES_MOST AmountLimit ∷ [])
+    ((nat_le RECORDS_MOST s.records, JournalFull RECORDS_MOST) ∷ [])) ≡ None) stays last in
+    let full : nat_le RECORDS_MOST s.records ≡ false =
+    (none_first (nat_le RECORDS_MOST s.records, JournalFull RECORDS_MOST) [] room).0 in
     grind (arith, nat_tests, full)
 
 pub second_false : (first second : Rule) → first_refusal (first ∷ second ∷ []) ≡ None → second.0 ≡ false
 second_false first second h = (none_first second [] (none_first first (second ∷ []) h).1).0
 
-pub fund_within : (s : State) (account coll : ℕ) → first_refusal (rules s (Fund account coll)) ≡ None → s.brought + coll ≤ s.limit
+pub fund_within : (s : State) (account coll : ℕ) → first_refusal (rules s (Fund account coll)) ≡ None
+    → s.brought + coll ≤ s.limit
 fund_within s account coll h =
-    let fits : nat_lt s.limit (s.brought + coll) ≡ false = second_false (coll == 0, AmountZero) (nat_lt s.limit (s.brought + coll), AmountLimit (s.brought + coll) s.limit) h in
+    let fits : nat_lt s.limit (s.brought + coll) ≡ false =
+    second_false (coll == 0, AmountZero) (nat_lt s.limit (s.brought + coll), AmountLimit (s.brought + coll) s.limit) h
+    in
     grind (arith, nat_tests, fits)
 
-pub take_enough : (s : State) (account coll : ℕ) → first_refusal (rules s (Take account coll)) ≡ None → coll ≤ (wallet_of s account).coll
+pub take_enough : (s : State) (account coll : ℕ) → first_refusal (rules s (Take account coll)) ≡ None
+    → coll ≤ (wallet_of s account).coll
 take_enough s account coll h =
     let have = (wallet_of s account).coll in
-    let enough : nat_lt have coll ≡ false = second_false (coll == 0, AmountZero) (nat_lt have coll, ShortCollateral coll have) h in
+    let enough : nat_lt have coll ≡ false = second_false (coll == 0, AmountZero) (
+      nat_lt have coll,
+      ShortCollateral coll have,
+    ) h in
     grind (arith, nat_tests, enough)
 
 pub lifted-records : (s : State) (account : ℕ) (o : Option TroveEntry) → (lifted_entry s account o).records ≡ s.records
@@ -105,7 +118,9 @@ lifted-records s account (Some t) = refl
 cut-records : (s : State) (cut : Cut) (o : Option (ℕ × ℕ)) → (cut_entire s cut o).records ≡ s.records
 cut-records s cut None = refl
 cut-records s cut (Some own) = by cut.full where
-  by : (b : Bool) → (cond b (closed_by s cut own) (set_trove s cut.account (own.0 - cut.draw) (own.1 - cut.lot))).records ≡ s.records
+  by : (b : Bool)
+      → (cond b (closed_by s cut own) (set_trove s cut.account (own.0 - cut.draw) (own.1 - cut.lot))).records
+      ≡ s.records
   by true = lifted-records s cut.account (at s.troves cut.account)
   by false = lifted-records s cut.account (at s.troves cut.account)
 
@@ -115,13 +130,16 @@ cuts-records (cut ∷ cuts) s = cuts-records cuts (cut_down s cut) ∙ cut-recor
 
 liquidated-records : (s : State) (liquidator : ℕ) (v : Victim) → (liquidated s liquidator v).records ≡ s.records
 liquidated-records s liquidator v = by (at s.troves v.account) (v.one.offset_debt == 0) where
-  by : (o : Option TroveEntry) (b : Bool) → (cond b (lifted_entry s v.account o) (offset (lifted_entry s v.account o) v.one.offset_debt v.one.offset_coll)).records ≡ s.records
+  by : (o : Option TroveEntry) (b : Bool)
+      → (cond b (lifted_entry s v.account o) (offset (lifted_entry s v.account o) v.one.offset_debt
+      v.one.offset_coll)).records ≡ s.records
   by o true = lifted-records s v.account o
   by o false = lifted-records s v.account o
 
 pub all-records : (vs : List Victim) (s : State) (liquidator : ℕ) → (all_liquidated s liquidator vs).records ≡ s.records
 all-records [] s liquidator = refl
-all-records (v ∷ vs) s liquidator = all-records vs (liquidated s liquidator v) liquidator ∙ liquidated-records s liquidator v
+all-records (v ∷ vs) s liquidator = all-records vs (liquidated s liquidator v) liquidator
+    ∙ liquidated-records s liquidator v
 
 -- the effect of a call leaves the count of records
 pub effect-records : (s : State) (call : Call) → (effect s call).records ≡ s.records
@@ -134,7 +152,8 @@ effect-records s (Open account coll borrow bound hint) = refl
 effect-records s (Adjust account coll_in coll_out borrow repay bound hint) =
     let change : Change = record { coll_in = coll_in; coll_out = coll_out; borrow = borrow; repay = repay } in
     let plan = adjusting_terms (market_of s) (or_nothing (entire_of s account)) change in
-    lifted-records (credited (charged (with_fee s plan) account coll_in repay) account coll_out borrow) account (at s.troves account)
+    lifted-records (credited (charged (with_fee s plan) account coll_in repay) account coll_out borrow) account
+    (at s.troves account)
 effect-records s (Close account) =
     let terms = closing_terms (or_nothing (entire_of s account)) in
     let settled = credited (charged s account 0 terms.0) account terms.1 0 in

@@ -14,4 +14,7 @@ finished_in s h = finished-before s.start s.offsets h.0
 
 pub begins_again : (s : State) → IsWellFormed s → IsSameState (record (started (image s)) { records = s.records }) s
 begins_again s h =
-    record { image = started_image (image s) (sym (map-sum (trove_row s) (λ (t : Trove). t.stake) s.troves)); records = refl }
+    record {
+      image = started_image (image s) (sym (map-sum (trove_row s) (λ (t : Trove). t.stake) s.troves));
+      records = refl;
+    }

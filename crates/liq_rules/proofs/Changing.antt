@@ -48,24 +48,28 @@ unchanged s _ h = cc
 some_change : (s : State) (v : Victim) (vs : List Victim) → victim_changes s (v ∷ vs) ≢ []
 some_change s v vs e = cc
 
-one_struck : (s : State) (account : ℕ) (r : Result One Refusal) → first_refusal (refusal_of r) ≡ None → victim_changes s (listed (victim_by account r)) ≢ []
+one_struck : (s : State) (account : ℕ) (r : Result One Refusal) → first_refusal (refusal_of r) ≡ None
+    → victim_changes s (listed (victim_by account r)) ≢ []
 one_struck s account (Ok done) h = some_change s (record { account = account; one = done }) []
 one_struck s account (Err refusal) h = cc
 
 order-length : (s : State) → length (trove_order s) ≡ trove_count s
 order-length s =
-    length_permutation (ranks (trove_rows s)) (trove_order s) (sorted_same (ranks (trove_rows s))) ∙ ranks-length s.troves where
+    length_permutation (ranks (trove_rows s)) (trove_order s) (sorted_same (ranks (trove_rows s)))
+    ∙ ranks-length s.troves where
       ranks-length : (table : Table TroveEntry) → length (ranks (map_rows (trove_row s) table)) ≡ length table
       ranks-length [] = refl
       ranks-length (e ∷ es) = ap suc (ranks-length es)
 
 last_some : (list : List Ranked) → last_account list ≡ None → length list ≡ 0
 last_some list h = by (reverse list) h (length-reverse list) where
-  by : (back : List Ranked) → first_of (map (λ (e : Ranked). e.1) back) ≡ None → length back ≡ length list → length list ≡ 0
+  by : (back : List Ranked) → first_of (map (λ (e : Ranked). e.1) back) ≡ None → length back ≡ length list
+      → length list ≡ 0
   by [] n e = sym e
   by (x ∷ xs) n e = cc
 
-lowest_some : (s : State) (more : ℕ) (next : Option Victim) → next ≢ None → victim_changes s (lowest_by more s next) ≢ []
+lowest_some : (s : State) (more : ℕ) (next : Option Victim) → next ≢ None
+    → victim_changes s (lowest_by more s next) ≢ []
 lowest_some s more None h = absurd (h refl)
 lowest_some s more (Some v) h = some_change s v (lowest (struck s v) more)
 
@@ -73,11 +77,13 @@ victim_some : (account : ℕ) (r : Result One Refusal) → first_refusal (refusa
 victim_some account (Ok done) h e = cc
 victim_some account (Err refusal) h e = cc
 
-next_some : (s : State) (last : Option ℕ) → last ≢ None → first_refusal (first_of_lowest s last) ≡ None → victim_at s last ≢ None
+next_some : (s : State) (last : Option ℕ) → last ≢ None → first_refusal (first_of_lowest s last) ≡ None
+    → victim_at s last ≢ None
 next_some s None some h = absurd (some refl)
 next_some s (Some account) some h = victim_some account (one s account) h
 
-lowest_struck : (s : State) (count : ℕ) → (count == 0) ≡ false → first_refusal (lowest_rules s) ≡ None → victim_changes s (lowest s count) ≢ []
+lowest_struck : (s : State) (count : ℕ) → (count == 0) ≡ false → first_refusal (lowest_rules s) ≡ None
+    → victim_changes s (lowest s count) ≢ []
 lowest_struck s zero n h = cc
 lowest_struck s (suc more) n h =
     let stays = none_first (last_trove_stays (market_of s)) (first_of_lowest s (last_trove s)) h in
@@ -91,20 +97,24 @@ lowest_struck s (suc more) n h =
         clash : 1 < n → ⊥
         clash k = omega (arith, k, b)
 
-some_cut : (next : State) (cuts : List Cut) → (sum_by (λ (cut : Cut). cut.lot) cuts == 0) ≡ false → map (λ (cut : Cut). stands next cut.account) cuts ≢ []
+some_cut : (next : State) (cuts : List Cut) → (sum_by (λ (cut : Cut). cut.lot) cuts == 0) ≡ false
+    → map (λ (cut : Cut). stands next cut.account) cuts ≢ []
 some_cut next [] h = cc
 some_cut next (cut ∷ cuts) h = λ e. cc
 
-pub changed : (s : State) (call : Call) → first_refusal (rules s call) ≡ None → changes_list call ≡ true → call_changes s call ≢ []
+pub changed : (s : State) (call : Call) → first_refusal (rules s call) ≡ None → changes_list call ≡ true
+    → call_changes s call ≢ []
 changed s (Open account coll borrow bound hint) h k = λ e. cc
 changed s (Adjust account coll_in coll_out borrow repay bound hint) h k = λ e. cc
 changed s (Close account) h k = λ e. cc
 changed s (GainToTrove account hint) h k = λ e. cc
 changed s (Liquidate liquidator account) h k = one_struck s account (one s account) h
 changed s (LiquidateLowest liquidator count) h k =
-    let first = none_first (count == 0, AmountZero) ((nat_lt LOWEST_MOST count, AmountLimit count LOWEST_MOST) ∷ lowest_rules s) h in
+    let first = none_first (count == 0, AmountZero) ((nat_lt LOWEST_MOST count, AmountLimit count LOWEST_MOST)
+    ∷ lowest_rules s) h in
     let second = none_first (nat_lt LOWEST_MOST count, AmountLimit count LOWEST_MOST) (lowest_rules s) first.1 in
     lowest_struck s count first.0 second.1
 changed s (Redeem account lusd bound hint) h k =
-    some_cut (effect s (Redeem account lusd bound hint)) (cuts_in s lusd) (all_false (rules s (Redeem account lusd bound hint)) h).1.1.1.1.1.0
+    some_cut (effect s (Redeem account lusd bound hint)) (cuts_in s lusd)
+    (all_false (rules s (Redeem account lusd bound hint)) h).1.1.1.1.1.0
 changed s _ h k = cc

@@ -35,7 +35,8 @@ one_counts : (r : Result One Refusal) → first_refusal (refusal_of r) ≡ None 
 one_counts (Ok one) h = refl
 one_counts (Err refusal) h = cc
 
-pub values_count : (s : State) (call : Call) → first_refusal (rules s call) ≡ None → length (values s call) ≡ value_count (kind call)
+pub values_count : (s : State) (call : Call) → first_refusal (rules s call) ≡ None
+    → length (values s call) ≡ value_count (kind call)
 values_count s (Price price) h = refl
 values_count s (Advance minutes) h = refl
 values_count s (Fund account coll) h = refl
@@ -58,7 +59,8 @@ values_count s Rotate h = refl
 victim_count : (s : State) (one : One) → length (victim_events s one) ≤ 1
 victim_count s one = by (one.offset_debt == 0) where
   event : PoolEvent
-  event = Offset one.offset_debt one.offset_coll (pool_total s) (rise_of (words_of s).p (record { debt = one.offset_debt; coll = one.offset_coll; total = pool_total s }))
+  event = Offset one.offset_debt one.offset_coll (pool_total s) (rise_of (words_of s).p
+      (record { debt = one.offset_debt; coll = one.offset_coll; total = pool_total s }))
 
   by : (b : Bool) → length (cond b [] (event ∷ [])) ≤ 1
   by true = omega arith
@@ -72,7 +74,8 @@ offset_count (v ∷ vs) s =
     let all = length-append (victim_events s v.one) (offset_events (struck s v) vs) in
     omega (arith, here, later, all)
 
-lowest_count_by : (more : ℕ) (s : State) (next : Option Victim) → ((v : Victim) → length (lowest (struck s v) more) ≤ more) → length (lowest_by more s next) ≤ suc more
+lowest_count_by : (more : ℕ) (s : State) (next : Option Victim) → ((v : Victim) → length (lowest (struck s v) more)
+    ≤ more) → length (lowest_by more s next) ≤ suc more
 lowest_count_by more s None later = omega arith
 lowest_count_by more s (Some v) later = let h = later v in omega (arith, h)
 
@@ -84,14 +87,17 @@ pub listed_count : (account : ℕ) (r : Result One Refusal) → length (listed (
 listed_count account (Ok one) = omega arith
 listed_count account (Err refusal) = omega arith
 
-pub lowest_within : (s : State) (liquidator count : ℕ) → first_refusal (rules s (LiquidateLowest liquidator count)) ≡ None → count ≤ LOWEST_MOST
+pub lowest_within : (s : State) (liquidator count : ℕ) → first_refusal (rules s (LiquidateLowest liquidator count))
+    ≡ None → count ≤ LOWEST_MOST
 lowest_within s liquidator count h =
     let rest = lowest_rules s in
     let above : nat_lt LOWEST_MOST count ≡ false =
-    (none_first (nat_lt LOWEST_MOST count, AmountLimit count LOWEST_MOST) rest (none_first (count == 0, AmountZero) ((nat_lt LOWEST_MOST count, AmountLimit count LOWEST_MOST) ∷ rest) h).1).0 in
+    (none_first (nat_lt LOWEST_MOST count, AmountLimit count LOWEST_MOST) rest (none_first (count == 0, AmountZero)
+    ((nat_lt LOWEST_MOST count, AmountLimit count LOWEST_MOST) ∷ rest) h).1).0 in
     grind (arith, nat_tests, above)
 
-pub events_count : (s : State) (call : Call) → first_refusal (rules s call) ≡ None → length (call_events s call) ≤ LOWEST_MOST
+pub events_count : (s : State) (call : Call) → first_refusal (rules s call) ≡ None → length (call_events s call)
+    ≤ LOWEST_MOST
 events_count s (Provide account lusd) h = omega arith
 events_count s (Withdraw account lusd) h = omega arith
 events_count s (GainToTrove account hint) h = omega arith
@@ -106,11 +112,15 @@ events_count s (LiquidateLowest liquidator count) h =
     omega (arith, most, made, told)
 events_count s _ h = omega arith
 
-pub run_events_count : (requests : List Request) (s : State) → length (events s (accepted s requests)) ≤ LOWEST_MOST * length (accepted s requests)
+pub run_events_count : (requests : List Request) (s : State) → length (events s (accepted s requests))
+    ≤ LOWEST_MOST * length (accepted s requests)
 run_events_count [] s = omega arith
 run_events_count (Ask query ∷ requests) s = run_events_count requests s
 run_events_count (Do c ∷ requests) s = by (run_events_count requests) (ruling s c) refl where
-  by : ((t : State) → length (events t (accepted t requests)) ≤ LOWEST_MOST * length (accepted t requests)) → (r : Ruling) → ruling s c ≡ r → length (events s ((if is_allowed r then c ∷ [] else []) ++ accepted (after_ruling s c r).0 requests)) ≤ LOWEST_MOST * length ((if is_allowed r then c ∷ [] else []) ++ accepted (after_ruling s c r).0 requests)
+  by : ((t : State) → length (events t (accepted t requests)) ≤ LOWEST_MOST * length (accepted t requests))
+      → (r : Ruling) → ruling s c ≡ r
+      → length (events s ((if is_allowed r then c ∷ [] else []) ++ accepted (after_ruling s c r).0 requests))
+      ≤ LOWEST_MOST * length ((if is_allowed r then c ∷ [] else []) ++ accepted (after_ruling s c r).0 requests)
   by rest (Refused refusal) is = rest s
   by rest (Repeated kept) is = rest s
   by rest Allowed is =

@@ -34,7 +34,8 @@ lifted-kept s account (Some t) = refl
 cut-kept : (s : State) (cut : Cut) (o : Option (ℕ × ℕ)) → kept (cut_entire s cut o) ≡ kept s
 cut-kept s cut None = refl
 cut-kept s cut (Some own) = by cut.full where
-  by : (b : Bool) → kept (cond b (closed_by s cut own) (set_trove s cut.account (own.0 - cut.draw) (own.1 - cut.lot))) ≡ kept s
+  by : (b : Bool) → kept (cond b (closed_by s cut own) (set_trove s cut.account (own.0 - cut.draw) (own.1 - cut.lot)))
+      ≡ kept s
   by true = lifted-kept s cut.account (at s.troves cut.account)
   by false = lifted-kept s cut.account (at s.troves cut.account)
 
@@ -44,7 +45,9 @@ cuts-kept (cut ∷ cuts) s = cuts-kept cuts (cut_down s cut) ∙ cut-kept s cut 
 
 liquidated-kept : (s : State) (liquidator : ℕ) (v : Victim) → kept (liquidated s liquidator v) ≡ kept s
 liquidated-kept s liquidator v = by (at s.troves v.account) (v.one.offset_debt == 0) where
-  by : (o : Option TroveEntry) (b : Bool) → kept (cond b (lifted_entry s v.account o) (offset (lifted_entry s v.account o) v.one.offset_debt v.one.offset_coll)) ≡ kept s
+  by : (o : Option TroveEntry) (b : Bool)
+      → kept (cond b (lifted_entry s v.account o) (offset (lifted_entry s v.account o) v.one.offset_debt
+      v.one.offset_coll)) ≡ kept s
   by o true = lifted-kept s v.account o
   by o false = lifted-kept s v.account o
 
@@ -62,7 +65,8 @@ effect-kept s (Open account coll borrow bound hint) h = refl
 effect-kept s (Adjust account coll_in coll_out borrow repay bound hint) h =
     let change : Change = record { coll_in = coll_in; coll_out = coll_out; borrow = borrow; repay = repay } in
     let plan = adjusting_terms (market_of s) (or_nothing (entire_of s account)) change in
-    lifted-kept (credited (charged (with_fee s plan) account coll_in repay) account coll_out borrow) account (at s.troves account)
+    lifted-kept (credited (charged (with_fee s plan) account coll_in repay) account coll_out borrow) account
+    (at s.troves account)
 effect-kept s (Close account) h =
     let terms = closing_terms (or_nothing (entire_of s account)) in
     let settled = credited (charged s account 0 terms.0) account terms.1 0 in

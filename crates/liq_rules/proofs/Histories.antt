@@ -13,26 +13,34 @@ map-snoc : {X Y : Type 0} (f : X → Y) (xs : List X) (x : X) → map f (xs ++ x
 map-snoc f [] x = refl
 map-snoc {Y = Y} f (y ∷ xs) x = ap (λ (ys : List Y). f y ∷ ys) (map-snoc f xs x)
 
-filter-snoc : {X : Type 0} (test : X → Bool) (xs : List X) (x : X) → filter test (xs ++ x ∷ []) ≡ filter test xs ++ cond (test x) (x ∷ []) []
+filter-snoc : {X : Type 0} (test : X → Bool) (xs : List X) (x : X) → filter test (xs ++ x ∷ []) ≡ filter test xs
+    ++ cond (test x) (x ∷ []) []
 filter-snoc test [] x = refl
 filter-snoc {X} test (y ∷ xs) x = by (test y) (filter-snoc test xs x) where
-  by : (b : Bool) → filter test (xs ++ x ∷ []) ≡ filter test xs ++ cond (test x) (x ∷ []) [] → cond b (y ∷ filter test (xs ++ x ∷ [])) (filter test (xs ++ x ∷ [])) ≡ cond b (y ∷ filter test xs) (filter test xs) ++ cond (test x) (x ∷ []) []
+  by : (b : Bool) → filter test (xs ++ x ∷ []) ≡ filter test xs ++ cond (test x) (x ∷ []) []
+      → cond b (y ∷ filter test (xs ++ x ∷ [])) (filter test (xs ++ x ∷ []))
+      ≡ cond b (y ∷ filter test xs) (filter test xs) ++ cond (test x) (x ∷ []) []
   by true h = ap (λ (ys : List X). y ∷ ys) h
   by false h = h
 
-counted-snoc : (n : ℕ) (es : List Entry) (e : Entry) → counted_from n (es ++ e ∷ []) ≡ counted_from n es ++ (n + length es) ∷ []
+counted-snoc : (n : ℕ) (es : List Entry) (e : Entry) → counted_from n (es ++ e ∷ []) ≡ counted_from n es
+    ++ (n + length es) ∷ []
 counted-snoc n [] e = ap (λ m. m ∷ []) (none n) where
   none : (k : ℕ) → k ≡ k + 0
   none k = omega arith
-counted-snoc n (x ∷ es) e = ap (λ (ns : List ℕ). n ∷ ns) (counted-snoc (n + 1) es e ∙ ap (λ m. counted_from (n + 1) es ++ m ∷ []) (shift n (length es))) where
-  shift : (k m : ℕ) → k + 1 + m ≡ k + suc m
-  shift k m = omega arith
+counted-snoc n (x ∷ es) e = ap (λ (ns : List ℕ). n ∷ ns) (counted-snoc (n + 1) es e
+    ∙ ap (λ m. counted_from (n + 1) es ++ m ∷ []) (shift n (length es))) where
+      shift : (k m : ℕ) → k + 1 + m ≡ k + suc m
+      shift k m = omega arith
 
-pub state-snoc : (s : State) (entries : List Entry) (e : Entry) → state_after s (entries ++ e ∷ []) ≡ (step (state_after s entries) e.request).0
+pub state-snoc : (s : State) (entries : List Entry) (e : Entry) → state_after s (entries ++ e ∷ [])
+    ≡ (step (state_after s entries) e.request).0
 state-snoc s entries e =
-    ap (λ (rs : List Request). (run s rs).0) (map-snoc (λ (x : Entry). x.request) entries e) ∙ run_state s (requests_of entries) (e.request ∷ [])
+    ap (λ (rs : List Request). (run s rs).0) (map-snoc (λ (x : Entry). x.request) entries e)
+    ∙ run_state s (requests_of entries) (e.request ∷ [])
 
-replies-snoc : (s : State) (entries : List Entry) (e : Entry) → IsLegal s entries → GoesOn s entries e → replies_of (entries ++ e ∷ []) ≡ (run s (requests_of (entries ++ e ∷ []))).1
+replies-snoc : (s : State) (entries : List Entry) (e : Entry) → IsLegal s entries → GoesOn s entries e
+    → replies_of (entries ++ e ∷ []) ≡ (run s (requests_of (entries ++ e ∷ []))).1
 replies-snoc s entries e h g =
     map-snoc (λ (x : Entry). x.reply) entries e
     ∙ ap (λ (rs : List Reply). rs ++ e.reply ∷ []) h.replies
@@ -43,7 +51,10 @@ replies-snoc s entries e h g =
 abbrev indices_of : List Entry → List ℕ
 indices_of entries = map (λ (e : Entry). e.index) entries
 
-own-snoc : (session : ℕ) (entries : List Entry) (e : Entry) → indices_of (own_entries session entries) ≡ counted_from 1 (own_entries session entries) → e.index ≡ length (own_entries e.session entries) + 1 → (b : Bool) → (e.session == session) ≡ b → indices_of (own_entries session entries ++ cond b (e ∷ []) []) ≡ counted_from 1 (own_entries session entries ++ cond b (e ∷ []) [])
+own-snoc : (session : ℕ) (entries : List Entry) (e : Entry) → indices_of (own_entries session entries)
+    ≡ counted_from 1 (own_entries session entries) → e.index ≡ length (own_entries e.session entries) + 1 → (b : Bool)
+    → (e.session == session) ≡ b → indices_of (own_entries session entries ++ cond b (e ∷ []) [])
+    ≡ counted_from 1 (own_entries session entries ++ cond b (e ∷ []) [])
 own-snoc session entries e h i true same =
     let own = own_entries session entries in
     let it : e.session ≡ session = grind (arith, nat_tests, same) in
@@ -55,15 +66,18 @@ own-snoc session entries e h i true same =
       turned : (n : ℕ) → n + 1 ≡ 1 + n
       turned n = omega arith
 own-snoc session entries e h i false same =
-    ap indices_of (append-nil (own_entries session entries)) ∙ h ∙ sym (ap (counted_from 1) (append-nil (own_entries session entries)))
+    ap indices_of (append-nil (own_entries session entries)) ∙ h
+    ∙ sym (ap (counted_from 1) (append-nil (own_entries session entries)))
 
-pub legal-snoc : (s : State) (entries : List Entry) (e : Entry) → IsLegal s entries → GoesOn s entries e → IsLegal s (entries ++ e ∷ [])
+pub legal-snoc : (s : State) (entries : List Entry) (e : Entry) → IsLegal s entries → GoesOn s entries e
+    → IsLegal s (entries ++ e ∷ [])
 legal-snoc s entries e h g =
     record {
       replies = replies-snoc s entries e h g;
       indices = λ session.
           let split = filter-snoc (λ (x : Entry). x.session == session) entries e in
-          subst (λ (own : List Entry). indices_of own ≡ counted_from 1 own) (sym split) (own-snoc session entries e (h.indices session) g.index_is (e.session == session) refl);
+          subst (λ (own : List Entry). indices_of own ≡ counted_from 1 own) (sym split) (own-snoc session entries e
+          (h.indices session) g.index_is (e.session == session) refl);
     }
 
 pub legal-empty : (s : State) → IsLegal s []

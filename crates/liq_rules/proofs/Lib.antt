@@ -10,7 +10,7 @@ pub mod AlikeStep
 pub mod Allowed
 pub mod Ascending
 pub mod Begun
-pub mod Changing
+mod Changing
 pub mod Conserving
 pub mod Counting
 pub mod Following

@@ -29,13 +29,16 @@ use Rattle.liq_types.proofs.Lookups.{length-put}
 no_entry : TroveEntry
 no_entry = record { coll = 0; debt = 0; stake = 0; mark = After 0 }
 
-sum-put_absent : (f : TroveEntry → ℕ) → f no_entry ≡ 0 → (table : Table TroveEntry) (key : ℕ) (x : TroveEntry) → Ascends table → at table key ≡ None → sum_by f (values_of (put table key x)) ≡ sum_by f (values_of table) + f x
+sum-put_absent : (f : TroveEntry → ℕ) → f no_entry ≡ 0 → (table : Table TroveEntry) (key : ℕ) (x : TroveEntry)
+    → Ascends table → at table key ≡ None → sum_by f (values_of (put table key x)) ≡ sum_by f (values_of table) + f x
 sum-put_absent f z table key x t n =
     let law = sum_by-put f table key x no_entry z t in
-    let none : f (unwrap_or (at table key) no_entry) ≡ 0 = ap (λ (o : Option TroveEntry). f (unwrap_or o no_entry)) n ∙ z in
+    let none : f (unwrap_or (at table key) no_entry) ≡ 0 =
+    ap (λ (o : Option TroveEntry). f (unwrap_or o no_entry)) n ∙ z in
     omega (arith, law, none)
 
-sixth : (a b c d e f : Rule) (more : List Rule) → first_refusal (a ∷ b ∷ c ∷ d ∷ e ∷ f ∷ more) ≡ None → (a.0 ≡ false) × (f.0 ≡ false)
+sixth : (a b c d e f : Rule) (more : List Rule) → first_refusal (a ∷ b ∷ c ∷ d ∷ e ∷ f ∷ more) ≡ None → (a.0 ≡ false)
+    × (f.0 ≡ false)
 sixth a b c d e f more h =
     let one = none_first a (b ∷ c ∷ d ∷ e ∷ f ∷ more) h in
     let two = none_first b (c ∷ d ∷ e ∷ f ∷ more) one.1 in
@@ -44,14 +47,23 @@ sixth a b c d e f more h =
     let five = none_first e (f ∷ more) four.1 in
     (one.0, (none_first f more five.1).0)
 
-open_conserves : (s : State) (account coll borrow : ℕ) → at s.troves account ≡ None → coll ≤ (wallet_of s account).coll → TablesAscend s → IsConserved s → IsConserved (opened s account borrow (opening_terms (market_of s) coll borrow))
+open_conserves : (s : State) (account coll borrow : ℕ) → at s.troves account ≡ None → coll ≤ (wallet_of s account).coll
+    → TablesAscend s → IsConserved s → IsConserved (opened s account borrow (opening_terms (market_of s) coll borrow))
 unfolding no_entry
 open_conserves s account coll borrow none enough t h =
     let feed = with_fee s (opening_terms (market_of s) coll borrow) in
     let mid = charged feed account coll 0 in
-    let ordered = wallet-ascends s.wallets account (record { coll = (wallet_of s account).coll - coll; lusd = (wallet_of s account).lusd - 0 }) t.0 in
+    let ordered = wallet-ascends s.wallets account (record {
+      coll = (wallet_of s account).coll - coll;
+      lusd = (wallet_of s account).lusd - 0;
+    }) t.0 in
     let debt = open_debt (market_of s) borrow in
-    let entry : TroveEntry = record { coll = coll; debt = debt; stake = stake_for s coll; mark = After (length s.redistributions) } in
+    let entry : TroveEntry = record {
+      coll = coll;
+      debt = debt;
+      stake = stake_for s coll;
+      mark = After (length s.redistributions);
+    } in
     let c1 = charged_coll feed account coll 0 t.0 enough in
     let l1 = charged_lusd feed account coll 0 t.0 (omega arith) in
     let c2 = paid_coll mid account 0 borrow ordered in
@@ -75,17 +87,24 @@ open_conserves s account coll borrow none enough t h =
       surplus = h.surplus;
     }
 
-opens : (s : State) (account coll borrow bound : ℕ) → first_refusal (open_rules (market_of s) (wallet_of s account) (is_some (at s.troves account)) account coll borrow bound) ≡ None → (at s.troves account ≡ None) × (coll ≤ (wallet_of s account).coll)
+opens : (s : State) (account coll borrow bound : ℕ)
+    → first_refusal (open_rules (market_of s) (wallet_of s account) (is_some (at s.troves account)) account coll borrow
+    bound) ≡ None → (at s.troves account ≡ None) × (coll ≤ (wallet_of s account).coll)
 opens s account coll borrow bound r =
     let m = market_of s in
     let terms = opening_terms m coll borrow in
     let have = (wallet_of s account).coll in
-    let found = sixth (is_some (at s.troves account), TroveExists account) (fee_bound bound (least_bound m)) (fee_over terms.fee borrow bound) (where_below (borrow + terms.fee) MIN_NET NetDebtLow) (where_above (m.total_debt + terms.debt) m.limit AmountLimit) (where_short coll have ShortCollateral)
-    (ratio_low m (least_ratio m) coll terms.debt ∷ system_ratio_low m (m.total_coll + coll) (m.total_debt + terms.debt) ∷ []) r in
+    let found = sixth (is_some (at s.troves account), TroveExists account) (fee_bound bound (least_bound m))
+    (fee_over terms.fee borrow bound) (where_below (borrow + terms.fee) MIN_NET NetDebtLow)
+    (where_above (m.total_debt + terms.debt) m.limit AmountLimit) (where_short coll have ShortCollateral)
+    (ratio_low m (least_ratio m) coll terms.debt ∷ system_ratio_low m (m.total_coll + coll) (m.total_debt + terms.debt)
+    ∷ []) r in
     let enough : nat_lt have coll ≡ false = found.1 in
     (missing (at s.troves account) found.0, grind (arith, nat_tests, enough))
 
-pub opening_conserves : (s : State) (account coll borrow bound : ℕ) → TablesAscend s → first_refusal (open_rules (market_of s) (wallet_of s account) (is_some (at s.troves account)) account coll borrow bound) ≡ None → IsConserved s → IsConserved (opened s account borrow (opening_terms (market_of s) coll borrow))
+pub opening_conserves : (s : State) (account coll borrow bound : ℕ) → TablesAscend s
+    → first_refusal (open_rules (market_of s) (wallet_of s account) (is_some (at s.troves account)) account coll borrow
+    bound) ≡ None → IsConserved s → IsConserved (opened s account borrow (opening_terms (market_of s) coll borrow))
 opening_conserves s account coll borrow bound t r h =
     let allowed = opens s account coll borrow bound r in
     open_conserves s account coll borrow allowed.0 allowed.1 t h

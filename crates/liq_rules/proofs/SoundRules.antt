@@ -25,7 +25,8 @@ Passes rule = rule.1 ≡ true
 passing : (rules : List (ℕ × Bool)) → first_failing rules ≡ None → AllByRecursion Passes rules
 passing [] h = tt
 passing (rule ∷ rules) h = by rule.1 h (passing rules) where
-  by : (b : Bool) → cond b (first_failing rules) (Some rule.0) ≡ None → (first_failing rules ≡ None → AllByRecursion Passes rules) → (b ≡ true) × AllByRecursion Passes rules
+  by : (b : Bool) → cond b (first_failing rules) (Some rule.0) ≡ None → (first_failing rules ≡ None
+      → AllByRecursion Passes rules) → (b ≡ true) × AllByRecursion Passes rules
   by true e more = (refl, more e)
   by false e more = cc
 
@@ -67,7 +68,13 @@ meets i records h =
 pub sound_of : (i : Image) (records : ℕ) → Meets i records → HasTables i → IsSoundImage i records
 sound_of i records h tables =
     record {
-      rules = passed (soundness i records) (h.ranges, (h.accounts, (h.coll, (h.lusd, (h.surplus, (h.troves, (h.added, (h.backed, (h.words, (h.deposits, (h.clients, tt)))))))))));
+      rules = passed (soundness i records) (
+        h.ranges,
+        (
+          h.accounts,
+          (h.coll, (h.lusd, (h.surplus, (h.troves, (h.added, (h.backed, (h.words, (h.deposits, (h.clients, tt))))))))),
+        ),
+      );
       tables = tables;
     }
 
@@ -93,7 +100,8 @@ sound_at_home i records h =
     let added = both_first _ (nat_le i.snap_stakes i.snap_coll) (both_first _ _ all.added) in
     let debt_total : (i.active_debt + i.default_debt == lusd_homes i) ≡ true = both_second _ _ lusd in
     let reserve : (i.reserve == RESERVE * length i.troves) ≡ true = both_second _ _ all.lusd in
-    let coll : (i.active_coll == sum_by (λ (t : Trove). t.coll) (values_of i.troves)) ≡ true = both_second _ _ (both_first _ _ added) in
+    let coll : (i.active_coll == sum_by (λ (t : Trove). t.coll) (values_of i.troves)) ≡ true =
+    both_second _ _ (both_first _ _ added) in
     let debt : (i.active_debt == sum_by (λ (t : Trove). t.debt) (values_of i.troves)) ≡ true = both_second _ _ added in
     record {
       coll = equal i.brought (coll_homes i) all.coll;
@@ -108,38 +116,49 @@ sound_at_home i records h =
 
 -- ---- rows that are all of a kind
 
-list_of : {X : Type 0} (test : X → Bool) (xs : List X) → list_all test xs ≡ true → AllByRecursion (λ x. test x ≡ true) xs
+list_of : {X : Type 0} (test : X → Bool) (xs : List X) → list_all test xs ≡ true
+    → AllByRecursion (λ x. test x ≡ true) xs
 list_of test [] h = tt
-list_of test (x ∷ xs) h = (both_first (test x) (list_all test xs) h, list_of test xs (both_second (test x) (list_all test xs) h))
+list_of test (x ∷ xs) h = (
+  both_first (test x) (list_all test xs) h,
+  list_of test xs (both_second (test x) (list_all test xs) h),
+)
 
-list_from : {X : Type 0} (test : X → Bool) (xs : List X) → AllByRecursion (λ x. test x ≡ true) xs → list_all test xs ≡ true
+list_from : {X : Type 0} (test : X → Bool) (xs : List X) → AllByRecursion (λ x. test x ≡ true) xs
+    → list_all test xs ≡ true
 list_from test [] h = refl
 list_from test (x ∷ xs) h = and_from (test x) (list_all test xs) h.0 (list_from test xs h.1)
 
 module _ {X : Type 0} where
-  keys-put : (P : ℕ → Type 0) (table : Table X) (key : ℕ) (x : X) → P key → AllByRecursion P (keys_of table) → AllByRecursion P (keys_of (put table key x))
+  keys-put : (P : ℕ → Type 0) (table : Table X) (key : ℕ) (x : X) → P key → AllByRecursion P (keys_of table)
+      → AllByRecursion P (keys_of (put table key x))
   keys-put P [] key x p h = (p, tt)
   keys-put P (e ∷ es) key x p h = by (nat_cmp key e.0) (keys-put P es key x p h.1) where
-    by : (o : Ordering) → AllByRecursion P (keys_of (put es key x)) → AllByRecursion P (keys_of (match_ordering o ((key, x) ∷ e ∷ es) ((e.0, x) ∷ es) (e ∷ put es key x)))
+    by : (o : Ordering) → AllByRecursion P (keys_of (put es key x))
+        → AllByRecursion P (keys_of (match_ordering o ((key, x) ∷ e ∷ es) ((e.0, x) ∷ es) (e ∷ put es key x)))
     by Less more = (p, h)
     by Equal more = h
     by Greater more = (h.0, more)
 
-  values-put : (P : X → Type 0) (table : Table X) (key : ℕ) (x : X) → P x → AllByRecursion P (values_of table) → AllByRecursion P (values_of (put table key x))
+  values-put : (P : X → Type 0) (table : Table X) (key : ℕ) (x : X) → P x → AllByRecursion P (values_of table)
+      → AllByRecursion P (values_of (put table key x))
   values-put P [] key x p h = (p, tt)
   values-put P (e ∷ es) key x p h = by (nat_cmp key e.0) (values-put P es key x p h.1) where
-    by : (o : Ordering) → AllByRecursion P (values_of (put es key x)) → AllByRecursion P (values_of (match_ordering o ((key, x) ∷ e ∷ es) ((e.0, x) ∷ es) (e ∷ put es key x)))
+    by : (o : Ordering) → AllByRecursion P (values_of (put es key x))
+        → AllByRecursion P (values_of (match_ordering o ((key, x) ∷ e ∷ es) ((e.0, x) ∷ es) (e ∷ put es key x)))
     by Less more = (p, h)
     by Equal more = (p, h.1)
     by Greater more = (h.0, more)
 
-  in_range : (key : ℕ) → nat_lt key ACCOUNTS ≡ true → (table : Table X) (x : X) → has_keys_in_range table ≡ true → has_keys_in_range (put table key x) ≡ true
+  in_range : (key : ℕ) → nat_lt key ACCOUNTS ≡ true → (table : Table X) (x : X) → has_keys_in_range table ≡ true
+      → has_keys_in_range (put table key x) ≡ true
   in_range key k table x h =
       list_from (λ q. nat_lt q ACCOUNTS) (keys_of (put table key x))
       (keys-put (λ q. nat_lt q ACCOUNTS ≡ true) table key x k (list_of (λ q. nat_lt q ACCOUNTS) (keys_of table) h))
 
   -- a row more, at a number in range
-  pub put_in_range : (table : Table X) (key : ℕ) (x : X) → key < ACCOUNTS → IsTrue (has_keys_in_range table) → IsTrue (has_keys_in_range (put table key x))
+  pub put_in_range : (table : Table X) (key : ℕ) (x : X) → key < ACCOUNTS → IsTrue (has_keys_in_range table)
+      → IsTrue (has_keys_in_range (put table key x))
   put_in_range table key x k h = in_range key (grind (arith, nat_tests, k)) table x h
 
 -- ---- a command that is counted, and its reply kept
@@ -149,7 +168,8 @@ middle w true y z v h k = ap (λ b. ((w && b) && y) && z) k ∙ h
 middle true false y z v h k = cc
 middle false false y z v h k = cc
 
-module _ (i : Image) (records client : ℕ) (row : Client) (sound : IsSoundImage i records) (inside : client < ACCOUNTS) (few : records < RECORDS_MOST) (kept : IsClientRow row) (shown : is_sound_client row ≡ true) where
+module _ (i : Image) (records client : ℕ) (row : Client) (sound : IsSoundImage i records) (inside : client
+    < ACCOUNTS) (few : records < RECORDS_MOST) (kept : IsClientRow row) (shown : is_sound_client row ≡ true) where
   noted : Image
   noted = record i { clients = put i.clients client row }
 
@@ -162,18 +182,26 @@ module _ (i : Image) (records client : ℕ) (row : Client) (sound : IsSoundImage
   more : places_most i.generation records ≤ places_most i.generation (records + 1)
   more = omega arith
 
-  still : (n : ℕ) → nat_le n (places_most i.generation records) ≡ true → nat_le n (places_most i.generation (records + 1)) ≡ true
+  still : (n : ℕ) → nat_le n (places_most i.generation records) ≡ true
+      → nat_le n (places_most i.generation (records + 1)) ≡ true
   still n h =
       let small : n ≤ places_most i.generation records = grind (arith, nat_tests, h) in
       let large : n ≤ places_most i.generation (records + 1) = omega (arith, small, more) in
       grind (arith, nat_tests, large)
 
-  words_still : (a e : Bool) → (((a && nat_le i.scale (places_most i.generation records)) && nat_le i.epoch (places_most i.generation records)) && e) ≡ true → (((a && nat_le i.scale (places_most i.generation (records + 1))) && nat_le i.epoch (places_most i.generation (records + 1))) && e) ≡ true
+  words_still : (a e : Bool)
+      → (((a && nat_le i.scale (places_most i.generation records)) && nat_le i.epoch (places_most i.generation records))
+      && e) ≡ true
+      → (((a && nat_le i.scale (places_most i.generation (records + 1))) && nat_le i.epoch (places_most i.generation
+      (records + 1))) && e) ≡ true
   words_still a e h =
-      let three = both_first ((a && nat_le i.scale (places_most i.generation records)) && nat_le i.epoch (places_most i.generation records)) e h in
-      let two = both_first (a && nat_le i.scale (places_most i.generation records)) (nat_le i.epoch (places_most i.generation records)) three in
+      let three = both_first ((a && nat_le i.scale (places_most i.generation records)) && nat_le i.epoch
+      (places_most i.generation records)) e h in
+      let two = both_first (a && nat_le i.scale (places_most i.generation records))
+      (nat_le i.epoch (places_most i.generation records)) three in
       let scale = still i.scale (both_second a (nat_le i.scale (places_most i.generation records)) two) in
-      let epoch = still i.epoch (both_second (a && nat_le i.scale (places_most i.generation records)) (nat_le i.epoch (places_most i.generation records)) three) in
+      let epoch = still i.epoch (both_second (a && nat_le i.scale (places_most i.generation records))
+      (nat_le i.epoch (places_most i.generation records)) three) in
       and_from _ e (and_from _ _ (and_from a _ (both_first a _ two) scale) epoch) (both_second _ e h)
 
   counted_rules : Meets noted (records + 1)
@@ -181,7 +209,8 @@ module _ (i : Image) (records client : ℕ) (row : Client) (sound : IsSoundImage
   counted_rules =
       record {
         ranges = middle _ _ _ _ _ before.ranges counted;
-        accounts = other_second _ _ _ before.accounts (put_in_range i.clients client row inside (both_second _ _ before.accounts));
+        accounts = other_second _ _ _ before.accounts (put_in_range i.clients client row inside
+            (both_second _ _ before.accounts));
         coll = before.coll;
         lusd = before.lusd;
         surplus = before.surplus;
@@ -192,7 +221,8 @@ module _ (i : Image) (records client : ℕ) (row : Client) (sound : IsSoundImage
         deposits = before.deposits;
         clients =
             list_from is_sound_client (values_of (put i.clients client row))
-            (values-put (λ (c : Client). is_sound_client c ≡ true) i.clients client row shown (list_of is_sound_client (values_of i.clients) before.clients));
+            (values-put (λ (c : Client). is_sound_client c ≡ true) i.clients client row shown (list_of is_sound_client
+            (values_of i.clients) before.clients));
       }
 
   pub noted_sound : IsSoundImage (record i { clients = put i.clients client row }) (records + 1)

@@ -15,11 +15,13 @@ use Rattle.liq_types.specs.WellFormed.{IsWellFormed, AreFinished, TrovesAreMarke
 use Rattle.liq_types.proofs.MapRows.{map-sum}
 use Rattle.liq_types.proofs.Places.{is_place-itself}
 
-troves-back : (i : Image) (table : Table Trove) → map_rows (trove_row (started i)) (map_rows started_trove table) ≡ table
+troves-back : (i : Image) (table : Table Trove)
+    → map_rows (trove_row (started i)) (map_rows started_trove table) ≡ table
 troves-back i [] = refl
 troves-back i (row ∷ rows) = ap (λ (rest : Table Trove). row ∷ rest) (troves-back i rows)
 
-deposits-back : (i : Image) (table : Table Deposit) → map_rows (deposit_row (started i)) (map_rows started_deposit table) ≡ table
+deposits-back : (i : Image) (table : Table Deposit)
+    → map_rows (deposit_row (started i)) (map_rows started_deposit table) ≡ table
 deposits-back i [] = refl
 deposits-back i (row ∷ rows) = ap (λ (rest : Table Deposit). row ∷ rest) (deposits-back i rows)
 
@@ -35,7 +37,13 @@ pub started_formed : (i : Image) → AreFinished i → IsWellFormed (started i)
 started_formed i f = (f, troves-marked 0 i.troves, deposits-marked 0 i.deposits, (omega arith, omega arith))
 
 abbrev numbers : Image → ℕ → ℕ → ℕ → ℕ → ℕ → Image
-numbers i coll debt sum total pool_coll = record i { sum_coll = coll; sum_debt = debt; sum = sum; total = total; pool_coll = pool_coll }
+numbers i coll debt sum total pool_coll = record i {
+  sum_coll = coll;
+  sum_debt = debt;
+  sum = sum;
+  total = total;
+  pool_coll = pool_coll;
+}
 
 plus_none : (n : ℕ) → n + 0 ≡ n
 plus_none n = omega arith
@@ -49,10 +57,12 @@ none_paid n = omega arith
 pub started_image : (i : Image) → i.stakes ≡ stakes_in i → image (started i) ≡ i
 started_image i e =
     let made = image (started i) in
-    let here = ap (λ b. cond b i.sum (unwrap_or (lookup (is_place (i.epoch, i.scale)) i.finished) 0) + 0) (is_place-itself (i.epoch, i.scale)) in
+    let here = ap (λ b. cond b i.sum (unwrap_or (lookup (is_place (i.epoch, i.scale)) i.finished) 0) + 0)
+    (is_place-itself (i.epoch, i.scale)) in
     ap (λ (rows : Table Trove). record made { troves = rows }) (troves-back i i.troves)
     ∙ ap (λ (rows : Table Deposit). record made { troves = i.troves; deposits = rows }) (deposits-back i i.deposits)
-    ∙ ap (λ n. record made { troves = i.troves; deposits = i.deposits; stakes = n }) (map-sum started_trove (λ t. t.stake) i.troves ∙ sym e)
+    ∙ ap (λ n. record made { troves = i.troves; deposits = i.deposits; stakes = n }) (map-sum started_trove
+    (λ t. t.stake) i.troves ∙ sym e)
     ∙ ap (λ n. numbers i n made.sum_debt made.sum made.total made.pool_coll) (plus_none i.sum_coll)
     ∙ ap (λ n. numbers i i.sum_coll n made.sum made.total made.pool_coll) (plus_none i.sum_debt)
     ∙ ap (λ n. numbers i i.sum_coll i.sum_debt n made.total made.pool_coll) (here ∙ plus_none i.sum)

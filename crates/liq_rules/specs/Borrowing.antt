@@ -36,7 +36,8 @@ open_row s account coll borrow bound =
     let plan = opening_terms m coll borrow in
     let next = opened s account borrow plan in
     record {
-      rules = open_rules m (wallet_of s account) (is_some (at s.troves account)) account coll borrow bound;
+      rules = open_rules m (wallet_of s account) (is_some (at s.troves account)) account coll
+          borrow bound;
       effect = next;
       values = plan.debt ∷ plan.fee ∷ [];
       events = [];
@@ -47,7 +48,8 @@ open_row s account coll borrow bound =
 
 abbrev pub adjusted : State → ℕ → Change → Plan → State
 adjusted s account change plan =
-    let moved = credited (charged (with_fee s plan) account change.coll_in change.repay) account change.coll_out change.borrow in
+    let moved = credited (charged (with_fee s plan) account change.coll_in change.repay) account
+    change.coll_out change.borrow in
     set_trove moved account plan.coll plan.debt
 
 abbrev pub adjust_row : State → ℕ → Change → ℕ → Row

@@ -1,4 +1,5 @@
--- Worked examples of borrowing: troves are adjusted and closed, and every refusal that their owners can meet.
+-- Worked examples of borrowing: troves are adjusted and closed, and every refusal that their owners
+-- can meet.
 use Rattle.std.specs.Prelude.{List, [], ◌∷◌}
 use Rattle.liq_types.specs.declared.replies.Refusal.TheVariants.{ShortCollateral, ShortTokens, TroveExists, NoTrove, NetDebtLow, RatioLow, SystemRatioLow, RatioFalls, BothWays, NoChange, NoGain, NotLiquidatable}
 use Rattle.liq_types.specs.declared.replies.Reply.{Reply}

@@ -1,4 +1,5 @@
--- Worked examples: requests from the opening on, and the replies to them. Client 1 makes them, with numbers that ascend.
+-- Worked examples: requests from the opening on, and the replies to them. Client 1 makes them, with
+-- numbers that ascend.
 use Rattle.std.specs.Prelude.{ℕ, List, [], ◌∷◌, ◌++◌}
 use Rattle.liq_types.specs.declared.events.PoolEvent.{PoolEvent}
 use Rattle.liq_types.specs.declared.events.PoolEvent.TheVariants.{Own, Offset}
@@ -78,7 +79,8 @@ a_gwei_too_little_replies =
     ∷ No (RatioLow 243099999900000000000 243100000000000000000)
     ∷ []
 
--- two troves, one of whose owners provides, and a price that leaves the other one below the least ratio
+-- two troves, one of whose owners provides, and a price that leaves the other one below the least
+-- ratio
 abbrev pub price_falls : List Request
 price_falls =
     by_one 1 (Fund 1 10000000000)
@@ -116,7 +118,8 @@ pool_and_others_replies =
     ++ said 12 (50000000 ∷ 4000000000 ∷ 9431279620 ∷ 220000000 ∷ 518720380 ∷ 0 ∷ [])
     ∷ Told (info.Trove 100518720380 4440000000 100000000000)
     ∷ Told (info.Deposit 0 9431279620)
-    ∷ Told (info.Pools (100000000000 ∷ 4220000000 ∷ 518720380 ∷ 220000000 ∷ 200000000 ∷ 0 ∷ 0 ∷ 40000000 ∷ 0 ∷ 9431279620 ∷ []))
+    ∷ Told (info.Pools (100000000000 ∷ 4220000000 ∷ 518720380 ∷ 220000000 ∷ 200000000 ∷ 0 ∷ 0
+    ∷ 40000000 ∷ 0 ∷ 9431279620 ∷ []))
     ∷ Told (info.Wallet 50000000 200000000)
     ∷ said 11 (9431279620 ∷ 109950000000 ∷ [])
     ∷ []

@@ -1,5 +1,5 @@
--- A legal history: each reply is what the step gives where the entries before have led, and a session's entries are numbered
--- one by one from 1.
+-- A legal history: each reply is what the step gives where the entries before have led, and a
+-- session's entries are numbered one by one from 1.
 use Rattle.std.specs.Prelude.{◌≡◌, ℕ, ◌+◌, ◌==◌, List, [], ◌∷◌, map, filter, length}
 use Rattle.liq_types.specs.declared.replies.Reply.{Reply}
 use Rattle.liq_types.specs.declared.requests.Request.{Request}
@@ -28,7 +28,8 @@ own_entries session entries = filter (λ (e : Entry). e.session == session) entr
 
 pub record IsLegal (s : State) (entries : List Entry) : Type 0 where
   pub replies : replies_of entries ≡ (run s (requests_of entries)).1
-  pub indices : (session : ℕ) → map (λ (e : Entry). e.index) (own_entries session entries) ≡ counted_from 1 (own_entries session entries)
+  pub indices : (session : ℕ) → map (λ (e : Entry). e.index) (own_entries session entries)
+      ≡ counted_from 1 (own_entries session entries)
 
 -- the state after the entries
 abbrev pub state_after : State → List Entry → State

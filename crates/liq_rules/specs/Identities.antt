@@ -22,7 +22,8 @@ wallets_lusd s = sum_by (λ (w : Wallet). w.lusd) (values_of s.wallets)
 abbrev pub WalletsAscend : State → Type 0
 WalletsAscend s = Ascends s.wallets
 
--- of an image: the homes of collateral and of LUSD, the reserves of the troves, and what the pools record of them
+-- of an image: the homes of collateral and of LUSD, the reserves of the troves, and what the pools
+-- record of them
 pub record IsAtHome (i : Image) : Type 0 where
   pub coll : i.brought ≡ coll_homes i
   pub lusd : i.active_debt + i.default_debt ≡ lusd_homes i

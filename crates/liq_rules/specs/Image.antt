@@ -1,5 +1,5 @@
--- The image of a state: words and tables, as the lists have made them. States with one image and as many records
--- count as the same, whatever their lists were.
+-- The image of a state: words and tables, as the lists have made them. States with one image and as
+-- many records count as the same, whatever their lists were.
 use Rattle.std.specs.Prelude.{◌≡◌}
 use Rattle.liq_types.specs.declared.image.Image.{Image}
 use Rattle.liq_types.specs.Product.{sumat, place_of, finished_sums}

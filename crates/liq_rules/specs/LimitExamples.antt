@@ -71,7 +71,12 @@ of_version_1_replies =
 -- two troves, of which one may be liquidated, and the sum of collateral per stake at its limit
 abbrev pub with_greatest_sum : State
 with_greatest_sum =
-    record (run opening (take 6 at_the_whole)).0 { start = record opening_image { sum_coll = SUM_MOST } }
+    record (run opening (take 6 at_the_whole)).0 {
+      start = record opening_image {
+        sum_coll =
+            SUM_MOST;
+      };
+    }
 
 abbrev pub greatest_sum : List Request
 greatest_sum =

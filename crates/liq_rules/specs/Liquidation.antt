@@ -29,7 +29,11 @@ all_liquidated s liquidator victims = fold (λ now v. liquidated now liquidator 
 abbrev pub victim_events : State → One → List PoolEvent
 victim_events s one =
     let total = pool_total s in
-    let rise = rise_of (words_of s).p (record { debt = one.offset_debt; coll = one.offset_coll; total = total }) in
+    let rise = rise_of (words_of s).p (record {
+      debt = one.offset_debt;
+      coll = one.offset_coll;
+      total = total;
+    }) in
     if one.offset_debt == 0 then [] else Offset one.offset_debt one.offset_coll total rise ∷ []
 
 abbrev pub offset_events : State → List Victim → List PoolEvent
@@ -50,7 +54,8 @@ listed None = []
 listed (Some v) = v ∷ []
 
 abbrev pub one_values : Result One Refusal → List ℕ
-one_values (Ok one) = one.gas ∷ one.offset_debt ∷ one.offset_coll ∷ one.spread_debt ∷ one.spread_coll ∷ one.surplus ∷ []
+one_values (Ok one) = one.gas ∷ one.offset_debt ∷ one.offset_coll ∷ one.spread_debt
+    ∷ one.spread_coll ∷ one.surplus ∷ []
 one_values (Err refusal) = []
 
 abbrev pub liquidate_row : State → ℕ → ℕ → Row

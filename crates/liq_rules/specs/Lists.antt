@@ -12,10 +12,11 @@ use Rattle.liq_rules.specs.Rules.{rules}
 use Rattle.liq_rules.specs.Step.{accounts, first_refusal, in_range}
 use Rattle.liq_rules.specs.Verbs.{plans_list}
 
--- What the verb tests before its list. Of a redemption it is what is tested before any trove is visited; of the lowest
--- troves it is all, also whether the very last may be liquidated.
+-- What the verb tests before its list. Of a redemption it is what is tested before any trove is
+-- visited; of the lowest troves it is all, also whether the very last may be liquidated.
 abbrev pub rules_before_list : State → Call → List Rule
-rules_before_list s (Redeem account lusd bound hint) = asking_rules (market_of s) (wallet_of s account) lusd bound
+rules_before_list s (Redeem account lusd bound hint) =
+    asking_rules (market_of s) (wallet_of s account) lusd bound
 rules_before_list s call = rules s call
 
 -- what the verb tests before its list is passed
@@ -25,7 +26,8 @@ VerbPlansList s call = IsTrue (plans_list call) × (first_refusal (rules_before_
 -- and the accounts are in range
 abbrev pub CallPlansList : State → Call → Type 0
 CallPlansList s call =
-    IsTrue (plans_list call) × (first_refusal (map in_range (accounts call) ++ rules_before_list s call) ≡ None)
+    IsTrue (plans_list call)
+    × (first_refusal (map in_range (accounts call) ++ rules_before_list s call) ≡ None)
 
 -- and the command is its client's next
 pub record PlansList (s : State) (c : Command) : Type 0 where

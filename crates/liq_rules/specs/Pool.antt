@@ -1,4 +1,5 @@
--- The Stability Pool's depositors: LUSD is provided and withdrawn, and a gain moves into the owner's trove.
+-- The Stability Pool's depositors: LUSD is provided and withdrawn, and a gain moves into the
+-- owner's trove.
 use Rattle.std.specs.Prelude.{ℕ, nat_lt, is_none, min, Option, Some, None, List, [], ◌∷◌, if◌then◌else◌}
 use Rattle.liq_types.specs.declared.amounts.TheConstants.{MCR}
 use Rattle.liq_types.specs.declared.events.PoolEvent.TheVariants.{Own}

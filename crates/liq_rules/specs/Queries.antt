@@ -59,14 +59,18 @@ system s =
     ∷ []
 
 abbrev pub unless_out_of_range : ℕ → Reply → Reply
-unless_out_of_range account reply = if nat_le ACCOUNTS account then No (AccountRange account) else reply
+unless_out_of_range account reply = if nat_le ACCOUNTS account then No (AccountRange account)
+    else reply
 
 abbrev pub answer : State → Query → Reply
 answer s (query.Wallet account) =
     let w = wallet_of s account in
     unless_out_of_range account (Told (info.Wallet w.coll w.lusd))
-answer s (query.Trove account) = unless_out_of_range account (Told (trove_info s (at s.troves account)))
-answer s (query.Deposit account) = unless_out_of_range account (Told (deposit_info s account (at s.deposits account)))
+answer s (query.Trove account) =
+    unless_out_of_range account (Told (trove_info s (at s.troves account)))
+answer s (query.Deposit account) =
+    unless_out_of_range account (Told (deposit_info s account (at s.deposits account)))
 answer s query.Pools = Told (info.Pools (pools s))
 answer s query.System = Told (info.System (system s))
-answer s (query.NextNumber client) = unless_out_of_range client (Told (info.Next (next_number s client)))
+answer s (query.NextNumber client) =
+    unless_out_of_range client (Told (info.Next (next_number s client)))

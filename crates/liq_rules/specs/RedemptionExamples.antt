@@ -1,4 +1,5 @@
--- Worked examples of redemption: every refusal that a redeemer can meet, and a trove that is cut first and liquidated then.
+-- Worked examples of redemption: every refusal that a redeemer can meet, and a trove that is cut
+-- first and liquidated then.
 use Rattle.std.specs.Prelude.{List, [], ◌∷◌}
 use Rattle.liq_types.specs.declared.replies.Refusal.TheVariants.{NoTrove, RatioLow, NoGain, NotLiquidatable, SystemUnder, NothingRedeemed, FeeEatsAll}
 use Rattle.liq_types.specs.declared.replies.Reply.{Reply}

@@ -1,5 +1,5 @@
--- Rotation: the journal begins anew from a checkpoint, under the widest limit. What it refuses are the journal's limits
--- alone, which need the whole command and come last.
+-- Rotation: the journal begins anew from a checkpoint, under the widest limit. What it refuses are
+-- the journal's limits alone, which need the whole command and come last.
 use Rattle.std.specs.Prelude.{◌+◌, [], ◌∷◌}
 use Rattle.liq_types.specs.declared.amounts.TheConstants.{LIM}
 use Rattle.liq_types.specs.State.{State}

@@ -1,4 +1,5 @@
--- The row of a verb: all that the rules say of it, beside its place in the list and the accounts that it names.
+-- The row of a verb: all that the rules say of it, beside its place in the list and the accounts
+-- that it names.
 use Rattle.std.specs.Prelude.{ℕ, ◌==◌, List}
 use Rattle.liq_types.specs.declared.events.ListChange.{ListChange}
 use Rattle.liq_types.specs.declared.events.PoolEvent.{PoolEvent}

@@ -25,7 +25,12 @@ row s (Take account coll) = take_row s account coll
 row s (Send from to lusd) = send_row s from to lusd
 row s (Open account coll borrow bound hint) = open_row s account coll borrow bound
 row s (Adjust account coll_in coll_out borrow repay bound hint) =
-    adjust_row s account (record { coll_in = coll_in; coll_out = coll_out; borrow = borrow; repay = repay }) bound
+    adjust_row s account (record {
+      coll_in = coll_in;
+      coll_out = coll_out;
+      borrow = borrow;
+      repay = repay;
+    }) bound
 row s (Close account) = close_row s account
 row s (Provide account lusd) = provide_row s account lusd
 row s (Withdraw account lusd) = withdraw_row s account lusd

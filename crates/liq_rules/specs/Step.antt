@@ -34,7 +34,10 @@ abbrev pub is_repeated : State → Command → Bool
 is_repeated s c = c.number == (client_of s c.client).last && not (c.number == 0)
 
 abbrev pub in_turn : State → Command → Rule
-in_turn s c = (not (c.number == (client_of s c.client).last + 1), OutOfTurn (next_number s c.client))
+in_turn s c = (
+  not (c.number == (client_of s c.client).last + 1),
+  OutOfTurn (next_number s c.client),
+)
 
 -- ---- what a command leaves
 
@@ -55,8 +58,8 @@ after s c = noted (effect s c.call) c (done_of s c.call)
 
 -- ---- the journal's limits
 
--- A journal is full until it is rotated, and there are only so many generations, each with a checkpoint of limited
--- length.
+-- A journal is full until it is rotated, and there are only so many generations, each with a
+-- checkpoint of limited length.
 abbrev pub room_rules : State → Command → List Rule
 room_rules s c =
     if rotates c.call
@@ -80,7 +83,8 @@ unless_refused (Some refusal) ruling = Refused refusal
 abbrev pub tests : State → Command → List Rule
 tests s c = in_turn s c ∷ map in_range (accounts c.call) ++ rules s c.call ++ room_rules s c
 
--- by the client, its number, the accounts, what the verb tests and the journal's limits, in this order
+-- by the client, its number, the accounts, what the verb tests and the journal's limits, in this
+-- order
 abbrev pub ruling : State → Command → Ruling
 ruling s c =
     unless_refused (first_refusal (in_range c.client ∷ []))

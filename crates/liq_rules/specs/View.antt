@@ -15,7 +15,12 @@ use Rattle.liq_rules.specs.Verbs.{kind}
 
 abbrev pub view_of : State → View
 view_of s =
-    record { list = trove_order s; snap_stakes = s.snap_stakes; snap_coll = s.snap_coll; sum_debt = (sums_now s).debt }
+    record {
+      list = trove_order s;
+      snap_stakes = s.snap_stakes;
+      snap_coll = s.snap_coll;
+      sum_debt = (sums_now s).debt;
+    }
 
 -- the view after so many entries of a history
 abbrev pub view_after : State → List Entry → ℕ → View

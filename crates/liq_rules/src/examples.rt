@@ -1,5 +1,5 @@
-//! Worked examples: what the rules give, run by hand. The functions here do nothing; each is the place where the facts of
-//! its contract are proved.
+//! Worked examples: what the rules give, run by hand. The functions here do nothing; each is the
+//! place where the facts of its contract are proved.
 
 ghost use Rattle.std.specs.Prelude.{◌≡◌, [], ◌∷◌, pos, take};
 ghost use Rattle.liq_types.specs.declared.events.ListChange.TheVariants.{Put, Gone, Words};
@@ -52,7 +52,8 @@ pub fn trove_under_example()
     ensures { (run opening trove_under).1 ≡ trove_under_replies }
 {}
 
-/// In Recovery Mode a trove at 100 percent goes to the other troves alone, and a unit of each stays as dust.
+/// In Recovery Mode a trove at 100 percent goes to the other troves alone, and a unit of each stays
+/// as dust.
 pub fn at_the_whole_example()
     ensures { (run opening at_the_whole).1 ≡ at_the_whole_replies }
 {}
@@ -132,27 +133,32 @@ pub fn adjusting_to_limits_example()
     ensures { (run opening adjusting_to_limits).1 ≡ adjusting_to_limits_replies }
 {}
 
-/// The totals would fall below the critical ratio; and a deposit without a gain has nothing to move.
+/// The totals would fall below the critical ratio; and a deposit without a gain has nothing to
+/// move.
 pub fn totals_too_low_example()
     ensures { (run opening totals_too_low).1 ≡ totals_too_low_replies }
 {}
 
-/// In Recovery Mode no borrowing may lower its trove's ratio, and a trove above the ratio of the totals is not liquidated.
+/// In Recovery Mode no borrowing may lower its trove's ratio, and a trove above the ratio of the
+/// totals is not liquidated.
 pub fn ratio_falls_example()
     ensures { (run opening ratio_falls).1 ≡ ratio_falls_replies }
 {}
 
-/// A redemption that would leave too little debt, one whose fee would eat all of it, and one below the least ratio.
+/// A redemption that would leave too little debt, one whose fee would eat all of it, and one below
+/// the least ratio.
 pub fn nothing_to_redeem_example()
     ensures { (run opening nothing_to_redeem).1 ≡ nothing_to_redeem_replies }
 {}
 
-/// A trove is cut by a redemption, and liquidated when the price falls; the pool takes over a part of its debt.
+/// A trove is cut by a redemption, and liquidated when the price falls; the pool takes over a part
+/// of its debt.
 pub fn redeemed_and_struck_example()
     ensures { (run opening redeemed_and_struck).1 ≡ redeemed_and_struck_replies }
 {}
 
-/// A full journal refuses what the rules would allow, until it is rotated; what the rules refuse is refused before.
+/// A full journal refuses what the rules would allow, until it is rotated; what the rules refuse is
+/// refused before.
 pub fn full_journal_example()
     ensures { (run with_full_journal full_journal).1 ≡ full_journal_replies }
 {}
@@ -180,14 +186,26 @@ pub fn events_example()
 
 /// What opening, adjusting, liquidating and closing do to the ordered list.
 pub fn changes_example()
-    ensures opened { call_changes (run opening bringing_in).0 (Open 1 10000000000 4000000000 1000000000000000000 no_hint) ≡ Put (pos 422000000000000000) 1 ∷ [] }
-    ensures adjusted { call_changes (run opening (take 10 adjusting_and_closing)).0 (Adjust 1 0 2000000000 0 0 0 no_hint) ≡ Put (pos 736666666666666666) 1 ∷ [] }
-    ensures adjusted_again { call_changes (run opening (take 11 adjusting_and_closing)).0 (Adjust 1 1000000000 0 1000000000 0 1000000000000000000 no_hint) ≡ Put (pos 803750000000000000) 1 ∷ [] }
-    ensures closed { call_changes (run opening (take 16 adjusting_and_closing)).0 (Close 1) ≡ Gone 1 ∷ [] }
-    ensures liquidated { call_changes (run opening (take 6 pool_and_others)).0 (Liquidate 3 1) ≡ Gone 1 ∷ Words 100000000000 100518720380 2200000000000000 ∷ [] }
+    ensures opened { call_changes (run opening bringing_in).0
+        (Open 1 10000000000 4000000000 1000000000000000000 no_hint)
+        ≡ Put (pos 422000000000000000) 1 ∷ [] }
+    ensures adjusted { call_changes (run opening (take 10 adjusting_and_closing)).0
+        (Adjust 1 0 2000000000 0 0 0 no_hint) ≡ Put (pos 736666666666666666) 1 ∷ [] }
+    ensures adjusted_again { call_changes (run opening (take 11 adjusting_and_closing)).0
+        (Adjust 1 1000000000 0 1000000000 0 1000000000000000000 no_hint)
+        ≡ Put (pos 803750000000000000) 1 ∷ [] }
+    ensures closed { call_changes (run opening (take 16 adjusting_and_closing)).0 (Close 1)
+        ≡ Gone 1 ∷ [] }
+    ensures liquidated { call_changes (run opening (take 6 pool_and_others)).0 (Liquidate 3 1)
+        ≡ Gone 1 ∷ Words 100000000000 100518720380 2200000000000000 ∷ [] }
 {}
 
 /// A unit of collateral and of debt stays in the default pool, and no pool owes more than it has.
 pub fn dust_example()
-    ensures { dust (run opening at_the_whole).0 ≡ record { pool_total = pos 0; pool_coll = pos 0; default_coll = pos 1; default_debt = pos 1 } }
+    ensures { dust (run opening at_the_whole).0 ≡ record {
+      pool_total = pos 0;
+      pool_coll = pos 0;
+      default_coll = pos 1;
+      default_debt = pos 1;
+    } }
 {}

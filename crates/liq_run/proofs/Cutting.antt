@@ -19,11 +19,13 @@ use Rattle.liq_lines.specs.Saying.{BeginsWith}
 use Rattle.liq_text.specs.Replies.{reply_line}
 
 -- one front goes on past the other, or it ends within it
-front_split : (xs ys zs ws : List ℕ) → xs ++ ys ≡ zs ++ ws → ((t : List ℕ) × (zs ≡ xs ++ t) × (ys ≡ t ++ ws)) ⊎ ((b : ℕ) × (t : List ℕ) × (xs ≡ zs ++ b ∷ t))
+front_split : (xs ys zs ws : List ℕ) → xs ++ ys ≡ zs ++ ws → ((t : List ℕ) × (zs ≡ xs ++ t) × (ys ≡ t ++ ws))
+    ⊎ ((b : ℕ) × (t : List ℕ) × (xs ≡ zs ++ b ∷ t))
 front_split [] ys zs ws e = inl (zs, refl, e)
 front_split (x ∷ xs) ys [] ws e = inr (x, xs, refl)
 front_split (x ∷ xs) ys (z ∷ zs) ws e = by (front_split xs ys zs ws cc) where
-  by : ((t : List ℕ) × (zs ≡ xs ++ t) × (ys ≡ t ++ ws)) ⊎ ((b : ℕ) × (t : List ℕ) × (xs ≡ zs ++ b ∷ t)) → ((t : List ℕ) × (z ∷ zs ≡ x ∷ xs ++ t) × (ys ≡ t ++ ws)) ⊎ ((b : ℕ) × (t : List ℕ) × (x ∷ xs ≡ z ∷ zs ++ b ∷ t))
+  by : ((t : List ℕ) × (zs ≡ xs ++ t) × (ys ≡ t ++ ws)) ⊎ ((b : ℕ) × (t : List ℕ) × (xs ≡ zs ++ b ∷ t))
+      → ((t : List ℕ) × (z ∷ zs ≡ x ∷ xs ++ t) × (ys ≡ t ++ ws)) ⊎ ((b : ℕ) × (t : List ℕ) × (x ∷ xs ≡ z ∷ zs ++ b ∷ t))
   by (inl h) = inl (h.0, cc (e, h.1), h.2)
   by (inr h) = inr (h.0, h.1, cc (e, h.2))
 
@@ -43,11 +45,15 @@ nothing_missing : (part missing : List ℕ) → [] ≡ part ++ missing → missi
 nothing_missing [] missing e = sym e
 nothing_missing (x ∷ part) missing e = absurd cc
 
-cut_at : (s : State) (rs : List Request) (part missing : List ℕ) → lines s rs ≡ part ++ missing → missing ≢ [] → CutAt s rs part
+cut_at : (s : State) (rs : List Request) (part missing : List ℕ) → lines s rs ≡ part ++ missing → missing ≢ []
+    → CutAt s rs part
 cut_at s [] part missing e some = absurd (some (nothing_missing part missing e))
 cut_at s (q ∷ rs) part missing e some =
-    by (λ t e'. cut_at (step s q).0 rs t missing e' some) (front_split (reply_line (step s q).1) (lines (step s q).0 rs) part missing e) where
-      by : ((t : List ℕ) → lines (step s q).0 rs ≡ t ++ missing → CutAt (step s q).0 rs t) → ((t : List ℕ) × (part ≡ reply_line (step s q).1 ++ t) × (lines (step s q).0 rs ≡ t ++ missing)) ⊎ ((b : ℕ) × (t : List ℕ) × (reply_line (step s q).1 ≡ part ++ b ∷ t)) → CutAt s (q ∷ rs) part
+    by (λ t e'. cut_at (step s q).0 rs t missing e' some) (front_split (reply_line (step s q).1) (lines (step s q).0 rs)
+    part missing e) where
+      by : ((t : List ℕ) → lines (step s q).0 rs ≡ t ++ missing → CutAt (step s q).0 rs t)
+          → ((t : List ℕ) × (part ≡ reply_line (step s q).1 ++ t) × (lines (step s q).0 rs ≡ t ++ missing))
+          ⊎ ((b : ℕ) × (t : List ℕ) × (reply_line (step s q).1 ≡ part ++ b ∷ t)) → CutAt s (q ∷ rs) part
       by rec (inl h) =
           let reply = reply_line (step s q).1 in
           let c = rec h.0 h.2 in
@@ -57,10 +63,12 @@ cut_at s (q ∷ rs) part missing e some =
             later = c.later;
             split = ap (λ (l : List Request). q ∷ l) c.split;
             tail = c.tail;
-            behind = h.1 ∙ ap (λ (t : List ℕ). reply ++ t) c.behind ∙ sym (append_assoc reply (lines (step s q).0 c.earlier) c.tail);
+            behind = h.1 ∙ ap (λ (t : List ℕ). reply ++ t) c.behind
+                ∙ sym (append_assoc reply (lines (step s q).0 c.earlier) c.tail);
             missing = c.missing;
             some = c.some;
-            whole = ap (λ (t : List ℕ). reply ++ t) c.whole ∙ sym (append_assoc reply h.0 c.missing) ∙ ap (λ (t : List ℕ). t ++ c.missing) (sym h.1);
+            whole = ap (λ (t : List ℕ). reply ++ t) c.whole ∙ sym (append_assoc reply h.0 c.missing)
+                ∙ ap (λ (t : List ℕ). t ++ c.missing) (sym h.1);
           }
       by rec (inr h) = record {
         earlier = [];
@@ -76,14 +84,16 @@ cut_at s (q ∷ rs) part missing e some =
 
 -- ---- the requests up to the cut
 
-spelled_front : (lines : List (List ℕ)) (xs ys : List Request) → AllZip IsRequest lines (xs ++ ys) → (front : List (List ℕ)) × (back : List (List ℕ)) × (lines ≡ front ++ back) × AllZip IsRequest front xs
+spelled_front : (lines : List (List ℕ)) (xs ys : List Request) → AllZip IsRequest lines (xs ++ ys)
+    → (front : List (List ℕ)) × (back : List (List ℕ)) × (lines ≡ front ++ back) × AllZip IsRequest front xs
 spelled_front lines [] ys h = ([], lines, refl, tt)
 spelled_front [] (x ∷ xs) ys h = absurd h
 spelled_front (line ∷ lines) (x ∷ xs) ys h =
     let f = spelled_front lines xs ys h.1 in
     (line ∷ f.0, f.1, ap (λ (ls : List (List ℕ)). line ∷ ls) f.2, (h.0, f.3))
 
-begins_front : (bytes : List ℕ) (xs ys : List Request) (more : List (List ℕ)) → BeginsWith IsRequest bytes (xs ++ ys) more → (later : List (List ℕ)) × BeginsWith IsRequest bytes xs later
+begins_front : (bytes : List ℕ) (xs ys : List Request) (more : List (List ℕ))
+    → BeginsWith IsRequest bytes (xs ++ ys) more → (later : List (List ℕ)) × BeginsWith IsRequest bytes xs later
 begins_front bytes xs ys more h =
     let f = spelled_front h.0 xs ys h.1 in
     (f.1 ++ more, (f.0, f.3, h.2 ∙ ap (λ (ls : List (List ℕ)). ls ++ more) f.2 ∙ append_assoc f.0 f.1 more))
@@ -92,19 +102,30 @@ missing_some : (k : ℕ) (xs : List ℕ) → k < length xs → drop k xs ≢ []
 missing_some k xs lt e = omega (arith, length-drop k xs, ap length e)
 
 -- what misses something behind a front is longer than it
-cut_behind : (front part missing whole : List ℕ) → missing ≢ [] → whole ≡ (front ++ part) ++ missing → length front < length whole
+cut_behind : (front part missing whole : List ℕ) → missing ≢ [] → whole ≡ (front ++ part) ++ missing
+    → length front < length whole
 cut_behind front part [] whole some is = absurd (some refl)
-cut_behind front part (x ∷ missing) whole some is = omega (arith, ap length is, length-append (front ++ part) (x ∷ missing), length-append front part)
+cut_behind front part (x ∷ missing) whole some is =
+    omega (arith, ap length is, length-append (front ++ part) (x ∷ missing), length-append front part)
 
-pub cut_comes : (start : State) (core : Core) (past : List Request → Type 0) (kept : State → Request → Type 0) (stopped : List Request → Request → Type 0) → (told : Option (List ℕ)) (requests : List Request) (left : Option (List ℕ)) (waited waits : List ℕ) (before now after : Option (List ℕ)) → length requests ≤ LINES_MOST → Begins told requests → Written start requests waited before now → StandsFor core (run start requests).0 → past requests → WritesPart now waited after → Comes start (Err WriteFault) core past kept stopped told left waits before after
-cut_comes start core past kept stopped told requests left waited waits before now after few begins written stands passed part =
+pub cut_comes : (start : State) (core : Core) (past : List Request → Type 0) (kept : State → Request
+    → Type 0) (stopped : List Request → Request → Type 0) → (told : Option (List ℕ)) (requests : List Request) (left :
+    Option (List ℕ)) (waited waits : List ℕ) (before now after : Option (List ℕ)) → length requests ≤ LINES_MOST
+    → Begins told requests → Written start requests waited before now → StandsFor core (run start requests).0
+    → past requests → WritesPart now waited after
+    → Comes start (Err WriteFault) core past kept stopped told left waits before after
+cut_comes start core past kept stopped told requests left waited waits before now after few begins written stands
+    passed part =
     let k = part.0 in
-    let all = written.replies ∙ ap (λ (t : List ℕ). written.front ++ t) (sym (take-append-drop k waited)) ∙ sym (append_assoc written.front (take k waited) (drop k waited)) in
+    let all = written.replies ∙ ap (λ (t : List ℕ). written.front ++ t) (sym (take-append-drop k waited))
+    ∙ sym (append_assoc written.front (take k waited) (drop k waited)) in
     let c = cut_at start requests (written.front ++ take k waited) (drop k waited) all (missing_some k waited part.1) in
     let same = c.split ∙ sym (append_assoc c.earlier (c.request ∷ []) c.later) in
-    let steady = written.steady c.earlier c.later c.request c.split (cut_behind written.front (take k waited) c.missing _ c.some c.whole) in
+    let steady = written.steady c.earlier c.later c.request c.split (cut_behind written.front (take k waited) c.missing
+    _ c.some c.whole) in
     let begun : Begins told (c.earlier ++ c.request ∷ []) =
-    IfSome_then told (subst (Begins told) same begins) (λ bytes b. begins_front bytes (c.earlier ++ c.request ∷ []) c.later b.0 b.1) in
+    IfSome_then told (subst (Begins told) same begins) (λ bytes b. begins_front bytes (c.earlier ++ c.request
+    ∷ []) c.later b.0 b.1) in
     record {
       requests = c.earlier ++ c.request ∷ [];
       few = omega (arith, few, ap length same, length-append (c.earlier ++ c.request ∷ []) c.later);

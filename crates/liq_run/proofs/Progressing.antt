@@ -15,13 +15,16 @@ pub after-more : (s : State) (rs : List Request) (r : Request) → (run s (rs ++
 after-more s [] r = refl
 after-more s (q ∷ rs) r = after-more (step s q).0 rs r
 
-pub lines-more : (s : State) (rs : List Request) (r : Request) → lines s (rs ++ r ∷ []) ≡ lines s rs ++ reply_line (step (run s rs).0 r).1
+pub lines-more : (s : State) (rs : List Request) (r : Request)
+    → lines s (rs ++ r ∷ []) ≡ lines s rs ++ reply_line (step (run s rs).0 r).1
 lines-more s [] r = append-nil (reply_line (step s r).1)
 lines-more s (q ∷ rs) r =
     ap (λ (t : List ℕ). reply_line (step s q).1 ++ t) (lines-more (step s q).0 rs r)
-    ∙ sym (append_assoc (reply_line (step s q).1) (lines (step s q).0 rs) (reply_line (step (run (step s q).0 rs).0 r).1))
+    ∙ sym (append_assoc (reply_line (step s q).1) (lines (step s q).0 rs)
+    (reply_line (step (run (step s q).0 rs).0 r).1))
 
-pub requests-more : (front : List (List ℕ)) (rs : List Request) (line : List ℕ) (r : Request) → AllZip IsRequest front rs → IsRequest line r → AllZip IsRequest (front ++ line ∷ []) (rs ++ r ∷ [])
+pub requests-more : (front : List (List ℕ)) (rs : List Request) (line : List ℕ) (r : Request)
+    → AllZip IsRequest front rs → IsRequest line r → AllZip IsRequest (front ++ line ∷ []) (rs ++ r ∷ [])
 requests-more [] [] line r h k = (k, tt)
 requests-more [] (q ∷ rs) line r h k = absurd h
 requests-more (l ∷ front) [] line r h k = absurd h

@@ -13,7 +13,8 @@ pub same_halt : {T : Type 0} (end : Result T Halt) (halt other : Halt) → end �
 same_halt end halt other is so = cc
 
 -- writing fails at the sink alone
-pub cut_at : (end : Result (Unit {0}) Halt) (halt : Halt) (waited waits : List ℕ) (before after : Option (List ℕ)) → IsErrAnd end (λ h. h ≡ halt) → WritesFront (Err halt) waited waits before after → end ≡ Err WriteFault
+pub cut_at : (end : Result (Unit {0}) Halt) (halt : Halt) (waited waits : List ℕ) (before after : Option (List ℕ))
+    → IsErrAnd end (λ h. h ≡ halt) → WritesFront (Err halt) waited waits before after → end ≡ Err WriteFault
 cut_at end WriteFault waited waits before after is writes = handed_on end WriteFault is
 cut_at end (BadLine n) waited waits before after is writes = absurd writes
 cut_at end ReadFault waited waits before after is writes = absurd writes

@@ -19,10 +19,13 @@ hit asker session = one_if (asker == session)
 own : List (ℕ × Request) → ℕ → ℕ
 own asked session = length (requests_of asked session)
 
-own-cons : (a : ℕ × Request) (asked : List (ℕ × Request)) (session : ℕ) → own (a ∷ asked) session ≡ hit a.0 session + own asked session
+own-cons : (a : ℕ × Request) (asked : List (ℕ × Request)) (session : ℕ)
+    → own (a ∷ asked) session ≡ hit a.0 session + own asked session
 unfolding own
 own-cons a asked session = by (a.0 == session) where
-  by : (b : Bool) → length (map (λ (x : ℕ × Request). x.1) (cond b (a ∷ filter (λ (x : ℕ × Request). x.0 == session) asked) (filter (λ (x : ℕ × Request). x.0 == session) asked)))
+  by : (b : Bool)
+      → length (map (λ (x : ℕ × Request). x.1) (cond b (a ∷ filter (λ (x : ℕ × Request). x.0 == session) asked)
+      (filter (λ (x : ℕ × Request). x.0 == session) asked)))
       ≡ one_if b + length (map (λ (x : ℕ × Request). x.1) (filter (λ (x : ℕ × Request). x.0 == session) asked))
   by true = omega arith
   by false = omega arith
@@ -44,27 +47,48 @@ whose asker session = by (asker == session) refl where
 hits_later : (asker first count : ℕ) → asker < first → hits asker (from first count) ≡ 0
 unfolding hits from
 hits_later asker first zero later = refl
-hits_later asker first (suc count) later = sum_by-cons (hit asker) first (from (suc first) count) ∙ by (whose asker first) (hits_later asker (suc first) count (omega arith)) where
-  by : (hit asker first ≡ 0) ⊎ ((asker ≡ first) × (hit asker first ≡ 1)) → hits asker (from (suc first) count) ≡ 0 → hit asker first + hits asker (from (suc first) count) ≡ 0
-  by (inl other) none = omega arith
-  by (inr same) none = absurd (omega (arith, same.0, later))
+hits_later asker first (suc count) later = sum_by-cons (hit asker) first (from (suc first) count)
+    ∙ by (whose asker first) (hits_later asker (suc first) count (omega arith)) where
+      by : (hit asker first ≡ 0) ⊎ ((asker ≡ first) × (hit asker first ≡ 1)) → hits asker (from (suc first) count) ≡ 0
+          → hit asker first + hits asker (from (suc first) count) ≡ 0
+      by (inl other) none = omega arith
+      by (inr same) none = absurd (omega (arith, same.0, later))
 
 -- who asks is one of them at most
 hits_few : (asker first count : ℕ) → hits asker (from first count) ≤ 1
 unfolding hits from
 hits_few asker first zero = omega arith
-hits_few asker first (suc count) = by (whose asker first) (sum_by-cons (hit asker) first (from (suc first) count)) (hits_few asker (suc first) count) where
-  by : (hit asker first ≡ 0) ⊎ ((asker ≡ first) × (hit asker first ≡ 1)) → hits asker (first ∷ from (suc first) count) ≡ hit asker first + hits asker (from (suc first) count)
-      → hits asker (from (suc first) count) ≤ 1 → hits asker (first ∷ from (suc first) count) ≤ 1
-  by (inl other) all later = omega arith
-  by (inr same) all later = omega (arith, same.0, same.1, all, hits_later asker (suc first) count (omega (arith, same.0)))
+hits_few asker first (suc count) = by (whose asker first) (sum_by-cons (hit asker) first (from (suc first) count))
+    (hits_few asker (suc first) count) where
+      by : (hit asker first ≡ 0) ⊎ ((asker ≡ first) × (hit asker first ≡ 1)) → hits asker (first ∷ from (suc first) count)
+          ≡ hit asker first + hits asker (from (suc first) count)
+          → hits asker (from (suc first) count) ≤ 1 → hits asker (first ∷ from (suc first) count) ≤ 1
+      by (inl other) all later = omega arith
+      by (inr same) all later = omega (
+        arith,
+        same.0,
+        same.1,
+        all,
+        hits_later asker (suc first) count (omega (
+          arith,
+          same.0,
+        )),
+      )
 
 -- one request more
-owns-cons : (a : ℕ × Request) (asked : List (ℕ × Request)) (list : List ℕ) → sum_by (own (a ∷ asked)) list ≡ hits a.0 list + sum_by (own asked) list
+owns-cons : (a : ℕ × Request) (asked : List (ℕ × Request)) (list : List ℕ) → sum_by (own (a ∷ asked)) list
+    ≡ hits a.0 list + sum_by (own asked) list
 unfolding hits
 owns-cons a asked [] = refl
 owns-cons a asked (session ∷ list) =
-    omega (arith, sum_by-cons (own (a ∷ asked)) session list, sum_by-cons (own asked) session list, sum_by-cons (hit a.0) session list, own-cons a asked session, owns-cons a asked list)
+    omega (
+      arith,
+      sum_by-cons (own (a ∷ asked)) session list,
+      sum_by-cons (own asked) session list,
+      sum_by-cons (hit a.0) session list,
+      own-cons a asked session,
+      owns-cons a asked list,
+    )
 
 owns-nil : (list : List ℕ) → sum_by (own []) list ≡ 0
 unfolding own
@@ -73,9 +97,15 @@ owns-nil (session ∷ list) = omega (arith, sum_by-cons (own []) session list, o
 
 owns_few : (asked : List (ℕ × Request)) (first count : ℕ) → sum_by (own asked) (from first count) ≤ length asked
 owns_few [] first count = omega (arith, owns-nil (from first count))
-owns_few (a ∷ asked) first count = omega (arith, owns-cons a asked (from first count), hits_few a.0 first count, owns_few asked first count)
+owns_few (a ∷ asked) first count = omega (
+  arith,
+  owns-cons a asked (from first count),
+  hits_few a.0 first count,
+  owns_few asked first count,
+)
 
-scripts-owns : (asked : List (ℕ × Request)) (list : List ℕ) → sum_by (λ (script : Script). length script.requests) (map (script_of asked) list) ≡ sum_by (own asked) list
+scripts-owns : (asked : List (ℕ × Request)) (list : List ℕ)
+    → sum_by (λ (script : Script). length script.requests) (map (script_of asked) list) ≡ sum_by (own asked) list
 unfolding own
 scripts-owns asked [] = refl
 scripts-owns asked (session ∷ list) =
@@ -90,8 +120,10 @@ sessions-from : sessions ≡ from 1 8
 unfolding from
 sessions-from = refl
 
-pub few_requests : (asked : List (ℕ × Request)) (scripts : List Script) → scripts ≡ scripts_of asked → length asked ≤ LINES_MOST → sum_by (λ (script : Script). length script.requests) scripts ≤ LINES_MOST
+pub few_requests : (asked : List (ℕ × Request)) (scripts : List Script) → scripts ≡ scripts_of asked
+    → length asked ≤ LINES_MOST → sum_by (λ (script : Script). length script.requests) scripts ≤ LINES_MOST
 few_requests asked scripts is few =
     let all : sum_by (λ (script : Script). length script.requests) scripts ≡ sum_by (own asked) (from 1 8) =
-    ap (sum_by (λ (script : Script). length script.requests)) is ∙ (scripts-owns asked sessions ∙ ap (sum_by (own asked)) sessions-from) in
+    ap (sum_by (λ (script : Script). length script.requests)) is ∙ (scripts-owns asked sessions
+    ∙ ap (sum_by (own asked)) sessions-from) in
     omega (arith, all, owns_few asked 1 8, few)

@@ -1,4 +1,4 @@
-pub mod Few
-pub mod Own
-pub mod Reading
-pub mod Sent
+mod Few
+mod Own
+mod Reading
+mod Sent

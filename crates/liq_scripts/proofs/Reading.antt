@@ -11,8 +11,17 @@ use Rattle.liq_scripts.specs.BySession.{scripts_of}
 use Rattle.liq_scripts.specs.Gathering.{Gathers}
 
 -- reading stopped, whatever it was to give
-pub scripts_stopped : {T : Type 0} (Has : T → List (ℕ × Request) → Type 0) (stop : Stop) (before left : Option (List ℕ)) → lines.Gathers Asks Has (Err stop) before left → Gathers (Err stop) before left
+pub scripts_stopped : {T : Type 0} (Has : T → List (ℕ × Request) → Type 0) (stop : Stop) (before left : Option (List ℕ))
+    → lines.Gathers Asks Has (Err stop) before left → Gathers (Err stop) before left
 scripts_stopped Has stop before left h = record { asked = h.said; few = h.few; scripts = tt; read = h.read }
 
-pub scripts_done : (kept : List Script) (scripts : Vec Script Global) (before left : Option (List ℕ)) → scripts.items ≡ kept → lines.Gathers {T = Unit {0}} Asks (λ done asked. kept ≡ scripts_of asked) (Ok tt) before left → Gathers (Ok scripts) before left
-scripts_done kept scripts before left same h = record { asked = h.said; few = h.few; scripts = same ∙ h.has; read = h.read }
+pub scripts_done : (kept : List Script) (scripts : Vec Script Global) (before left : Option (List ℕ))
+    → scripts.items ≡ kept → lines.Gathers {T = Unit {0}} Asks (λ done asked. kept ≡ scripts_of asked)
+    (Ok tt) before left → Gathers (Ok scripts) before left
+scripts_done kept scripts before left same h = record {
+  asked = h.said;
+  few = h.few;
+  scripts = same
+      ∙ h.has;
+  read = h.read;
+}

@@ -6,7 +6,8 @@ use Rattle.liq_scripts.specs.Sessions.{sessions}
 
 -- what a session asks, in order
 abbrev pub requests_of : List (ℕ × Request) → ℕ → List Request
-requests_of asked session = map (λ (a : ℕ × Request). a.1) (filter (λ (a : ℕ × Request). a.0 == session) asked)
+requests_of asked session = map (λ (a : ℕ × Request). a.1) (filter (λ (a : ℕ × Request). a.0
+    == session) asked)
 
 abbrev pub script_of : List (ℕ × Request) → ℕ → Script
 script_of asked session = record { session = session; requests = requests_of asked session }

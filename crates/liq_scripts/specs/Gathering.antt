@@ -10,13 +10,16 @@ use Rattle.liq_sessions.specs.declared.script.Script.{Script}
 use Rattle.liq_scripts.specs.Asked.{Asks}
 use Rattle.liq_scripts.specs.BySession.{scripts_of}
 
--- how reading the bytes ended after the lines that ask this: they are all, and the source is at its end, or it stopped
+-- how reading the bytes ended after the lines that ask this: they are all, and the source is at its
+-- end, or it stopped
 abbrev pub EndsAfter :
     {T : Type 0} → Result T Stop → List ℕ → Option (List ℕ) → List (ℕ × Request) → Type 0
 EndsAfter end bytes left asked = lines.EndsAfter Asks end bytes left asked
 
--- What was asked is in the scripts, in order. It is what the lines asked, where the source told its bytes.
-pub record Gathers (result : Result (Vec Script Global) Stop) (before left : Option (List ℕ)) : Type 0 where
+-- What was asked is in the scripts, in order. It is what the lines asked, where the source told its
+-- bytes.
+pub record Gathers (result : Result (Vec Script Global) Stop) (before left : Option (List ℕ)) :
+    Type 0 where
   pub asked : List (ℕ × Request)
   pub few : length asked ≤ LINES_MOST
   pub scripts : IfOk result (λ scripts. scripts.items ≡ scripts_of asked)

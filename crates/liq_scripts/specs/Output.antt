@@ -12,8 +12,8 @@ session_text session (first ∷ own) =
     (codes "session " ++ decimal session ++ 10 ∷ [])
     ++ flat_map (λ (e : Entry). reply_line e.reply) (first ∷ own)
 
--- What is written of a history: the replies, session by session, and then who was answered when, in its order: each
--- entry's session, and its number among the session's own.
+-- What is written of a history: the replies, session by session, and then who was answered when, in
+-- its order: each entry's session, and its number among the session's own.
 abbrev pub served : List Entry → List ℕ
 served history =
     flat_map (λ session. session_text session (own_entries session history)) sessions

@@ -20,7 +20,8 @@ heading session = codes "session " ++ decimal session ++ 10 ∷ []
 
 -- the replies of all sessions
 abbrev pub replies_text : List history.Entry → List ℕ
-replies_text entries = flat_map (λ session. session_text session (own_entries session entries)) sessions
+replies_text entries = flat_map (λ session. session_text session (own_entries session entries))
+    sessions
 
 abbrev pub line_text : Line → List ℕ
 line_text (Session session) = heading session
@@ -37,8 +38,8 @@ part_text Call e = line_text (Entry e.session e.index)
 abbrev pub history_text : List history.Entry → List ℕ
 history_text entries = flat_map (part_text Call) entries
 
--- The bytes went behind those that waited: a front of these is written, and the rest waits. Or the sink met a fault,
--- and a part of these is written.
+-- The bytes went behind those that waited: a front of these is written, and the rest waits. Or the
+-- sink met a fault, and a part of these is written.
 abbrev pub Sends :
     Result (Unit {0}) Failed → List ℕ → List ℕ → List ℕ → Option (List ℕ) → Option (List ℕ)
     → Type 0

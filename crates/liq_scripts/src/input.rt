@@ -18,11 +18,11 @@ use liq_types::NoMemory;
 use liq_types::amounts::LINES_MOST;
 use std::alloc::Global;
 
-/// Reads the source to its end, each line a session and its request, and gives the scripts of the eight sessions, in order. It
-/// stops at the first of these:
+/// Reads the source to its end, each line a session and its request, and gives the scripts of the
+/// eight sessions, in order. It stops at the first of these:
 ///
-/// - [`Stop::BadLine`]: the line of this number, counted from 1, asks nothing: it spells no session from 1 to 8 and request, or
-///   one that the protocol has not yet;
+/// - [`Stop::BadLine`]: the line of this number, counted from 1, asks nothing: it spells no
+///   session from 1 to 8 and request, or one that the protocol has not yet;
 /// - [`Stop::ReadFault`]: the source met a fault;
 /// - [`Stop::NoMemory`]: there was no memory;
 /// - [`Stop::Limit`]: a line behind the last that is answered begins.
@@ -36,7 +36,8 @@ pub fn read_scripts<S: Source>(alloc: Global, input: &mut S) -> Result<Vec<Scrip
         (S.at input.new).left }
     ensures source { ReadCause result (S.at input.old).faults (S.at input.new).faults }
 
-    // Where each line asks something, none is too many and the source meets no fault, memory alone can be missing.
+    // Where each line asks something, none is too many and the source meets no fault, memory alone
+    // can be missing.
     ensures complete { (bytes : List ℕ) → (S.at input.old).left ≡ Some bytes
         → (asked : List (ℕ × Request)) → AllZip Asks (lines_in bytes) asked
         → length asked ≤ LINES_MOST → (Rose (S.at input.old).faults (S.at input.new).faults → ⊥)

@@ -1,5 +1,5 @@
-//! What sessions ask and what they are answered: the scripts of eight sessions, read from the lines of a source, and a history,
-//! written to a sink.
+//! What sessions ask and what they are answered: the scripts of eight sessions, read from the lines
+//! of a source, and a history, written to a sink.
 #![tactic(auto)]
 
 mod entries;

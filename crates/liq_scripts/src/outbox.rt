@@ -32,8 +32,8 @@ pub(crate) enum Line {
     Entry(u8, u32),
 }
 
-/// Lines that wait to be written, in room that was taken before, so that none asks for memory. Contracts see the bytes that
-/// wait.
+/// Lines that wait to be written, in room that was taken before, so that none asks for memory.
+/// Contracts see the bytes that wait.
 #[derive(Drop)]
 pub struct Outbox {
     bytes: Vec<u8>,
@@ -72,7 +72,8 @@ impl Outbox {
         written
     }
 
-    /// Puts the line behind those that wait. Where there is no room for it, what waits is written first.
+    /// Puts the line behind those that wait. Where there is no room for it, what waits is written
+    /// first.
     pub(crate) fn send<K: Sink>(&mut self, line: Line, out: &mut K) -> Result<(), Failed>
         ensures sends { Sends result self.old (line_text line) self.new (K.at out.old).held
             (K.at out.new).held }

@@ -40,8 +40,8 @@ pub(crate) enum Part {
     Call,
 }
 
-/// Writes a history: the replies of each session that has any, and then the entries. Where the sink meets a fault, it holds a
-/// part of it. No memory is asked for.
+/// Writes a history: the replies of each session that has any, and then the entries. Where the sink
+/// meets a fault, it holds a part of it. No memory is asked for.
 pub fn write_served<E: Shown, K: Sink>(
     entries: &[E],
     outbox: &mut Outbox,

@@ -17,7 +17,8 @@ decided P true d = inl (d.0 refl)
 decided P false d = inr (λ p. cc (d.1 p))
 
 same_words : (a b : List (List ℕ)) → EitherWay (a ≡ b)
-same_words a b = decided (a ≡ b) (pointwise bytes_eq a b) (slice_eq-Decides bytes_eq-Decides a b (pointwise bytes_eq a b) refl)
+same_words a b = decided (a ≡ b) (pointwise bytes_eq a b) (slice_eq-Decides bytes_eq-Decides a b
+    (pointwise bytes_eq a b) refl)
 
 last_or_before : (n k : ℕ) → n < suc k → (n ≡ k) ⊎ (n < k)
 last_or_before n k few = grind arith
@@ -36,12 +37,15 @@ below P each (suc k) = by (each k) (below P each k) where
 
 -- a load of this seed is asked for
 abbrev Loads : List (List ℕ) → ℕ → Type 0
-Loads words seed = (count : ℕ) × (count < 1000001) × ((words ≡ codes "gen" ∷ decimal seed ∷ decimal count ∷ []) × (1 ≤ count))
+Loads words seed = (count : ℕ) × (count < 1000001) × ((words ≡ codes "gen" ∷ decimal seed ∷ decimal count ∷ [])
+    × (1 ≤ count))
 
-counted : (words : List (List ℕ)) (seed count : ℕ) → EitherWay ((words ≡ codes "gen" ∷ decimal seed ∷ decimal count ∷ []) × (1 ≤ count))
+counted : (words : List (List ℕ)) (seed count : ℕ)
+    → EitherWay ((words ≡ codes "gen" ∷ decimal seed ∷ decimal count ∷ []) × (1 ≤ count))
 counted words seed zero = inr (λ h. omega (arith, h.1))
 counted words seed (suc count) = by (same_words words (codes "gen" ∷ decimal seed ∷ decimal (suc count) ∷ [])) where
-  by : EitherWay (words ≡ codes "gen" ∷ decimal seed ∷ decimal (suc count) ∷ []) → EitherWay ((words ≡ codes "gen" ∷ decimal seed ∷ decimal (suc count) ∷ []) × (1 ≤ suc count))
+  by : EitherWay (words ≡ codes "gen" ∷ decimal seed ∷ decimal (suc count) ∷ [])
+      → EitherWay ((words ≡ codes "gen" ∷ decimal seed ∷ decimal (suc count) ∷ []) × (1 ≤ suc count))
   by (inl is) = inl (is, omega arith)
   by (inr not_so) = inr (λ h. not_so h.0)
 
@@ -59,7 +63,8 @@ first_of {A} {B} (inr not_so) (inr none) = inr by where
 
 abbrev AskSome : List (List ℕ) → Type 0
 AskSome words = Ask words Run ⊎ (Ask words Serve ⊎ (Ask words Staking ⊎ (Ask words Rewards ⊎ (Ask words State
-    ⊎ (Ask words Audit ⊎ (Ask words Report ⊎ (Ask words Follow ⊎ ((seed : ℕ) × (seed < 2 ^ 64) × Loads words seed))))))))
+    ⊎ (Ask words Audit ⊎ (Ask words Report ⊎ (Ask words Follow ⊎ ((seed : ℕ) × (seed < 2 ^ 64)
+    × Loads words seed))))))))
 
 some_word : (words : List (List ℕ)) → AskSome words → (word : Word) × Ask words word
 some_word words (inl h) = (Run, h)

@@ -288,8 +288,10 @@ module _
         serve = λ asks bytes l r start asked told stood all few well calm.
             let e = ends.ends word.Serve asks in
             subst IsDone (sym e.status_is)
-            (serve_done source_at sink_at disk_at before after e.end e.leaves bytes l r start asked told stood.left stood.right
-            stood.is all few (λ is. well (each.source_fault (e.status_is ∙ is))) (λ is. calm.sink (each.sink_fault (e.status_is ∙ is)))
+            (serve_done source_at sink_at disk_at before after e.end e.leaves bytes l r start asked told stood.left
+            stood.right
+            stood.is all few (λ is. well (each.source_fault (e.status_is ∙ is)))
+            (λ is. calm.sink (each.sink_fault (e.status_is ∙ is)))
             (λ is. calm.disk (each.disk_fault (e.status_is ∙ is))));
         staking = λ asks.
             let e = ends.ends word.Staking asks in
@@ -297,23 +299,27 @@ module _
             (lines_first stakes.Spells staked_text e.end e.leaves (subst Rises e.status_is rises));
         rewards = λ asks.
             let e = ends.ends word.Rewards asks in
-            subst (First tags.Spells) (sym e.status_is) (lines_first tags.Spells rewarded_text e.end e.leaves (subst Rises e.status_is rises));
+            subst (First tags.Spells) (sym e.status_is) (lines_first tags.Spells rewarded_text e.end e.leaves
+            (subst Rises e.status_is rises));
         staking_rotated = λ asks.
             let e = ends.ends word.Staking asks in
             subst (Later stakes.Spells) (sym e.status_is)
             (lines_later stakes.Spells staked_text e.end e.leaves (subst Rises e.status_is rises));
         rewards_rotated = λ asks.
             let e = ends.ends word.Rewards asks in
-            subst (Later tags.Spells) (sym e.status_is) (lines_later tags.Spells rewarded_text e.end e.leaves (subst Rises e.status_is rises));
+            subst (Later tags.Spells) (sym e.status_is) (lines_later tags.Spells rewarded_text e.end e.leaves
+            (subst Rises e.status_is rises));
         state = λ asked l r start stood calm.
             let e = ends.ends word.State asked in
             let told = MatchResult-at_ok _ _ start stood.is (e.leaves.1 l r stood.left stood.right) in
-            subst IsDone (sym e.status_is) (state_done (status_of e.end) told.0 (λ is. calm.sink (each.sink_fault (e.status_is ∙ is)))
+            subst IsDone (sym e.status_is) (state_done (status_of e.end) told.0
+            (λ is. calm.sink (each.sink_fault (e.status_is ∙ is)))
             (λ is. calm.disk (each.disk_fault (e.status_is ∙ is))));
         report = λ asked l r start stood calm.
             let e = ends.ends word.Report asked in
             let told = MatchResult-at_ok _ _ start stood.is (e.leaves.1 l r stood.left stood.right) in
-            subst IsDone (sym e.status_is) (state_done (status_of e.end) told.0 (λ is. calm.sink (each.sink_fault (e.status_is ∙ is)))
+            subst IsDone (sym e.status_is) (state_done (status_of e.end) told.0
+            (λ is. calm.sink (each.sink_fault (e.status_is ∙ is)))
             (λ is. calm.disk (each.disk_fault (e.status_is ∙ is))));
         audit = λ asked l r start stood first within calm.
             let e = ends.ends word.Audit asked in
@@ -322,7 +328,8 @@ module _
             (audit_done start (commands_on l r) e.end told.0.0 first told.0.1
             (λ number limit. no_limit start.limit (commands_on l r) start number (leads l r start stood.is first) within
             limit)
-            (λ is. calm.sink (each.sink_fault (e.status_is ∙ is))) (λ is. calm.disk (each.disk_fault (e.status_is ∙ is))));
+            (λ is. calm.sink (each.sink_fault (e.status_is ∙ is))) (λ is. calm.disk (each.disk_fault (e.status_is
+            ∙ is))));
         rotated = λ asked l r start stood later well.
             let e = ends.ends word.Audit asked in
             let told = MatchResult-at_ok _ _ start stood.is (e.leaves.1 l r stood.left stood.right) in
@@ -334,7 +341,8 @@ module _
             let f = follows status words ends asked bytes told in
             subst IsDone (sym e.status_is)
             (done_by e.end (whole_so bytes f.read (source_at after.source).left f.reads stays e.end f.text f.so
-            (well_read status words ends asked bytes told well) few goes (λ is. none (each.sink_fault (e.status_is ∙ is)))));
+            (well_read status words ends asked bytes told well) few goes (λ is. none (each.sink_fault (e.status_is
+            ∙ is)))));
         damaged_input = λ asked bytes told index fault well.
             let f = follows status words ends asked bytes told in
             follow_halts status words ends asked bytes told (DamagedInput index)
@@ -352,5 +360,6 @@ module _
             (well_read status words ends asked bytes told well) long goes);
         gen = λ seed count asked none.
             let e = ends.ends (word.Gen seed count) asked in
-            subst IsDone (sym e.status_is) (load_done (status_of e.end) e.leaves.1 (λ is. none (each.sink_fault (e.status_is ∙ is))));
+            subst IsDone (sym e.status_is) (load_done (status_of e.end) e.leaves.1
+            (λ is. none (each.sink_fault (e.status_is ∙ is))));
       }

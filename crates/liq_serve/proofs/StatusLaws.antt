@@ -33,7 +33,8 @@ no_memory_known word.Follow = (4, lit< tt, refl)
 no_memory_known (word.Gen seed count) = (2, lit< tt, refl)
 
 -- `run` and `serve` go on in whatever generation
-pub goes_on_known : (end : Result (Unit {0}) Halt) → ((generation : ℕ) → end ≢ Err (Rotated generation)) → Contains (statuses_of word.Run) (status_of end)
+pub goes_on_known : (end : Result (Unit {0}) Halt) → ((generation : ℕ) → end ≢ Err (Rotated generation))
+    → Contains (statuses_of word.Run) (status_of end)
 goes_on_known (Ok done) on = (0, lit< tt, refl)
 goes_on_known (Err (BadLine n)) on = (1, lit< tt, refl)
 goes_on_known (Err ReadFault) on = (2, lit< tt, refl)
@@ -59,7 +60,8 @@ answers_known (Err (Rotated generation)) = (8, lit< tt, refl)
 answers_known (Err (DamagedInput number)) = (5, lit< tt, refl)
 
 -- a word that reads no line, and tells of the disks
-pub audit_known : (end : Result (Unit {0}) Halt) → end ≢ Err ReadFault → ((number : ℕ) → end ≢ Err (BadLine number)) → Contains (statuses_of word.Audit) (status_of end)
+pub audit_known : (end : Result (Unit {0}) Halt) → end ≢ Err ReadFault → ((number : ℕ) → end ≢ Err (BadLine number))
+    → Contains (statuses_of word.Audit) (status_of end)
 audit_known (Ok done) no_source no_line = (0, lit< tt, refl)
 audit_known (Err (BadLine n)) no_source no_line = absurd (no_line n refl)
 audit_known (Err ReadFault) no_source no_line = absurd (no_source refl)
@@ -71,7 +73,9 @@ audit_known (Err (Limit number)) no_source no_line = (5, lit< tt, refl)
 audit_known (Err (Rotated generation)) no_source no_line = (6, lit< tt, refl)
 audit_known (Err (DamagedInput number)) no_source no_line = (3, lit< tt, refl)
 
-pub state_known : (end : Result (Unit {0}) Halt) → end ≢ Err ReadFault → ((number : ℕ) → end ≢ Err (BadLine number)) → ((number : ℕ) → (end ≢ Err (Limit number)) × (end ≢ Err (Rotated number))) → Contains (statuses_of word.State) (status_of end)
+pub state_known : (end : Result (Unit {0}) Halt) → end ≢ Err ReadFault → ((number : ℕ) → end ≢ Err (BadLine number))
+    → ((number : ℕ) → (end ≢ Err (Limit number)) × (end ≢ Err (Rotated number)))
+    → Contains (statuses_of word.State) (status_of end)
 state_known (Ok done) no_source no_line no_number = (0, lit< tt, refl)
 state_known (Err (BadLine n)) no_source no_line no_number = absurd (no_line n refl)
 state_known (Err ReadFault) no_source no_line no_number = absurd (no_source refl)
@@ -84,7 +88,8 @@ state_known (Err (Rotated generation)) no_source no_line no_number = absurd ((no
 state_known (Err (DamagedInput number)) no_source no_line no_number = (3, lit< tt, refl)
 
 -- following reads no lines and asks no disk
-pub follow_known : (end : Result (Unit {0}) Halt) (read : List ℕ) (left : Option (List ℕ)) (text : List ℕ) → FollowsTo end read left text → Contains (statuses_of word.Follow) (status_of end)
+pub follow_known : (end : Result (Unit {0}) Halt) (read : List ℕ) (left : Option (List ℕ)) (text : List ℕ)
+    → FollowsTo end read left text → Contains (statuses_of word.Follow) (status_of end)
 follow_known (Ok done) read left text h = (0, lit< tt, refl)
 follow_known (Err (BadLine n)) read left text h = absurd h.1
 follow_known (Err ReadFault) read left text h = (1, lit< tt, refl)
@@ -102,15 +107,20 @@ pub neither : {A B : Type 0} → (A → ⊥) → (B → ⊥) → A ⊎ B → ⊥
 neither no_a no_b (inl a) = no_a a
 neither no_a no_b (inr b) = no_b b
 
-pub run_done : (start : State) (bytes : List ℕ) (left : Option (List ℕ)) (all : List Request) → AllZip Spells (lines_in bytes) all → length all ≤ LINES_MOST → (end : Result (Unit {0}) Halt) → (status_of end ≢ 3) → (status_of end ≢ 4) → (status_of end ≢ 5)
-    → (answered : List Request) → EndsAfter start end (Some bytes) left answered → ReadsTo Spells bytes left answered end → IsDone (status_of end)
+pub run_done : (start : State) (bytes : List ℕ) (left : Option (List ℕ)) (all : List Request)
+    → AllZip Spells (lines_in bytes) all → length all ≤ LINES_MOST → (end : Result (Unit {0}) Halt)
+    → (status_of end ≢ 3) → (status_of end ≢ 4) → (status_of end ≢ 5)
+    → (answered : List Request) → EndsAfter start end (Some bytes) left answered
+    → ReadsTo Spells bytes left answered end → IsDone (status_of end)
 run_done start bytes left all spelled few (Ok done) r w d answered why e = inl refl
-run_done start bytes left all spelled few (Err (BadLine n)) r w d answered why e = absurd (neither (λ is. cc) (λ is. cc) (stops_outside Spells (stop.BadLine n) bytes left answered all spelled few e))
+run_done start bytes left all spelled few (Err (BadLine n)) r w d answered why e =
+    absurd (neither (λ is. cc) (λ is. cc) (stops_outside Spells (stop.BadLine n) bytes left answered all spelled few e))
 run_done start bytes left all spelled few (Err ReadFault) r w d answered why e = absurd (r refl)
 run_done start bytes left all spelled few (Err WriteFault) r w d answered why e = absurd (w refl)
 run_done start bytes left all spelled few (Err NoMemory) r w d answered why e = inr refl
 run_done start bytes left all spelled few (Err DiskFault) r w d answered why e = absurd (d refl)
 run_done start bytes left all spelled few (Err (Damaged side number)) r w d answered why e = absurd why
-run_done start bytes left all spelled few (Err (Limit number)) r w d answered why e = absurd (neither (λ is. cc) (λ is. cc) (stops_outside Spells stop.Limit bytes left answered all spelled few e.1))
+run_done start bytes left all spelled few (Err (Limit number)) r w d answered why e =
+    absurd (neither (λ is. cc) (λ is. cc) (stops_outside Spells stop.Limit bytes left answered all spelled few e.1))
 run_done start bytes left all spelled few (Err (Rotated generation)) r w d answered why e = absurd why
 run_done start bytes left all spelled few (Err (DamagedInput number)) r w d answered why e = absurd why

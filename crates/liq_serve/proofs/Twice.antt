@@ -87,7 +87,8 @@ module _ (bytes l r : List ℕ) (start : State) (requests : List Request) where
           subst (λ (o : Option (List ℕ)). IfSome o (λ bytes. Only bytes (LeftNow disk_at disk))) told rests image left
 
       -- a fault is that of a disk
-      faulted : (end : Result (Unit {0}) Halt) (fault : Fault) → IsFaultOfRun start end (Some bytes) unread requests fault
+      faulted : (end : Result (Unit {0}) Halt) (fault : Fault)
+          → IsFaultOfRun start end (Some bytes) unread requests fault
           → fault ≢ NoFault → end ≡ Err DiskFault
       faulted (Err DiskFault) fault is some = refl
       faulted (Ok done) fault is some = absurd (some is)
@@ -101,7 +102,8 @@ module _ (bytes l r : List ℕ) (start : State) (requests : List Request) where
       faulted (Err (DamagedInput number)) fault is some = absurd (some is)
 
       next_at : (c : Command) → ((AtCommand c ≡ InOpening) × IsUnread (Some bytes) unread requests)
-          ⊎ ((d : Command) × (AtCommand c ≡ AtCommand d) × IsNext (Some bytes) requests (Do d) × (ruling here d ≡ Allowed))
+          ⊎ ((d : Command) × (AtCommand c ≡ AtCommand d) × IsNext (Some bytes) requests (Do d)
+          × (ruling here d ≡ Allowed))
           → IsNext (Some bytes) requests (Do c)
       next_at c (inl (is, none)) = absurd cc
       next_at c (inr (d, is, next, allowed)) =
@@ -154,7 +156,8 @@ module _
 
   -- what a run left begins the next one
   pub runs_behind : (end : Result (Unit {0}) Halt) (bytes l r a b : List ℕ) (start : State)
-      → (source_at before.source).left ≡ Some bytes → (ran : RunsFirst end l r start) → IsSome (disk_at middle.left).seen → IsSome (disk_at middle.right).seen
+      → (source_at before.source).left ≡ Some bytes → (ran : RunsFirst end l r start)
+      → IsSome (disk_at middle.left).seen → IsSome (disk_at middle.right).seen
       → IsKept l r start
       → AreBehind source_at sink_at disk_at before middle l r a b → BeginsBehind bytes l r start ran.requests end a b
   runs_behind end bytes l r a b start told ran left_tells right_tells were (inl (told_a, told_b)) =

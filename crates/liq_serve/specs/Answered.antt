@@ -21,22 +21,26 @@ module _ {S K D : Type 0} (source_at : S → SourceAt) (sink_at : K → SinkAt) 
   -- all of this text was written, or a part of it where the sink met a fault; or the last line
   -- alone
   abbrev pub TellsText : List ℕ → Result (Unit {0}) Halt → Type 0
-  TellsText text end = TellsBehind [] text end (Rose (sink_at before.sink).faults (sink_at after.sink).faults)
+  TellsText text end = TellsBehind [] text end (Rose (sink_at before.sink).faults
+      (sink_at after.sink).faults)
       (sink_at before.sink).held (sink_at after.sink).held
 
   -- reading stopped, so that no disk was opened
   abbrev pub StopsUnopened : Result (Unit {0}) Halt → Type 0
-  StopsUnopened end = (after.left ≡ before.left) × (after.right ≡ before.right) × TellsText [] end × ((n : ℕ) × Contains
+  StopsUnopened end = (after.left ≡ before.left) × (after.right ≡ before.right) × TellsText [] end
+      × ((n : ℕ) × Contains
       (Err (BadLine n) ∷ Err ReadFault ∷ Err NoMemory ∷ Err (Limit LINES_MOST) ∷ []) end)
 
   -- Lines to which this text answers were answered beside the commands that lead to the state for
   -- which the disks stood, from the opening under its limit on, and the disks stay so. Of damaged
   -- disks nothing is told but the first damage.
   abbrev pub AnswersBeside : (ℕ → List Command → List ℕ) → Result (Unit {0}) Halt → Type 0
-  AnswersBeside text end = OfBoth disk_at before.left before.right (λ l r. MatchResult (state_on l r) (λ start.
+  AnswersBeside text end = OfBoth disk_at before.left before.right (λ l r. MatchResult
+      (state_on l r) (λ start.
       IsAnswerOf start end × TellsText (text start.limit (commands_on l r)) end
       × DisksStay disk_at end l r start after.left after.right
-      × LeavesOfRun disk_at before.left before.right (IsFaultOfTelling end) l r start [] after.left after.right)
+      × LeavesOfRun disk_at before.left before.right (IsFaultOfTelling end) l r start [] after.left
+      after.right)
       -- a side and its first damage
       (λ first. LeavesDamaged disk_at before.left before.right l r first.0 first.1 end
       after.left after.right × TellsText [] end))
@@ -47,7 +51,8 @@ module _ {S K D : Type 0} (source_at : S → SourceAt) (sink_at : K → SinkAt) 
 
   -- The whole input is read first: each line says something of one kind, in order, or reading
   -- stops. `text` is what is answered to lines, beside commands from the opening under a limit on.
-  pub record AnswersLines {X : Type 0} (Says : List ℕ → X → Type 0) (text : ℕ → List Command → List X → List ℕ)
+  pub record AnswersLines {X : Type 0} (Says : List ℕ → X → Type 0) (text : ℕ → List Command
+      → List X → List ℕ)
       (end : Result (Unit {0}) Halt) : Type 0 where
     pub asked : List X
     -- they are no more than one run answers

@@ -17,8 +17,10 @@ module _
   pub record ByStatus (status : ℕ) : Type 0 where
     pub known : status ≤ 9
     -- a fault has its cause, and none is passed over
-    pub source_fault : status ≡ 3 → Rose (source_at before.source).faults (source_at after.source).faults
-    pub source_same : status ≢ 3 → (source_at after.source).faults ≡ (source_at before.source).faults
+    pub source_fault : status ≡ 3
+        → Rose (source_at before.source).faults (source_at after.source).faults
+    pub source_same : status ≢ 3 → (source_at after.source).faults
+        ≡ (source_at before.source).faults
     pub sink_fault : status ≡ 4 → Rose (sink_at before.sink).faults (sink_at after.sink).faults
     pub sink_same : status ≡ 0 → (sink_at after.sink).faults ≡ (sink_at before.sink).faults
     pub disk_fault : status ≡ 5 → OneRose (disk_counts before) (disk_counts after)

@@ -54,7 +54,8 @@ use Rattle.liq_ends.specs.Outside.{Outside}
 
 -- the first requests of the session are answered in the history, in order, and these are left
 abbrev pub AreLeft : List (ℕ × Request) → List Entry → ℕ → List Request → Type 0
-AreLeft asked history session left = map (λ (a : ℕ × Request). a.1) (filter (λ (a : ℕ × Request). a.0 == session) asked)
+AreLeft asked history session left = map (λ (a : ℕ × Request). a.1) (filter (λ (a : ℕ
+    × Request). a.0 == session) asked)
     ≡ requests_of (own_entries session history) ++ left
 
 -- the exit statuses to which a word may come
@@ -85,11 +86,13 @@ module _ {S K D : Type 0} (source_at : S → SourceAt) (sink_at : K → SinkAt) 
   -- The text was written, as far as the end says. Where the word stopped, this was said of it, and
   -- then the last line.
   abbrev pub Tells : List ℕ → List ℕ → Result (Unit {0}) Halt → Type 0
-  Tells said text end = TellsBehind said text end SinkFails (sink_at before.sink).held (sink_at after.sink).held
+  Tells said text end = TellsBehind said text end SinkFails (sink_at before.sink).held
+      (sink_at after.sink).held
 
   -- What both disks leave of a run of these requests, with a fault where P says.
   abbrev pub Leave : (Fault → Type 0) → List ℕ → List ℕ → State → List Request → Type 0
-  Leave P l r start requests = LeavesOfRun disk_at before.left before.right P l r start requests after.left after.right
+  Leave P l r start requests = LeavesOfRun disk_at before.left before.right P l r start requests
+      after.left after.right
 
   -- what this word leaves of both, of which one is damaged, where it came to this end
   abbrev pub LeaveDamaged : List ℕ → List ℕ → Side → Damage → Result (Unit {0}) Halt → Type 0
@@ -100,7 +103,8 @@ module _ {S K D : Type 0} (source_at : S → SourceAt) (sink_at : K → SinkAt) 
   -- stand it leaves P. Over disks of which one has a first damage nothing is read, and a last line
   -- alone is written.
   abbrev pub OpensFirst : Result (Unit {0}) Halt → (List ℕ → List ℕ → State → Type 0) → Type 0
-  OpensFirst end P = OfBoth disk_at before.left before.right (λ l r. MatchResult (state_on l r) (P l r) (λ first.
+  OpensFirst end P = OfBoth disk_at before.left before.right (λ l r. MatchResult (state_on l r)
+      (P l r) (λ first.
       (after.source ≡ before.source) × LeaveDamaged l r first.0 first.1 end × Tells [] [] end))
 
   -- ---- `run`
@@ -124,8 +128,10 @@ module _ {S K D : Type 0} (source_at : S → SourceAt) (sink_at : K → SinkAt) 
     -- all replies, and the last line where it stopped
     pub written : Tells (lines start requests) (lines start requests) end
     -- where the sink met a fault at a reply, that is the last one
-    pub cut : end ≡ Err WriteFault → (earlier : List Request) × (final : Request) × (requests ≡ earlier ++ final ∷ [])
-        × ((part : List ℕ) × Writes (sink_at before.sink).held (lines start earlier ++ part) (sink_at after.sink).held)
+    pub cut : end ≡ Err WriteFault → (earlier : List Request) × (final : Request)
+        × (requests ≡ earlier ++ final ∷ [])
+        × ((part : List ℕ) × Writes (sink_at before.sink).held (lines start earlier ++ part)
+        (sink_at after.sink).held)
     pub disks : DisksHold disk_at end told unread l r start after.left after.right requests
     -- where a disk met a fault
     pub fault : Fault
@@ -151,11 +157,13 @@ module _ {S K D : Type 0} (source_at : S → SourceAt) (sink_at : K → SinkAt) 
   -- No store was opened: for a disk's fault, the disks' damage or want of memory. The input is no
   -- journal.
   abbrev pub OpensNone : List Entry → Fault → Result (Unit {0}) Halt → Type 0
-  OpensNone history fault end = (history ≡ []) × IsFaultOfTelling end fault × Contains (5 ∷ 6 ∷ 7 ∷ []) (status_of end)
+  OpensNone history fault end = (history ≡ []) × IsFaultOfTelling end fault
+      × Contains (5 ∷ 6 ∷ 7 ∷ []) (status_of end)
       × OfBoth disk_at before.left before.right (λ l r. MatchResult (state_on l r)
       (λ start. (status_of end ≢ 6) × DisksStay disk_at end l r start after.left after.right)
       -- a side and its first damage
-      (λ first. LeaveDamaged l r first.0 first.1 end)) × ((number : ℕ) → end ≢ Err (DamagedInput number))
+      (λ first. LeaveDamaged l r first.0 first.1 end)) × ((number : ℕ)
+      → end ≢ Err (DamagedInput number))
 
   -- What was answered once a store was open, whose disks are not damaged, and what they hold then.
   abbrev pub Answers : List (ℕ × Request) → List Entry → Fault → Result (Unit {0}) Halt → Type 0
@@ -170,7 +178,8 @@ module _ {S K D : Type 0} (source_at : S → SourceAt) (sink_at : K → SinkAt) 
       × ((history ≡ []) ⊎ ((length history < LINES_MOST)
       × ((session : ℕ) × Contains sessions session × (AreLeft asked history session [] → ⊥))))
   -- all, session by session, and they are kept for the state after the history
-  Answers asked history fault end = (fault ≡ NoFault) × Keep history IsKept × Contains (0 ∷ 4 ∷ []) (status_of end)
+  Answers asked history fault end = (fault ≡ NoFault) × Keep history IsKept
+      × Contains (0 ∷ 4 ∷ []) (status_of end)
       × All (λ session. AreLeft asked history session []) sessions
 
   -- Along one history a part of what the lines asked was answered, and it was written, as far as
@@ -180,7 +189,8 @@ module _ {S K D : Type 0} (source_at : S → SourceAt) (sink_at : K → SinkAt) 
     pub history : List Entry
     pub few : length asked ≤ LINES_MOST
     -- of each session the first requests, in order
-    pub fronts : All (λ session. (rest : List Request) × AreLeft asked history session rest) sessions
+    pub fronts : All (λ session. (rest : List Request) × AreLeft asked history session rest)
+        sessions
     pub sessions : All (λ (e : Entry). (1 ≤ e.session) × (e.session ≤ SESSIONS)) history
     -- how reading ended
     pub reading : Result (Unit {0}) Halt
@@ -196,10 +206,12 @@ module _ {S K D : Type 0} (source_at : S → SourceAt) (sink_at : K → SinkAt) 
     pub written : Tells [] (served history) end
     -- where all was answered the sink was shown the disks once, as they are left, before a byte
     -- went out
-    pub safe : Contains (0 ∷ 4 ∷ []) (status_of end) → Notes disk_at (sink_at before.sink).held after.left after.right
+    pub safe : Contains (0 ∷ 4 ∷ []) (status_of end)
+        → Notes disk_at (sink_at before.sink).held after.left after.right
         (sink_at before.sink).shown (sink_at after.sink).shown
     -- and nothing is pending on either then
-    pub rests : Contains (0 ∷ 4 ∷ []) (status_of end) → IsAtRest disk_at after.left × IsAtRest disk_at after.right
+    pub rests : Contains (0 ∷ 4 ∷ []) (status_of end) → IsAtRest disk_at after.left
+        × IsAtRest disk_at after.right
     -- its replies are those of the rules from where the disks stood, and after it no depositor has
     -- more than its share, or less by more than is allowed
     pub lawful : OfBoth disk_at before.left before.right (λ l r. IfOk (state_on l r) (λ start.
@@ -217,9 +229,11 @@ module _ {S K D : Type 0} (source_at : S → SourceAt) (sink_at : K → SinkAt) 
   -- each session's lines are answered in order, all sessions' at once, along one history
   Leaves word.Serve end = ServesTo end
   -- stakers are answered beside the commands that lead to the state, and the disks stay so
-  Leaves word.Staking end = AnswersLines source_at sink_at disk_at before after stakes.Spells staked_text end
+  Leaves word.Staking end = AnswersLines source_at sink_at disk_at before after stakes.Spells
+      staked_text end
   -- so are those who name front ends
-  Leaves word.Rewards end = AnswersLines source_at sink_at disk_at before after tags.Spells rewarded_text end
+  Leaves word.Rewards end = AnswersLines source_at sink_at disk_at before after tags.Spells
+      rewarded_text end
   -- nothing is read; it is told what stands, and the disks stay so
   Leaves word.State end = (after.source ≡ before.source) × OpensFirst end (λ l r start.
       Contains (0 ∷ 4 ∷ 5 ∷ 7 ∷ []) (status_of end)
@@ -236,12 +250,14 @@ module _ {S K D : Type 0} (source_at : S → SourceAt) (sink_at : K → SinkAt) 
   -- the last line tells this generation, and nothing else is told.
   Leaves word.Audit end = (after.source ≡ before.source) × OpensFirst end (λ l r start.
       ((text : List ℕ) × IsAuditOf start (commands_on l r) end text × Tells [] text end)
-      × DisksStay disk_at end l r start after.left after.right × Leave (IsFaultOfTelling end) l r start [])
+      × DisksStay disk_at end l r start after.left after.right
+      × Leave (IsFaultOfTelling end) l r start [])
   -- The disks are not asked. The bytes that come in are followed, and at their end the state is
   -- told to which they lead.
   Leaves word.Follow end = (after ≡ record before { source = after.source; sink = after.sink })
       × ((read : List ℕ) × Reads (source_at before.source).left read (source_at after.source).left
-      × ((text : List ℕ) × FollowsTo end read (source_at after.source).left text × Tells [] text end))
+      × ((text : List ℕ) × FollowsTo end read (source_at after.source).left text
+      × Tells [] text end))
   -- nothing but the sink changes, and the seed's load is told by the rules' steps along its
   -- requests from the opening
   Leaves (word.Gen seed count) end =

@@ -60,18 +60,23 @@ use Rattle.liq_serving.proofs.Told.{all_from, all_to, all_unmap}
 
 -- ---- the scripts of what was asked
 
-by_session : (P : Script → Type 0) (asked : List (ℕ × Request)) (scripts : List Script) → scripts ≡ scripts_of asked → All P scripts → All (λ session. P (script_of asked session)) sessions
+by_session : (P : Script → Type 0) (asked : List (ℕ × Request)) (scripts : List Script) → scripts ≡ scripts_of asked
+    → All P scripts → All (λ session. P (script_of asked session)) sessions
 by_session P asked scripts are all =
-    all_to (λ session. P (script_of asked session)) sessions (all_unmap P (script_of asked) sessions (all_from P (scripts_of asked) (subst (All P) are all)))
+    all_to (λ session. P (script_of asked session)) sessions (all_unmap P (script_of asked) sessions
+    (all_from P (scripts_of asked) (subst (All P) are all)))
 
-mapped : {X Y : Type 0} (f : X → Y) (xs : List X) (k : ℕ) (y : Y) → k < length (map f xs) → slice_index_or (map f xs) k y ≡ y → (x : X) × (y ≡ f x)
+mapped : {X Y : Type 0} (f : X → Y) (xs : List X) (k : ℕ) (y : Y) → k < length (map f xs)
+    → slice_index_or (map f xs) k y ≡ y → (x : X) × (y ≡ f x)
 mapped f [] k y within is = absurd (omega arith)
 mapped f (x ∷ xs) zero y within is = (x, sym is)
 mapped f (x ∷ xs) (suc k) y within is = mapped f xs k y (omega arith) is
 
 -- the next request of a script is that of its session
-next_asked : (asked : List (ℕ × Request)) (scripts : List Script) (entries : List history.Entry) (request : Request) (script : Script) (session : ℕ) → scripts ≡ scripts_of asked
-    → Contains scripts script → script.session ≡ session → IsNextOf entries request script → IsNextOf entries request (script_of asked session)
+next_asked : (asked : List (ℕ × Request)) (scripts : List Script) (entries : List history.Entry) (request : Request)
+    (script : Script) (session : ℕ) → scripts ≡ scripts_of asked
+    → Contains scripts script → script.session ≡ session → IsNextOf entries request script
+    → IsNextOf entries request (script_of asked session)
 next_asked asked scripts entries request script session are there whose next =
     let found : Contains (scripts_of asked) script = subst (λ (list : List Script). Contains list script) are there in
     let of_one = mapped (script_of asked) sessions found.0 script found.1 found.2 in
@@ -83,35 +88,46 @@ abbrev GoUp : ℕ → List ℕ → Type 0
 GoUp first [] = Unit {0}
 GoUp first (n ∷ list) = (n ≡ first) × GoUp (suc first) list
 
-numbered_at : (asked : List (ℕ × Request)) (list : List ℕ) (first : ℕ) → GoUp first list → (k : ℕ) (d : Script) → k < length (map (script_of asked) list)
+numbered_at : (asked : List (ℕ × Request)) (list : List ℕ) (first : ℕ) → GoUp first list → (k : ℕ) (d : Script)
+    → k < length (map (script_of asked) list)
     → (slice_index_or (map (script_of asked) list) k d).session ≡ k + first
 numbered_at asked [] first up k d within = absurd (omega arith)
 numbered_at asked (n ∷ list) first up zero d within = omega (arith, up.0)
-numbered_at asked (n ∷ list) first up (suc k) d within = omega (arith, numbered_at asked list (suc first) up.1 k d (omega arith))
+numbered_at asked (n ∷ list) first up (suc k) d within =
+    omega (arith, numbered_at asked list (suc first) up.1 k d (omega arith))
 
-pub are_numbered : (asked : List (ℕ × Request)) (scripts : List Script) → scripts ≡ scripts_of asked → AreNumbered scripts
-are_numbered asked scripts are = subst AreNumbered (sym are) (numbered_at asked sessions 1 (refl, (refl, (refl, (refl, (refl, (refl, (refl, (refl, tt)))))))))
+pub are_numbered : (asked : List (ℕ × Request)) (scripts : List Script) → scripts ≡ scripts_of asked
+    → AreNumbered scripts
+are_numbered asked scripts are = subst AreNumbered (sym are) (numbered_at asked sessions 1 (
+  refl,
+  (refl, (refl, (refl, (refl, (refl, (refl, (refl, tt))))))),
+))
 
 pub are_eight : (asked : List (ℕ × Request)) (scripts : List Script) → scripts ≡ scripts_of asked → length scripts ≡ 8
 are_eight asked scripts are = ap length are
 
 -- the session of a script is one of the eight
-in_range : (asked : List (ℕ × Request)) (scripts : List Script) (script : Script) (session : ℕ) → scripts ≡ scripts_of asked → Contains scripts script → script.session ≡ session → (1 ≤ session) × (session ≤ SESSIONS)
+in_range : (asked : List (ℕ × Request)) (scripts : List Script) (script : Script) (session : ℕ)
+    → scripts ≡ scripts_of asked → Contains scripts script → script.session ≡ session → (1 ≤ session)
+    × (session ≤ SESSIONS)
 in_range asked scripts script session are there whose =
-    let at : session ≡ there.0 + 1 = sym whose ∙ ap (λ (s : Script). s.session) (sym there.2) ∙ are_numbered asked scripts are there.0 script there.1 in
+    let at : session ≡ there.0 + 1 = sym whose ∙ ap (λ (s : Script). s.session) (sym there.2)
+    ∙ are_numbered asked scripts are there.0 script there.1 in
     (omega (arith, at), omega (arith, at, there.1, are_eight asked scripts are))
 
 -- ---- a call that met a fault
 
 -- the step of a command that is accepted was made, or not
-around : (s : State) (c : Command) → ruling s c ≡ Allowed → (a b : List ℕ) → IsKeptAround s (Do c) a b → IsKept a b s ⊎ IsKept a b (after s c)
+around : (s : State) (c : Command) → ruling s c ≡ Allowed → (a b : List ℕ) → IsKeptAround s (Do c) a b → IsKept a b s
+    ⊎ IsKept a b (after s c)
 around s c accepted a b (inl kept) = inl kept
 around s c accepted a b (inr kept) = inr (subst (λ (r : Ruling). IsKept a b (after_ruling s c r).0) accepted kept)
 
 -- ---- by the finish
 
 by_finish : (P : Finish → Type 0) (e : End) (how : Finish) → IsFinishOf e how
-    → (e ≡ end.All → P finish.All × P finish.WriteFault) → (e ≡ end.NoMemory → P finish.NoMemory) → ((halt : Halt) → e ≡ end.DiskFault halt → P finish.DiskFault) → P how
+    → (e ≡ end.All → P finish.All × P finish.WriteFault) → (e ≡ end.NoMemory → P finish.NoMemory)
+    → ((halt : Halt) → e ≡ end.DiskFault halt → P finish.DiskFault) → P how
 by_finish P end.All how (inl is) all memory fault = subst P (sym is) (all refl).0
 by_finish P end.All how (inr is) all memory fault = subst P (sym is) (all refl).1
 by_finish P end.NoMemory how is all memory fault = subst P (sym is) (memory refl)
@@ -119,7 +135,8 @@ by_finish P (end.DiskFault halt) how is all memory fault = subst P (sym is) (fau
 
 -- all was read
 pub reads_whole : (e : End) (how : Finish) → IsFinishOf e how → reading_of how ≡ Ok tt
-reads_whole e how how_is = by_finish (λ (h : Finish). reading_of h ≡ Ok tt) e how how_is (λ is. (refl, refl)) (λ is. refl) (λ halt is. refl)
+reads_whole e how how_is = by_finish (λ (h : Finish). reading_of h ≡ Ok tt) e how how_is (λ is. (refl, refl))
+    (λ is. refl) (λ halt is. refl)
 
 -- ---- nothing was answered
 
@@ -267,7 +284,10 @@ module _ {K D : Type 0} (sink_at : K → SinkAt) (disk_at : D → DiskAt)
         ends = unopened_damaged disk_at left right why_not now_left now_right unopened l r side damage told_l told_r is;
         left_leaves = opening.left_leaves l r told_l told_r;
         right_leaves = opening.right_leaves r told_r;
-        shut = λ other a b. shuts (λ is_why. other (ap finish.NotOpened is_why)) l r a b (side, damage) told_l told_r is;
+        shut = λ other a b. shuts (λ is_why. other (ap finish.NotOpened is_why)) l r a b (
+          side,
+          damage,
+        ) told_l told_r is;
       })
       (leaves_unopened disk_at may_stay left right why_not now_left now_right opening left_time right_time rest)
 
@@ -389,7 +409,8 @@ module _ {D : Type 0} (disk_at : D → DiskAt) (store : Stored D) (scripts : Lis
           → (how : Finish) → IsFinishOf served.end how → Written sink_at how (map recorded served.history) out out_now
           → ServesInput sink_at disk_at before unread out out_now left right
           (record { left = served.left; right = served.right; finish = how })
-      serves_input few read opened base serves serves_at may_stay opening order left_telling right_telling how how_is written =
+      serves_input few read opened base serves serves_at may_stay opening order left_telling right_telling how how_is
+          written =
           record {
             asked = asked;
             history = map recorded served.history;

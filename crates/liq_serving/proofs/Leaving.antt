@@ -47,11 +47,14 @@ module _ {D : Type 0} (at : D → DiskAt) where
     keeps : (store : Stored D) (history : List Entry) (halt : Option Halt) → IsInOrder at store
         → IsBook at base left_origin right_origin (record { store = store; entries = history; halt = halt })
         → KeepsBehind at halt (state_after base (map recorded history)) store.left store.right
-    keeps store history None order book = settles store (state_after base (map recorded history)) order book.halt book.state
+    keeps store history None order book = settles store (state_after base (map recorded history)) order book.halt
+        book.state
     keeps store history (Some halt) order book = book.keeps
 
-    pub leaves : {O : Type 0} {o : Ghosts O} (most : ℕ) (all : Bool) (seats : List (BookSeat O o)) (served : Served D) (store : Stored D) (history : List Entry) (halt : Option Halt)
-        → served.left ≡ store.left → served.right ≡ store.right → served.history ≡ history → served.end ≡ end_of halt all
+    pub leaves : {O : Type 0} {o : Ghosts O} (most : ℕ) (all : Bool) (seats : List (BookSeat O o)) (served : Served D)
+        (store : Stored D) (history : List Entry) (halt : Option Halt)
+        → served.left ≡ store.left → served.right ≡ store.right → served.history ≡ history
+        → served.end ≡ end_of halt all
         → IsInOrder at store
         → IsBook at base left_origin right_origin (record { store = store; entries = history; halt = halt })
         → All (λ seat. Behind session_of (chronicle history halt) (session_at seat ∷ []) (items_seen seat)) seats
@@ -59,12 +62,14 @@ module _ {D : Type 0} (at : D → DiskAt) where
         → Leaves at base left_origin right_origin most all seats served
     leaves most all seats served store history halt left_is right_is history_is end_is order book back within =
         let halt_is : halt_of served.end ≡ halt = ap halt_of end_is ∙ halt_of-end_of halt all in
-        let items_are : chronicle_of served ≡ chronicle history halt = ap (λ entries. chronicle entries (halt_of served.end)) history_is ∙ ap (chronicle history) halt_is in
+        let items_are : chronicle_of served ≡ chronicle history halt =
+        ap (λ entries. chronicle entries (halt_of served.end)) history_is ∙ ap (chronicle history) halt_is in
         record {
           legal = rw history_is book.legal;
           end = end_is ∙ ap (λ h. end_of h all) (sym halt_is);
           within = subst (λ items. Within session_of most items) (sym items_are) within;
-          back = subst (λ (items : List Item). All (λ seat. Behind session_of items (session_at seat ∷ []) (items_seen seat)) seats) (sym items_are) back;
+          back = subst (λ (items : List Item). All (λ seat. Behind session_of items (session_at seat ∷ [])
+              (items_seen seat)) seats) (sym items_are) back;
           disks = rw (halt_is, history_is, left_is, right_is) (keeps store history halt order book);
           since = record {
             cause = rw (halt_is, left_is, right_is) book.cause;

@@ -100,28 +100,34 @@ module _ {D : Type 0} (at : D → DiskAt)
       → GoesOn at left now_left → GoesOn at right now_right
       → (why_not ≢ why.DiskFault → IsAtRest at now_left × IsAtRest at now_right)
       → At (finish.NotOpened why_not) None [] now_left now_right
-  leaves_unopened why_not now_left now_right opening left_time right_time rest l r start told_l told_r only_l only_r is kept = by why_not rest where
-    images : (fault : Fault) → LeavesPast at (λ side. (at (on side left right)).moment) l r start
-        [] fault now_left now_right
-    images fault =
-        opening_leaves at may_stay l r start left right now_left now_right kept
-        (opening.left_leaves l r told_l told_r only_l) (opening.right_leaves r told_r only_r) fault
+  leaves_unopened why_not now_left now_right opening left_time right_time rest l r start told_l told_r only_l only_r is
+      kept = by why_not rest where
+        images : (fault : Fault) → LeavesPast at (λ side. (at (on side left right)).moment) l r start
+            [] fault now_left now_right
+        images fault =
+            opening_leaves at may_stay l r start left right now_left now_right kept
+            (opening.left_leaves l r told_l told_r only_l) (opening.right_leaves r told_r only_r) fault
 
-    by : (w : StoreWhy) → (w ≢ why.DiskFault → IsAtRest at now_left × IsAtRest at now_right)
-        → LeavesBoth at left right (IsFaultAt (finish.NotOpened w) None) l r start [] now_left now_right
-    by why.DiskFault rest = record {
-      fault = InOpening;
-      fault_is = refl;
-      images = images InOpening;
-      rests = λ a b in_left in_right. (
-        refl,
-        opening.recovers l r start told_l told_r only_l only_r kept a b
-            ((at now_left).moment, left_time.later, omega arith, in_left)
-            ((at now_right).moment, right_time.later, omega arith, in_right),
-      );
-    }
-    by (why.Damaged side damage) rest = record { fault = NoFault; fault_is = refl; images = images NoFault; rests = rest (λ e. cc) }
-    by why.NoMemory rest = record { fault = NoFault; fault_is = refl; images = images NoFault; rests = rest (λ e. cc) }
+        by : (w : StoreWhy) → (w ≢ why.DiskFault → IsAtRest at now_left × IsAtRest at now_right)
+            → LeavesBoth at left right (IsFaultAt (finish.NotOpened w) None) l r start [] now_left now_right
+        by why.DiskFault rest = record {
+          fault = InOpening;
+          fault_is = refl;
+          images = images InOpening;
+          rests = λ a b in_left in_right. (
+            refl,
+            opening.recovers l r start told_l told_r only_l only_r kept a b
+                ((at now_left).moment, left_time.later, omega arith, in_left)
+                ((at now_right).moment, right_time.later, omega arith, in_right),
+          );
+        }
+        by (why.Damaged side damage) rest = record {
+          fault = NoFault;
+          fault_is = refl;
+          images = images NoFault;
+          rests = rest (λ e. cc);
+        }
+        by why.NoMemory rest = record { fault = NoFault; fault_is = refl; images = images NoFault; rests = rest (λ e. cc) }
 
   -- ---- the sessions were served
 
@@ -148,8 +154,18 @@ module _ {D : Type 0} (at : D → DiskAt)
         → LeavesPast at (λ side. (at (on side store.left store.right)).moment) l r start requests fault
         served.left served.right
     leaves_since l r start requests fault leaves = record {
-      images = λ side image there. leaves.images side image (there.0, subst (λ k. k ≤ there.0) (same side) there.1, there.2, there.3);
-      whole = λ side first few image there. leaves.whole side first few image (there.0, subst (λ k. k ≤ there.0) (same side) there.1, there.2, there.3);
+      images = λ side image there. leaves.images side image (
+        there.0,
+        subst (λ k. k ≤ there.0) (same side) there.1,
+        there.2,
+        there.3,
+      );
+      whole = λ side first few image there. leaves.whole side first few image (
+        there.0,
+        subst (λ k. k ≤ there.0) (same side) there.1,
+        there.2,
+        there.3,
+      );
     } where
       same : (side : Side) → (at (on side store.left store.right)).moment
           ≡ on side (at store.left).moment (at store.right).moment
@@ -164,13 +180,15 @@ module _ {D : Type 0} (at : D → DiskAt)
         → ((l r : List ℕ) (start : State) → (at left).seen ≡ Some l → (at right).seen ≡ Some r → state_on l r ≡ Ok start
         → Serves at start (at store.left) (at store.right) scripts served)
         → (how : Finish) → IsFinishOf served.end how → At how (halted_in served.end) entries served.left served.right
-    leaves_served opening opened order left_telling right_telling left_time right_time serves how how_is l r start told_l told_r only_l only_r is kept =
+    leaves_served opening opened order left_telling right_telling left_time right_time serves how how_is l r start
+        told_l told_r only_l only_r is kept =
         let from = (serves l r start told_l told_r is).since.past a.0 b.0 a.1 b.1 in
         by_end served.end (from.0, from.1, (from.2, from.3)) how how_is where
           past : Past at (λ side. (at (on side left right)).moment) l r start [] store
           past =
               begins at may_stay l r start left right store told_l told_r kept
-              (opening.left_leaves l r told_l told_r only_l) (opening.right_leaves r told_r only_r) left_telling right_telling opened order
+              (opening.left_leaves l r told_l told_r only_l) (opening.right_leaves r told_r only_r) left_telling
+              right_telling opened order
 
           a : (held : List ℕ) × ((at store.left).seen ≡ Some held)
           a = value_of (at store.left).seen past.left_tells
@@ -190,14 +208,19 @@ module _ {D : Type 0} (at : D → DiskAt)
           calm : LeftBy a.0 b.0 start NoFault → (h : Finish) → IsFaultAt h None NoFault → Finishes l r start h None
           calm from h so = record { fault = NoFault; fault_is = so; images = along NoFault from.0; rests = from.1 }
 
-          by_end : (e : End) → (fault : Fault) × IsFaultOf (halt_of e) fault × LeftBy a.0 b.0 start fault → (h : Finish) → IsFinishOf e h → Finishes l r start h (halted_in e)
-          by_end end.All from h (inl h_is) = subst (λ (h : Finish). Finishes l r start h None) (sym h_is) (calm (subst (LeftBy a.0 b.0 start) from.1 from.2) finish.All refl)
-          by_end end.All from h (inr h_is) = subst (λ (h : Finish). Finishes l r start h None) (sym h_is) (calm (subst (LeftBy a.0 b.0 start) from.1 from.2) finish.WriteFault refl)
-          by_end end.NoMemory from h h_is = subst (λ (h : Finish). Finishes l r start h None) (sym h_is) (calm (subst (LeftBy a.0 b.0 start) from.1 from.2) finish.NoMemory refl)
+          by_end : (e : End) → (fault : Fault) × IsFaultOf (halt_of e) fault × LeftBy a.0 b.0 start fault → (h : Finish)
+              → IsFinishOf e h → Finishes l r start h (halted_in e)
+          by_end end.All from h (inl h_is) = subst (λ (h : Finish). Finishes l r start h None) (sym h_is)
+              (calm (subst (LeftBy a.0 b.0 start) from.1 from.2) finish.All refl)
+          by_end end.All from h (inr h_is) = subst (λ (h : Finish). Finishes l r start h None) (sym h_is)
+              (calm (subst (LeftBy a.0 b.0 start) from.1 from.2) finish.WriteFault refl)
+          by_end end.NoMemory from h h_is = subst (λ (h : Finish). Finishes l r start h None) (sym h_is)
+              (calm (subst (LeftBy a.0 b.0 start) from.1 from.2) finish.NoMemory refl)
           by_end (end.DiskFault halt) from h h_is =
               let c : Command = from.1.0 in
               let at_c : LeftBy a.0 b.0 start (AtCommand c) = subst (LeftBy a.0 b.0 start) from.1.2 from.2 in
               let here : IsFaultAt finish.DiskFault (called halt.session halt.request) (AtCommand c) =
-              subst (λ (q : Request). IsFaultAt finish.DiskFault (called halt.session q) (AtCommand c)) (sym from.1.1) refl in
+              subst (λ (q : Request). IsFaultAt finish.DiskFault (called halt.session q) (AtCommand c))
+              (sym from.1.1) refl in
               subst (λ (h : Finish). Finishes l r start h (called halt.session halt.request)) (sym h_is)
               (record { fault = AtCommand c; fault_is = here; images = along (AtCommand c) at_c.0; rests = at_c.1 })

@@ -1,4 +1,5 @@
-//! The word `serve`: what the lines of all sessions ask is answered at once over two disks, and the history is written.
+//! The word `serve`: what the lines of all sessions ask is answered at once over two disks, and the
+//! history is written.
 
 ghost use Rattle.std.specs.Prelude.{◌≡◌, ◌↔◌, [], map, IsSome};
 ghost use Rattle.liq_outside.specs.Disk.{GoesOn};
@@ -28,7 +29,8 @@ use std::thread::Threads;
 pub enum Finish {
     /// Each line was answered, and all is written.
     All,
-    /// The input was not read to its end, or there was no memory for the output. Nothing was opened.
+    /// The input was not read to its end, or there was no memory for the output. Nothing was
+    /// opened.
     NotRead(Stop),
     /// No store was opened.
     NotOpened(StoreWhy),
@@ -48,12 +50,14 @@ pub struct Finished<D> {
     pub finish: Finish,
 }
 
-/// Reads the input to its end, each line a session from 1 to 8 and its request; opens the store of two disks; answers the lines of
-/// all sessions at once, each session's in order; and writes the one history of what was answered.
+/// Reads the input to its end, each line a session from 1 to 8 and its request; opens the store of
+/// two disks; answers the lines of all sessions at once, each session's in order; and writes the
+/// one history of what was answered.
 ///
-/// Where the input was not read to its end the disks are as they were. Some call met a fault of a disk exactly where the finish is
-/// [`Finish::DiskFault`], whatever other calls were told; want of memory is told only where none did. Where all was answered
-/// `out` is shown the disks before the first byte of the history, as no call can touch them from then on: nothing is pending on them.
+/// Where the input was not read to its end the disks are as they were. Some call met a fault of a
+/// disk exactly where the finish is [`Finish::DiskFault`], whatever other calls were told; want of
+/// memory is told only where none did. Where all was answered `out` is shown the disks before the
+/// first byte of the history, as no call can touch them from then on: nothing is pending on them.
 pub fn serve_input<S: Source, K: Sink, D: Disk + Send, G: Gate + Sync, R: Threads + Wait + Sync>(
     rt: &R,
     alloc: Global,

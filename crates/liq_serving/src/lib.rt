@@ -1,5 +1,5 @@
-//! The scripts of all sessions, served at once by one book over an opened store; and whole, from the lines of an input to the history
-//! that is written.
+//! The scripts of all sessions, served at once by one book over an opened store; and whole, from
+//! the lines of an input to the history that is written.
 #![tactic(auto)]
 
 mod input;

@@ -12,8 +12,8 @@ use std::alloc::Global;
 use std::sync::Wait;
 use std::thread::Threads;
 
-/// Runs the scripts at a desk, each with the seat and the hinter at its place. All seats come back, and whether each script got replies to
-/// all its requests. Where there is no memory none is begun.
+/// Runs the scripts at a desk, each with the seat and the hinter at its place. All seats come back,
+/// and whether each script got replies to all its requests. Where there is no memory none is begun.
 pub(crate) fn run_at<
     K: Desk + Sync,
     H: Hinter + Drop + Send,

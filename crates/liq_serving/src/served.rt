@@ -12,7 +12,8 @@ use liq_outside::Disk;
 pub enum End {
     /// Each request of each script got a reply.
     All,
-    /// There was no memory for some call, whose script lacks its reply; or for the service, and nothing was answered at all.
+    /// There was no memory for some call, whose script lacks its reply; or for the service, and
+    /// nothing was answered at all.
     NoMemory,
     /// A call met a fault of a disk, and no later one got a reply.
     DiskFault(Halt),

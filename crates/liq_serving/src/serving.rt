@@ -21,13 +21,14 @@ use std::marker::Brand;
 use std::sync::Wait;
 use std::thread::Threads;
 
-/// Serves the scripts of the sessions from 1 on, all at once, over a store that is open: a book is made with a seat for each, the
-/// sessions run, each asking a finder of its own for a hint before a call and publishing the list behind one that changed it, all seats
-/// come back, and the book is closed. All scripts together have at most [`liq_book::ENTRIES_MOST`]
-/// requests, so that the book is never full.
+/// Serves the scripts of the sessions from 1 on, all at once, over a store that is open: a book is
+/// made with a seat for each, the sessions run, each asking a finder of its own for a hint before a
+/// call and publishing the list behind one that changed it, all seats come back, and the book is
+/// closed. All scripts together have at most [`liq_book::ENTRIES_MOST`] requests, so that the book
+/// is never full.
 ///
-/// The history is legal from each state for which the store's protocol stands. A disk's count rose exactly where the end
-/// is [`End::DiskFault`].
+/// The history is legal from each state for which the store's protocol stands. A disk's count rose
+/// exactly where the end is [`End::DiskFault`].
 pub fn serve_sessions<D: Disk + Send, G: Gate + Sync, R: Threads + Wait + Sync>(
     rt: &R,
     alloc: Global,

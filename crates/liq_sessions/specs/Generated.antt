@@ -37,7 +37,8 @@ PREAMBLE = 150
 abbrev pub LIQUIDATOR : ℕ
 LIQUIDATOR = 1000
 
--- the call of the preamble that has so many before it: each owner brings collateral in, opens a trove and provides
+-- the call of the preamble that has so many before it: each owner brings collateral in, opens a
+-- trove and provides
 abbrev pub opening_call : ℕ → Call
 opening_call before =
     let account = 1 + before / 3 in

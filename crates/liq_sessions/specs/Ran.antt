@@ -11,7 +11,8 @@ abbrev pub IsNoReply : Answer → Type 0
 IsNoReply (answer.Reply reply) = ⊥
 IsNoReply other = Unit {0}
 
--- How a session ends that has these requests left: with none, or at the first of them, which got an answer that is no reply.
+-- How a session ends that has these requests left: with none, or at the first of them, which got an
+-- answer that is no reply.
 abbrev pub EndsAt : Type 0 → List Request → SessionEnd → Type 0
 EndsAt knows_end left All = left ≡ []
 EndsAt knows_end left (Fault answer) = (left ≢ []) × IsNoReply answer × EndsKnown knows_end answer

@@ -14,11 +14,12 @@ use std::alloc::{AllocError, Global};
 use std::sync::Wait;
 use std::thread::{Threads, join};
 
-/// Runs the scripts of sessions at once, each in a thread of its own: each request in its turn, with the hint that the
-/// session's hinter finds for it, and with the gate before and behind each call. The seats are those of the desk, and a
-/// script has at most [`REQUESTS_MOST`] requests. Each work comes back at its place with the replies that it got. All
-/// memory is taken before the first call: where there is none the works come back as they were. No thread is made for a
-/// script without requests, nor for the first session, which runs in this one.
+/// Runs the scripts of sessions at once, each in a thread of its own: each request in its turn,
+/// with the hint that the session's hinter finds for it, and with the gate before and behind each
+/// call. The seats are those of the desk, and a script has at most [`REQUESTS_MOST`] requests. Each
+/// work comes back at its place with the replies that it got. All memory is taken before the first
+/// call: where there is none the works come back as they were. No thread is made for a script
+/// without requests, nor for the first session, which runs in this one.
 pub fn run_sessions<
     K: Desk + Sync,
     G: Gate + Sync,
@@ -35,7 +36,8 @@ where
     K::Seat: Drop + Send,
     requires belong { All (λ w. K.belongs desk.now w.seat) work.items }
     requires short { All (λ w. length w.script.requests ≤ REQUESTS_MOST) work.items }
-    ensures done { IfOk result (λ done. AllZip (HasRun (K.belongs desk.now) K.number K.own K.knows_end K.faulted) work.items done.items) }
+    ensures done { IfOk result (λ done. AllZip (HasRun (K.belongs desk.now) K.number K.own
+        K.knows_end K.faulted) work.items done.items) }
     ensures back { IfErr result (λ back. back.items ≡ work.items) }
 {
     let Ok(replies) = reply_lists(alloc, work.as_slice()) else {
@@ -63,9 +65,9 @@ where
     Ok(lists)
 }
 
-/// Runs the last of the works in a new thread, and those before it in this one. Where there are none before it, or it
-/// has nothing to ask, it runs in this one too. It takes no memory: there is room for the replies of each work, and for
-/// what each comes to.
+/// Runs the last of the works in a new thread, and those before it in this one. Where there are
+/// none before it, or it has nothing to ask, it runs in this one too. It takes no memory: there is
+/// room for the replies of each work, and for what each comes to.
 fn run_all<K: Desk + Sync, G: Gate + Sync, H: Hinter + Drop + Send, R: Threads + Wait + Sync>(
     rt: &R,
     desk: &K,
@@ -79,7 +81,8 @@ where
     requires ready { AllZip (IsReady (K.belongs desk.now)) work.items replies.items }
     requires fresh { done.items ≡ [] }
     requires room { vec_len work ≤ vec_capacity done }
-    ensures done { AllZip (HasRun (K.belongs desk.now) K.number K.own K.knows_end K.faulted) work.items result.items }
+    ensures done { AllZip (HasRun (K.belongs desk.now) K.number K.own K.knows_end K.faulted)
+        work.items result.items }
     ensures room { vec_capacity result ≡ vec_capacity done }
 {
     let Some(last) = work.pop() else {
@@ -97,11 +100,14 @@ where
         rt,
         move || -> SessionDone<K, H>
             requires { IsReady (K.belongs desk.now) last list }
-            ensures { HasRun (K.belongs desk.entry.now) K.number K.own K.knows_end K.faulted last result }
+            ensures { HasRun (K.belongs desk.entry.now) K.number K.own K.knows_end K.faulted last
+                result }
         { run_session(rt, desk, gate, last, list) },
         move || -> Vec<SessionDone<K, H>>
-            requires { IsSync R.row × AllZip (IsReady (K.belongs desk.now)) work.items replies.items × (done.items ≡ []) × (vec_len work ≤ vec_capacity done) }
-            ensures { AllZip (HasRun (K.belongs desk.entry.now) K.number K.own K.knows_end K.faulted) work.items result.items × (vec_capacity result ≡ vec_capacity done) }
+            requires { IsSync R.row × AllZip (IsReady (K.belongs desk.now)) work.items replies.items
+                × (done.items ≡ []) × (vec_len work ≤ vec_capacity done) }
+            ensures { AllZip (HasRun (K.belongs desk.entry.now) K.number K.own K.knows_end
+                K.faulted) work.items result.items × (vec_capacity result ≡ vec_capacity done) }
         { run_all(rt, desk, gate, work, replies, done) },
     );
     all.push_reserved(one);

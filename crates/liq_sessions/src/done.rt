@@ -57,7 +57,8 @@ pub enum SessionEnd {
     Fault(Answer),
 }
 
-/// What a session came to: the replies to the first requests of its script, and its seat and its hinter back.
+/// What a session came to: the replies to the first requests of its script, and its seat and its
+/// hinter back.
 #[derive(Drop)]
 pub struct SessionDone<K: Desk, H: Drop>
 where

@@ -2,8 +2,8 @@
 
 use liq_types::Hint;
 
-/// What stands before and behind each call of a session. Calls are counted for each session, from 1. No clause knows what a
-/// gate does: it changes no reply.
+/// What stands before and behind each call of a session. Calls are counted for each session, from
+/// 1. No clause knows what a gate does: it changes no reply.
 pub trait Gate {
     /// The session comes to its next call.
     fn enter(&self, session: u8, index: u32);

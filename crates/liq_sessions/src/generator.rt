@@ -17,7 +17,8 @@ const PREAMBLE: u64 = 3 * OWNERS;
 /// Who liquidates.
 const LIQUIDATOR: u32 = 1000;
 
-/// Calls that a seed determines, one after the other. Contracts see the list of those that are still to come.
+/// Calls that a seed determines, one after the other. Contracts see the list of those that are
+/// still to come.
 #[derive(Clone, Drop)]
 pub struct Generator {
     state: u64,

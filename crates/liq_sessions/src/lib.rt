@@ -1,4 +1,5 @@
-//! Sessions: scripts of requests that are asked at once, each in its order; and a load of calls that a seed alone determines.
+//! Sessions: scripts of requests that are asked at once, each in its order; and a load of calls
+//! that a seed alone determines.
 #![tactic(auto)]
 
 mod at_once;

@@ -93,9 +93,11 @@ impl Model for Asked {
 }
 
 impl Asked {
-    /// The next request, which is left no more. Each time half of the memory is free it is given back.
+    /// The next request, which is left no more. Each time half of the memory is free it is given
+    /// back.
     pub(crate) fn next(&mut self) -> Option<Request>
-        ensures { MatchOption result ((self.old ≡ []) × (self.new ≡ [])) (λ request. self.old ≡ request ∷ self.new) }
+        ensures { MatchOption result ((self.old ≡ []) × (self.new ≡ [])) (λ request. self.old
+            ≡ request ∷ self.new) }
     {
         let request = self.later.pop()?;
         let left = self.later.len();

@@ -8,8 +8,8 @@ use crate::script::Script;
 use liq_types::{Answer, Desk, Hinter, Reply};
 use std::sync::Wait;
 
-/// Asks the requests of a script one after the other, each with the hint that is found for it, up to the first answer that is
-/// no reply. The replies go into a list that has room for all of them.
+/// Asks the requests of a script one after the other, each with the hint that is found for it, up
+/// to the first answer that is no reply. The replies go into a list that has room for all of them.
 pub(crate) fn run_session<K: Desk, G: Gate, H: Hinter + Drop, W: Wait>(
     rt: &W,
     desk: &K,

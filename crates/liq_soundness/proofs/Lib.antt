@@ -3,13 +3,13 @@ pub mod SoundBounds
 pub mod SoundCalls
 pub mod SoundEvents
 pub mod SoundFacts
-pub mod SoundLimits
+mod SoundLimits
 pub mod SoundLiquidate
 pub mod SoundPool
-pub mod SoundProducts
+mod SoundProducts
 pub mod SoundPromises
 pub mod SoundRedeem
-pub mod SoundSame
+mod SoundSame
 pub mod SoundStart
 pub mod SoundStep
 pub mod SoundTests

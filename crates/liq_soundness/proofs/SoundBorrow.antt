@@ -48,7 +48,8 @@ use Rattle.liq_soundness.proofs.SoundFacts.{conserved_by, Finds, Stands, Homes, 
 
 pub decayed_within : (base fee_minute minute : ℕ) → decayed base fee_minute minute ≤ base
 decayed_within base fee_minute minute =
-    let part : base * power_of DECAY (minute - fee_minute) ≤ base * ONE = mul-le-mul_left base (power_of-le DECAY (minute - fee_minute) (omega arith)) in
+    let part : base * power_of DECAY (minute - fee_minute) ≤ base * ONE =
+    mul-le-mul_left base (power_of-le DECAY (minute - fee_minute) (omega arith)) in
     div-le_of_le-mul ONE (omega (arith, part))
 
 pub record RateInRange (s : State) (r : Rate) : Type 0 where
@@ -57,11 +58,14 @@ pub record RateInRange (s : State) (r : Rate) : Type 0 where
 
 pub borrowed_in_range : (s : State) → InRange s → (borrow : ℕ) → RateInRange s (rate_borrowed (market_of s) borrow)
 borrowed_in_range s h borrow = by (is_normal (market_of s) && nat_lt 0 borrow) where
-  by : (b : Bool) → RateInRange s (cond b (record { base = rate_left (market_of s); minute = s.minute }) (record { base = s.base; minute = s.fee_minute }))
-  by true = let less = decayed_within s.base s.fee_minute s.minute in record { base = omega (arith, less, h.base); minute = omega arith }
+  by : (b : Bool) → RateInRange s (cond b (record { base = rate_left (market_of s); minute = s.minute })
+      (record { base = s.base; minute = s.fee_minute }))
+  by true = let less = decayed_within s.base s.fee_minute s.minute
+      in record { base = omega (arith, less, h.base); minute = omega arith }
   by false = record { base = h.base; minute = h.fee_minute }
 
-pub ranges_with : (s t : State) → InRange s → (r : Rate) → RateInRange s r → t.price ≡ s.price → t.minute ≡ s.minute → t.fee_minute ≡ r.minute → t.base ≡ r.base → t.generation ≡ s.generation → t.limit ≡ s.limit → InRange t
+pub ranges_with : (s t : State) → InRange s → (r : Rate) → RateInRange s r → t.price ≡ s.price → t.minute ≡ s.minute
+    → t.fee_minute ≡ r.minute → t.base ≡ r.base → t.generation ≡ s.generation → t.limit ≡ s.limit → InRange t
 ranges_with s t h r k price minute fee_minute base generation limit =
     record {
       price_least = omega (arith, price, h.price_least);
@@ -86,23 +90,40 @@ pub record HasTrove (s : State) (account coll debt : ℕ) : Type 0 where
   pub some : 1 ≤ coll
   pub least : RESERVE + MIN_NET ≤ debt
 
-has_by : (s : State) (account : ℕ) (own : ℕ × ℕ) → Stands LIM s → (o : Option TroveEntry) → at s.troves account ≡ o → option_map (entire_by (sums_words s)) (option_map (trove_row s) o) ≡ Some own → HasTrove s account own.0 own.1
+has_by : (s : State) (account : ℕ) (own : ℕ × ℕ) → Stands LIM s → (o : Option TroveEntry) → at s.troves account ≡ o
+    → option_map (entire_by (sums_words s)) (option_map (trove_row s) o) ≡ Some own → HasTrove s account own.0 own.1
 has_by s account own h None e k = cc
 has_by s account own h (Some t) e k =
     let same : entire_by (sums_words s) (trove_row s t) ≡ own = the k in
-    let row : at (trove_rows s) account ≡ Some (trove_row s t) = at-map (trove_row s) s.troves account ∙ ap (λ (o : Option TroveEntry). option_map (trove_row s) o) e in
+    let row : at (trove_rows s) account ≡ Some (trove_row s t) = at-map (trove_row s) s.troves account
+    ∙ ap (λ (o : Option TroveEntry). option_map (trove_row s) o) e in
     let w = trove_within (books_of s) account (trove_row s t) row h.troves in
     let coll : own.0 ≡ t.coll + pending_coll s t = sym (ap (λ (p : ℕ × ℕ). p.0) same) in
     let debt : own.1 ≡ t.debt + pending_debt s t = sym (ap (λ (p : ℕ × ℕ). p.1) same) in
-    record { entry = t; there = e; coll_is = coll; debt_is = debt; within = w; some = omega (arith, coll, w.stands.some, w.stands.within); least = omega (arith, debt, w.stands.debt) }
+    record {
+      entry = t;
+      there = e;
+      coll_is = coll;
+      debt_is = debt;
+      within = w;
+      some = omega (
+        arith,
+        coll,
+        w.stands.some,
+        w.stands.within,
+      );
+      least = omega (arith, debt, w.stands.debt);
+    }
   where
     the : (Some (entire_by (sums_words s) (trove_row s t))) ≡ Some own → entire_by (sums_words s) (trove_row s t) ≡ own
     the q = cc
 
-pub has_trove : (s : State) (account : ℕ) (own : ℕ × ℕ) → Stands LIM s → entire_of s account ≡ Some own → HasTrove s account own.0 own.1
+pub has_trove : (s : State) (account : ℕ) (own : ℕ × ℕ) → Stands LIM s → entire_of s account ≡ Some own
+    → HasTrove s account own.0 own.1
 has_trove s account own h e =
     has_by s account own h (at s.troves account) refl
-    (ap (λ (o : Option Trove). option_map (entire_by (sums_words s)) o) (sym (at-map (trove_row s) s.troves account)) ∙ e)
+    (ap (λ (o : Option Trove). option_map (entire_by (sums_words s)) o) (sym (at-map (trove_row s) s.troves account))
+    ∙ e)
 
 -- the entire amounts, where the account has a trove
 pub told : (o : Option (ℕ × ℕ)) → is_none o ≡ false → o ≡ Some (or_nothing o)
@@ -110,13 +131,16 @@ told None h = cc
 told (Some own) h = refl
 
 -- no row is left where a trove was lifted
-pub lifted_none : (s : State) (account : ℕ) (o : Option TroveEntry) → at s.troves account ≡ o → Ascends s.troves → at (lifted_entry s account o).troves account ≡ None
+pub lifted_none : (s : State) (account : ℕ) (o : Option TroveEntry) → at s.troves account ≡ o → Ascends s.troves
+    → at (lifted_entry s account o).troves account ≡ None
 lifted_none s account None e a = e
 lifted_none s account (Some t) e a = at-without_same s.troves account a
 
-pub set_stands : (s : State) (account coll debt : ℕ) → account < ACCOUNTS → 1 ≤ coll → RESERVE + MIN_NET ≤ debt → Stands LIM s → Stands LIM (set_trove s account coll debt)
+pub set_stands : (s : State) (account coll debt : ℕ) → account < ACCOUNTS → 1 ≤ coll → RESERVE + MIN_NET ≤ debt
+    → Stands LIM s → Stands LIM (set_trove s account coll debt)
 set_stands s account coll debt k some enough h =
-    placed_stands (lifted s account) account coll debt k (lifted_none s account (at s.troves account) refl (trove_table s h.troves.ascend)) some enough (lifted_stands s account h)
+    placed_stands (lifted s account) account coll debt k (lifted_none s account (at s.troves account) refl
+    (trove_table s h.troves.ascend)) some enough (lifted_stands s account h)
 
 -- ---- open
 
@@ -140,7 +164,9 @@ pub record OpenAllows (s : State) (account coll borrow : ℕ) : Type 0 where
   pub some : 1 ≤ coll
   pub least : RESERVE + MIN_NET ≤ (opening_terms (market_of s) coll borrow).debt
 
-pub open_allows : (s : State) (account coll borrow bound : ℕ) → first_refusal (open_rules (market_of s) (wallet_of s account) (is_some (at s.troves account)) account coll borrow bound) ≡ None → OpenAllows s account coll borrow
+pub open_allows : (s : State) (account coll borrow bound : ℕ)
+    → first_refusal (open_rules (market_of s) (wallet_of s account) (is_some (at s.troves account)) account coll borrow
+    bound) ≡ None → OpenAllows s account coll borrow
 open_allows s account coll borrow bound h =
     let m = market_of s in
     let plan = opening_terms m coll borrow in
@@ -150,7 +176,8 @@ open_allows s account coll borrow bound h =
       absent = absent (at s.troves account) passes.absent;
       enough = passes.enough;
       limit = passes.limit;
-      some = ratio_some coll s.price (least_ratio m) plan.debt passes.ratio (some_percent m plan.debt (omega (arith, net)));
+      some = ratio_some coll s.price (least_ratio m) plan.debt passes.ratio (some_percent m plan.debt
+          (omega (arith, net)));
       least = omega (arith, net);
     }
   where
@@ -158,21 +185,37 @@ open_allows s account coll borrow bound h =
     absent None e = refl
     absent (Some t) e = cc
 
-pub open_leaves : (s : State) → Finds s → (account coll borrow bound : ℕ) (hint : HintWords) → account < ACCOUNTS → first_refusal (rules s (Open account coll borrow bound hint)) ≡ None → Leaves 0 s (effect s (Open account coll borrow bound hint))
+pub open_leaves : (s : State) → Finds s → (account coll borrow bound : ℕ) (hint : HintWords) → account < ACCOUNTS
+    → first_refusal (rules s (Open account coll borrow bound hint)) ≡ None
+    → Leaves 0 s (effect s (Open account coll borrow bound hint))
 open_leaves s f account coll borrow bound hint k h =
     let m = market_of s in
     let plan = opening_terms m coll borrow in
     let a = open_allows s account coll borrow bound h in
     let feed = with_fee s plan in
     let lent = credited (charged feed account coll 0) account 0 borrow in
-    let fed : Stands LIM feed = fees_stand s plan.rate.base plan.rate.minute s.fee_coll (s.fee_lusd + plan.fee) f.stands in
-    let moved : Stands LIM lent = paid_stands (charged feed account coll 0) account k (charged_stands feed account k fed coll 0) 0 borrow in
-    let conserved = opening_conserves s account coll borrow bound (in_order s f.stands) h (conserved_by s f.stands f.balanced.homes) in
+    let fed : Stands LIM feed = fees_stand s plan.rate.base plan.rate.minute s.fee_coll (s.fee_lusd + plan.fee) f.stands
+    in
+    let moved : Stands LIM lent = paid_stands (charged feed account coll 0) account k
+    (charged_stands feed account k fed coll 0) 0 borrow in
+    let conserved = opening_conserves s account coll borrow bound (in_order s f.stands) h
+    (conserved_by s f.stands f.balanced.homes) in
     record {
-      stands = placed_stands (record lent { reserve = lent.reserve + RESERVE }) account coll plan.debt k a.absent a.some a.least (reserve_stands lent (lent.reserve + RESERVE) moved);
-      rest = rest_in_place s (opened s account borrow plan) (homes_of _ conserved) f.limited.coll (omega (arith, a.limit))
-          (ranges_with s (opened s account borrow plan) f.ranges plan.rate (borrowed_in_range s f.ranges borrow) refl refl refl refl refl refl) refl refl refl refl refl
-          (λ h. all-put (λ (x : TroveEntry). IsSetSince x.mark) s.troves account (record { coll = coll; debt = plan.debt; stake = stake_for (record lent { reserve = lent.reserve + RESERVE }) coll; mark = After (length s.redistributions) }) tt h);
+      stands = placed_stands (record lent { reserve = lent.reserve + RESERVE }) account coll plan.debt k a.absent a.some
+          a.least (reserve_stands lent (lent.reserve + RESERVE) moved);
+      rest = rest_in_place s (opened s account borrow plan) (homes_of _ conserved) f.limited.coll (omega (
+        arith,
+        a.limit,
+      ))
+          (ranges_with s (opened s account borrow plan) f.ranges plan.rate (borrowed_in_range s f.ranges borrow) refl
+          refl refl refl refl refl) refl refl refl refl refl
+          (λ h. all-put (λ (x : TroveEntry). IsSetSince x.mark) s.troves account (record {
+            coll = coll;
+            debt = plan.debt;
+            stake = stake_for (record lent { reserve = lent.reserve + RESERVE }) coll;
+            mark =
+                After (length s.redistributions);
+          }) tt h);
     }
 
 -- ---- adjust
@@ -189,14 +232,17 @@ pub record Allows (s : State) (account coll debt : ℕ) (change : Change) (plan 
   pub some : 1 ≤ plan.coll
   pub least : RESERVE + MIN_NET ≤ plan.debt
 
-module _ (s : State) (f : Finds s) (account coll debt : ℕ) (change : Change) (bound : ℕ) (there : entire_of s account ≡ Some (coll, debt)) (h : first_refusal (adjust_rules (market_of s) (wallet_of s account) (entire_of s account) account change bound) ≡ None) where
+module _ (s : State) (f : Finds s) (account coll debt : ℕ) (change : Change) (bound : ℕ) (there : entire_of s account
+    ≡ Some (coll, debt)) (h : first_refusal (adjust_rules (market_of s) (wallet_of s account) (entire_of s account)
+    account change bound) ≡ None) where
   pub adjust_allows : Allows s account coll debt change (adjusting_terms (market_of s) (coll, debt) change)
   adjust_allows =
       let m = market_of s in
       let plan = adjusting_terms m (coll, debt) change in
       let has = has_trove s account (coll, debt) f.stands there in
       let passes = change_passes m (wallet_of s account) (Some (coll, debt)) change account bound
-      (subst (λ (o : Option (ℕ × ℕ)). first_refusal (adjust_rules m (wallet_of s account) o account change bound) ≡ None) there h) in
+      (subst (λ (o : Option (ℕ × ℕ)). first_refusal (adjust_rules m (wallet_of s account) o account change bound)
+      ≡ None) there h) in
       let kept = keeps_net change.repay passes.net has.least in
       let least : RESERVE + MIN_NET ≤ plan.debt = omega (arith, kept) in
       record {
@@ -207,30 +253,46 @@ module _ (s : State) (f : Finds s) (account coll debt : ℕ) (change : Change) (
         limit = passes.limit;
         coll_is = refl;
         debt_is = refl;
-        some = keeps_some (is_recovery m) (nat_lt 0 change.borrow) refl refl passes.normal passes.ratio passes.coll_out has.some (omega (arith, least));
+        some = keeps_some (is_recovery m) (nat_lt 0 change.borrow) refl refl passes.normal passes.ratio passes.coll_out
+            has.some (omega (arith, least));
         least = least;
       }
     where
-      keeps_net : (repay : ℕ) → (0 < repay → MIN_NET ≤ debt - RESERVE - repay) → RESERVE + MIN_NET ≤ debt → RESERVE + MIN_NET + repay ≤ debt
+      keeps_net : (repay : ℕ) → (0 < repay → MIN_NET ≤ debt - RESERVE - repay) → RESERVE + MIN_NET ≤ debt
+          → RESERVE + MIN_NET + repay ≤ debt
       keeps_net zero net least = omega (arith, least)
       keeps_net (suc n) net least = let enough = net (omega arith) in omega (arith, enough)
 
-      keeps_some : (r b : Bool) → is_recovery (market_of s) ≡ r → nat_lt 0 change.borrow ≡ b → (0 < change.coll_out → r ≡ false) → ((not r || b) ≡ true → asked (least_ratio (market_of s)) (adjusting_terms (market_of s) (coll, debt) change).debt ≤ worth (coll + change.coll_in - change.coll_out) s.price) → change.coll_out ≤ coll → 1 ≤ coll → 1 ≤ (adjusting_terms (market_of s) (coll, debt) change).debt → 1 ≤ coll + change.coll_in - change.coll_out
-      keeps_some true true e g normal ratio out some debt_some = ratio_some (coll + change.coll_in - change.coll_out) s.price (least_ratio (market_of s)) _ (ratio refl) (some_percent (market_of s) _ debt_some)
-      keeps_some false b e g normal ratio out some debt_some = ratio_some (coll + change.coll_in - change.coll_out) s.price (least_ratio (market_of s)) _ (ratio refl) (some_percent (market_of s) _ debt_some)
+      keeps_some : (r b : Bool) → is_recovery (market_of s) ≡ r → nat_lt 0 change.borrow ≡ b → (0 < change.coll_out
+          → r ≡ false) → ((not r || b) ≡ true → asked (least_ratio (market_of s)) (adjusting_terms (market_of s) (
+            coll,
+            debt,
+          ) change).debt ≤ worth (coll + change.coll_in - change.coll_out) s.price) → change.coll_out ≤ coll
+          → 1 ≤ coll → 1 ≤ (adjusting_terms (market_of s) (coll, debt) change).debt
+          → 1 ≤ coll + change.coll_in - change.coll_out
+      keeps_some true true e g normal ratio out some debt_some =
+          ratio_some (coll + change.coll_in - change.coll_out) s.price (least_ratio (market_of s)) _ (ratio refl)
+          (some_percent (market_of s) _ debt_some)
+      keeps_some false b e g normal ratio out some debt_some =
+          ratio_some (coll + change.coll_in - change.coll_out) s.price (least_ratio (market_of s)) _ (ratio refl)
+          (some_percent (market_of s) _ debt_some)
       keeps_some true false e g normal ratio out some debt_some = stays change.coll_out normal where
         stays : (n : ℕ) → (0 < n → true ≡ false) → 1 ≤ coll + change.coll_in - n
         stays zero normally = omega (arith, some)
         stays (suc n) normally = let never = normally (omega arith) in cc
 
-  adjust_stands : account < ACCOUNTS → Stands LIM (adjusted s account change (adjusting_terms (market_of s) (coll, debt) change))
+  adjust_stands : account < ACCOUNTS
+      → Stands LIM (adjusted s account change (adjusting_terms (market_of s) (coll, debt) change))
   adjust_stands k =
       let plan = adjusting_terms (market_of s) (coll, debt) change in
       let a = adjust_allows in
       let feed = with_fee s plan in
-      let fed : Stands LIM feed = fees_stand s plan.rate.base plan.rate.minute s.fee_coll (s.fee_lusd + plan.fee) f.stands in
-      let moved = paid_stands (charged feed account change.coll_in change.repay) account k (charged_stands feed account k fed change.coll_in change.repay) change.coll_out change.borrow in
-      set_stands (credited (charged feed account change.coll_in change.repay) account change.coll_out change.borrow) account plan.coll plan.debt k a.some a.least moved
+      let fed : Stands LIM feed = fees_stand s plan.rate.base plan.rate.minute s.fee_coll (s.fee_lusd + plan.fee)
+      f.stands in
+      let moved = paid_stands (charged feed account change.coll_in change.repay) account k
+      (charged_stands feed account k fed change.coll_in change.repay) change.coll_out change.borrow in
+      set_stands (credited (charged feed account change.coll_in change.repay) account change.coll_out change.borrow)
+      account plan.coll plan.debt k a.some a.least moved
 
   adjust_rest : Rest 0 s (adjusted s account change (adjusting_terms (market_of s) (coll, debt) change))
   adjust_rest =
@@ -243,13 +305,22 @@ module _ (s : State) (f : Finds s) (account coll debt : ℕ) (change : Change) (
       let feed = with_fee s plan in
       let mid = charged feed account change.coll_in change.repay in
       let moved = credited mid account change.coll_out change.borrow in
-      let ordered = wallet-ascends s.wallets account (record { coll = (wallet_of s account).coll - change.coll_in; lusd = (wallet_of s account).lusd - change.repay }) f.stands.wallets.ascend in
+      let ordered = wallet-ascends s.wallets account (record {
+        coll = (wallet_of s account).coll - change.coll_in;
+        lusd = (wallet_of s account).lusd - change.repay;
+      }) f.stands.wallets.ascend in
       let c1 = charged_coll feed account change.coll_in change.repay f.stands.wallets.ascend a.coll_in in
       let l1 = charged_lusd feed account change.coll_in change.repay f.stands.wallets.ascend a.repay in
       let c2 = paid_coll mid account change.coll_out change.borrow ordered in
       let l2 = paid_lusd mid account change.coll_out change.borrow ordered in
       let gone = length-without s.troves account e has.there in
-      let back = length-put (without s.troves account) account (record { coll = plan.coll; debt = plan.debt; stake = stake_for moved plan.coll; mark = After (length s.redistributions) }) (at-without_same s.troves account (trove_table s f.stands.troves.ascend)) in
+      let back = length-put (without s.troves account) account (record {
+        coll = plan.coll;
+        debt = plan.debt;
+        stake = stake_for moved plan.coll;
+        mark = After (length s.redistributions);
+      }) (at-without_same s.troves account
+      (trove_table s f.stands.troves.ascend)) in
       let made = placed (lifted_entry moved account (Some e)) account plan.coll plan.debt in
       let homes : Homes made = record {
         coll = omega (arith, c1, c2, c.coll, a.coll_out, has.coll_is, w.coll, w.pending_coll);
@@ -257,22 +328,37 @@ module _ (s : State) (f : Finds s) (account coll debt : ℕ) (change : Change) (
         reserve = omega (arith, gone, back, c.reserve);
         surplus = c.surplus;
       } in
-      subst (λ (o : Option TroveEntry). Rest 0 s (placed (lifted_entry moved account o) account plan.coll plan.debt)) (sym has.there)
+      subst (λ (o : Option TroveEntry). Rest 0 s (placed (lifted_entry moved account o) account plan.coll plan.debt))
+      (sym has.there)
       (rest_in_place s made homes f.limited.coll (omega (arith, a.limit, has.debt_is, w.debt, w.pending_debt))
-      (ranges_with s made f.ranges plan.rate (borrowed_in_range s f.ranges change.borrow) refl refl refl refl refl refl) refl refl refl refl refl
-      (λ n. all-put (λ (x : TroveEntry). IsSetSince x.mark) (without s.troves account) account (record { coll = plan.coll; debt = plan.debt; stake = stake_for moved plan.coll; mark = After (length s.redistributions) }) tt (all-without (λ (x : TroveEntry). IsSetSince x.mark) s.troves account n)))
+      (ranges_with s made f.ranges plan.rate (borrowed_in_range s f.ranges change.borrow) refl refl refl refl refl refl)
+      refl refl refl refl refl
+      (λ n. all-put (λ (x : TroveEntry). IsSetSince x.mark) (without s.troves account) account
+      (record {
+        coll = plan.coll;
+        debt = plan.debt;
+        stake = stake_for moved plan.coll;
+        mark = After (length s.redistributions);
+      }) tt (all-without (λ (x : TroveEntry). IsSetSince x.mark) s.troves
+      account n)))
 
 -- the same, of the account's entire amounts
-pub adjust_allows_own : (s : State) → Finds s → (account bound : ℕ) (change : Change) → first_refusal (adjust_rules (market_of s) (wallet_of s account) (entire_of s account) account change bound) ≡ None → Allows s account (or_nothing (entire_of s account)).0 (or_nothing (entire_of s account)).1 change (adjusting_terms (market_of s) (or_nothing (entire_of s account)) change)
+pub adjust_allows_own : (s : State) → Finds s → (account bound : ℕ) (change : Change)
+    → first_refusal (adjust_rules (market_of s) (wallet_of s account) (entire_of s account) account change bound) ≡ None
+    → Allows s account (or_nothing (entire_of s account)).0 (or_nothing (entire_of s account)).1 change
+    (adjusting_terms (market_of s) (or_nothing (entire_of s account)) change)
 adjust_allows_own s f account bound change h =
     let own = or_nothing (entire_of s account) in
     let passes = change_passes (market_of s) (wallet_of s account) (entire_of s account) change account bound h in
     adjust_allows s f account own.0 own.1 change bound (told (entire_of s account) passes.there) h
 
-pub adjust_leaves : (s : State) → Finds s → (account bound : ℕ) (change : Change) → account < ACCOUNTS → first_refusal (adjust_rules (market_of s) (wallet_of s account) (entire_of s account) account change bound) ≡ None → Leaves 0 s (adjusted s account change (adjusting_terms (market_of s) (or_nothing (entire_of s account)) change))
+pub adjust_leaves : (s : State) → Finds s → (account bound : ℕ) (change : Change) → account < ACCOUNTS
+    → first_refusal (adjust_rules (market_of s) (wallet_of s account) (entire_of s account) account change bound) ≡ None
+    → Leaves 0 s (adjusted s account change (adjusting_terms (market_of s) (or_nothing (entire_of s account)) change))
 adjust_leaves s f account bound change k h =
     let own = or_nothing (entire_of s account) in
-    let there = told (entire_of s account) (change_passes (market_of s) (wallet_of s account) (entire_of s account) change account bound h).there in
+    let there = told (entire_of s account) (change_passes (market_of s) (wallet_of s account) (entire_of s account)
+    change account bound h).there in
     record {
       stands = adjust_stands s f account own.0 own.1 change bound there h k;
       rest = adjust_rest s f account own.0 own.1 change bound there h;
@@ -280,13 +366,16 @@ adjust_leaves s f account bound change k h =
 
 -- ---- close
 
-module _ (s : State) (f : Finds s) (account coll debt : ℕ) (there : entire_of s account ≡ Some (coll, debt)) (enough : debt - RESERVE ≤ (wallet_of s account).lusd) where
+module _ (s : State) (f : Finds s) (account coll debt : ℕ) (there : entire_of s account ≡ Some (coll, debt))
+    (enough : debt - RESERVE ≤ (wallet_of s account).lusd) where
   close_stands : account < ACCOUNTS → Stands LIM (closed s account (debt - RESERVE) coll)
   close_stands k =
       let repaid = debt - RESERVE in
       let settled = credited (charged s account 0 repaid) account coll 0 in
-      let moved = paid_stands (charged s account 0 repaid) account k (charged_stands s account k f.stands 0 repaid) coll 0 in
-      lifted_stands (record settled { reserve = settled.reserve - RESERVE }) account (reserve_stands settled (settled.reserve - RESERVE) moved)
+      let moved = paid_stands (charged s account 0 repaid) account k (charged_stands s account k f.stands 0 repaid)
+      coll 0 in
+      lifted_stands (record settled { reserve = settled.reserve - RESERVE }) account (reserve_stands settled
+      (settled.reserve - RESERVE) moved)
 
   close_rest : Rest 0 s (closed s account (debt - RESERVE) coll)
   close_rest =
@@ -298,7 +387,10 @@ module _ (s : State) (f : Finds s) (account coll debt : ℕ) (there : entire_of 
       let mid = charged s account 0 repaid in
       let settled = credited mid account coll 0 in
       let burned = record settled { reserve = settled.reserve - RESERVE } in
-      let ordered = wallet-ascends s.wallets account (record { coll = (wallet_of s account).coll - 0; lusd = (wallet_of s account).lusd - repaid }) f.stands.wallets.ascend in
+      let ordered = wallet-ascends s.wallets account (record {
+        coll = (wallet_of s account).coll - 0;
+        lusd = (wallet_of s account).lusd - repaid;
+      }) f.stands.wallets.ascend in
       let c1 = charged_coll s account 0 repaid f.stands.wallets.ascend (omega arith) in
       let l1 = charged_lusd s account 0 repaid f.stands.wallets.ascend enough in
       let c2 = paid_coll mid account coll 0 ordered in
@@ -313,26 +405,36 @@ module _ (s : State) (f : Finds s) (account coll debt : ℕ) (there : entire_of 
       } in
       let limit = f.limited.debt in
       subst (λ (o : Option TroveEntry). Rest 0 s (lifted_entry burned account o)) (sym has.there)
-      (rest_in_place s left homes f.limited.coll (omega (arith, limit)) (same_range s f left refl refl refl refl refl refl) refl refl refl refl refl
+      (rest_in_place s left homes f.limited.coll (omega (arith, limit)) (same_range s f left refl refl refl refl refl
+      refl) refl refl refl refl refl
       (λ n. all-without (λ (x : TroveEntry). IsSetSince x.mark) s.troves account n))
 
-pub close_leaves : (s : State) → Finds s → (account : ℕ) → account < ACCOUNTS → first_refusal (close_rules (market_of s) (wallet_of s account) (entire_of s account) account) ≡ None → Leaves 0 s (closed s account (closing_terms (or_nothing (entire_of s account))).0 (closing_terms (or_nothing (entire_of s account))).1)
+pub close_leaves : (s : State) → Finds s → (account : ℕ) → account < ACCOUNTS
+    → first_refusal (close_rules (market_of s) (wallet_of s account) (entire_of s account) account) ≡ None
+    → Leaves 0 s (closed s account (closing_terms (or_nothing (entire_of s account))).0
+    (closing_terms (or_nothing (entire_of s account))).1)
 close_leaves s f account k h =
     let own = or_nothing (entire_of s account) in
     let passes = close_passes (market_of s) (wallet_of s account) (entire_of s account) account h in
     let there = told (entire_of s account) passes.there in
-    record { stands = close_stands s f account own.0 own.1 there passes.repaid k; rest = close_rest s f account own.0 own.1 there passes.repaid }
+    record {
+      stands = close_stands s f account own.0 own.1 there passes.repaid k;
+      rest = close_rest s f account own.0 own.1 there passes.repaid;
+    }
 
 -- ---- a gain that moves into the trove
 
-pub gain_allows : (s : State) (account : ℕ) (hint : HintWords) → first_refusal (rules s (GainToTrove account hint)) ≡ None → GainPasses (market_of s) (entire_of s account) (gain_of s account)
+pub gain_allows : (s : State) (account : ℕ) (hint : HintWords) → first_refusal (rules s (GainToTrove account hint))
+    ≡ None → GainPasses (market_of s) (entire_of s account) (gain_of s account)
 gain_allows s account hint h =
     let m = market_of s in
     let gain = gain_of s account in
-    gain_passes m (entire_of s account) account gain (none_first (no_deposit s account) (gain_rules m (entire_of s account) account gain) h).1
+    gain_passes m (entire_of s account) account gain (none_first (no_deposit s account)
+    (gain_rules m (entire_of s account) account gain) h).1
 
 module _ (s : State) (f : Finds s) (account coll debt : ℕ) (there : entire_of s account ≡ Some (coll, debt)) where
-  gain_stands : account < ACCOUNTS → Stands LIM (set_trove (owned s account 0 0) account (coll + gain_of s account) debt)
+  gain_stands : account < ACCOUNTS
+      → Stands LIM (set_trove (owned s account 0 0) account (coll + gain_of s account) debt)
   gain_stands k =
       let has = has_trove s account (coll, debt) f.stands there in
       let fits = pool_and_wallet s f account 0 (omega arith) in
@@ -352,7 +454,13 @@ module _ (s : State) (f : Finds s) (account coll debt : ℕ) (there : entire_of 
       let left = owned-coll s account 0 0 in
       let within = gain_within s (at s.deposits account) in
       let gone = length-without s.troves account e has.there in
-      let back = length-put (without s.troves account) account (record { coll = coll + gain; debt = debt; stake = stake_for pooled (coll + gain); mark = After (length s.redistributions) }) (at-without_same s.troves account (trove_table s f.stands.troves.ascend)) in
+      let back = length-put (without s.troves account) account (record {
+        coll = coll + gain;
+        debt = debt;
+        stake = stake_for pooled (coll + gain);
+        mark = After (length s.redistributions);
+      })
+      (at-without_same s.troves account (trove_table s f.stands.troves.ascend)) in
       let limit = f.limited.debt in
       let made = placed (lifted_entry pooled account (Some e)) account (coll + gain) debt in
       let homes : Homes made = record {
@@ -361,12 +469,22 @@ module _ (s : State) (f : Finds s) (account coll debt : ℕ) (there : entire_of 
         reserve = omega (arith, gone, back, c.reserve);
         surplus = c.surplus;
       } in
-      subst (λ (o : Option TroveEntry). Rest 0 s (placed (lifted_entry pooled account o) account (coll + gain) debt)) (sym has.there)
+      subst (λ (o : Option TroveEntry). Rest 0 s (placed (lifted_entry pooled account o) account (coll + gain) debt))
+      (sym has.there)
       (rest_in_place s made homes f.limited.coll (omega (arith, limit, has.debt_is, w.debt, w.pending_debt))
       (same_range s f made refl refl refl refl refl refl) refl refl refl refl refl
-      (λ n. all-put (λ (x : TroveEntry). IsSetSince x.mark) (without s.troves account) account (record { coll = coll + gain; debt = debt; stake = stake_for pooled (coll + gain); mark = After (length s.redistributions) }) tt (all-without (λ (x : TroveEntry). IsSetSince x.mark) s.troves account n)))
+      (λ n. all-put (λ (x : TroveEntry). IsSetSince x.mark) (without s.troves account) account
+      (record {
+        coll = coll + gain;
+        debt = debt;
+        stake = stake_for pooled (coll + gain);
+        mark = After (length s.redistributions);
+      }) tt (all-without (λ (x : TroveEntry). IsSetSince x.mark) s.troves
+      account n)))
 
-pub gain_leaves : (s : State) → Finds s → (account : ℕ) → account < ACCOUNTS → is_none (entire_of s account) ≡ false → Leaves 0 s (set_trove (owned s account 0 0) account ((or_nothing (entire_of s account)).0 + gain_of s account) (or_nothing (entire_of s account)).1)
+pub gain_leaves : (s : State) → Finds s → (account : ℕ) → account < ACCOUNTS → is_none (entire_of s account) ≡ false
+    → Leaves 0 s (set_trove (owned s account 0 0) account ((or_nothing (entire_of s account)).0 + gain_of s account)
+    (or_nothing (entire_of s account)).1)
 gain_leaves s f account k h =
     let own = or_nothing (entire_of s account) in
     let there = told (entire_of s account) h in
@@ -374,7 +492,10 @@ gain_leaves s f account k h =
 
 -- ---- what is changed
 
-pub change_covered : (s : State) → Finds s → (account bound : ℕ) (change : Change) (own : ℕ × ℕ) → entire_of s account ≡ Some own → first_refusal (adjust_rules (market_of s) (wallet_of s account) (entire_of s account) account change bound) ≡ None → ChangeIsCovered own change (adjusting_terms (market_of s) own change)
+pub change_covered : (s : State) → Finds s → (account bound : ℕ) (change : Change) (own : ℕ × ℕ)
+    → entire_of s account ≡ Some own
+    → first_refusal (adjust_rules (market_of s) (wallet_of s account) (entire_of s account) account change bound) ≡ None
+    → ChangeIsCovered own change (adjusting_terms (market_of s) own change)
 change_covered s f account bound change own there h =
     let a = adjust_allows s f account own.0 own.1 change bound there h in
     record {

@@ -46,7 +46,9 @@ pub record Reaches (limit : ℕ) (t : State) (es : List PoolEvent) : Type 0 wher
   pub pool : pool_of t ≡ pool_of (under limit (after_events es))
   pub owners : AreOwnedBelow ACCOUNTS es
 
-pub reached_pool : (limit : ℕ) → IsLimit limit → (requests : List Request) → Reaches limit (run (opening_with limit) requests).0 (events (opening_with limit) (accepted (opening_with limit) requests))
+pub reached_pool : (limit : ℕ) → IsLimit limit → (requests : List Request)
+    → Reaches limit (run (opening_with limit) requests).0 (events (opening_with limit)
+    (accepted (opening_with limit) requests))
 reached_pool limit known requests =
     let h = run_follows requests (opening_with limit) (opening_sound limit known) in
     let es = events (opening_with limit) (accepted (opening_with limit) requests) in
@@ -59,7 +61,8 @@ reached_pool limit known requests =
 -- ---- the shares of depositors
 
 -- what is read of a depositor rests on balance and gain alone
-allowance_same : (s t : State) (account : ℕ) (es : List PoolEvent) → balance_of s account ≡ balance_of t account → gain_of s account ≡ gain_of t account → IsWithinAllowance s account es → IsWithinAllowance t account es
+allowance_same : (s t : State) (account : ℕ) (es : List PoolEvent) → balance_of s account ≡ balance_of t account
+    → gain_of s account ≡ gain_of t account → IsWithinAllowance s account es → IsWithinAllowance t account es
 allowance_same s t account es b g h =
     let share = exact_share account es in
     let den = share.den in
@@ -67,7 +70,8 @@ allowance_same s t account es b g h =
       balance_at_most = subst (λ n. n * share.den ≤ share.bal) b h.balance_at_most;
       gain_at_most = subst (λ n. (n + gains_paid_to account es) * share.den ≤ share.gain) g h.gain_at_most;
       balance_at_least = subst (λ n. share.bal ≤ (n + balance_allowance account es) * share.den) b h.balance_at_least;
-      gain_at_least = subst (λ n. share.gain ≤ (n + gains_paid_to account es + gain_allowance account es) * share.den) g h.gain_at_least;
+      gain_at_least = subst (λ n. share.gain ≤ (n + gains_paid_to account es + gain_allowance account es) * share.den) g
+          h.gain_at_least;
     }
 
 balance_pool : (s t : State) (account : ℕ) → pool_of s ≡ pool_of t → balance_of s account ≡ balance_of t account
@@ -76,7 +80,9 @@ balance_pool s t account e = ap (λ (q : State). balance_of q account) e
 gain_pool : (s t : State) (account : ℕ) → pool_of s ≡ pool_of t → gain_of s account ≡ gain_of t account
 gain_pool s t account e = ap (λ (q : State). gain_of q account) e
 
-pub reached_shares : (limit : ℕ) → IsLimit limit → (requests : List Request) (account : ℕ) → IsWithinAllowance (run (opening_with limit) requests).0 account (events (opening_with limit) (accepted (opening_with limit) requests))
+pub reached_shares : (limit : ℕ) → IsLimit limit → (requests : List Request) (account : ℕ)
+    → IsWithinAllowance (run (opening_with limit) requests).0 account (events (opening_with limit)
+    (accepted (opening_with limit) requests))
 reached_shares limit known requests account =
     let h = reached_pool limit known requests in
     let es = events (opening_with limit) (accepted (opening_with limit) requests) in
@@ -85,41 +91,66 @@ reached_shares limit known requests account =
     (gain_pool (under limit (after_events es)) (run (opening_with limit) requests).0 account (sym h.pool))
     (within_allowance LIM (omega arith) es h.lawful account)
 
-pub same_shares : (limit : ℕ) → IsLimit limit → (requests : List Request) (s : State) → IsWellFormed s → image s ≡ image (run (opening_with limit) requests).0 → (account : ℕ) → IsWithinAllowance s account (events (opening_with limit) (accepted (opening_with limit) requests))
+pub same_shares : (limit : ℕ) → IsLimit limit → (requests : List Request) (s : State) → IsWellFormed s
+    → image s ≡ image (run (opening_with limit) requests).0 → (account : ℕ)
+    → IsWithinAllowance s account (events (opening_with limit) (accepted (opening_with limit) requests))
 same_shares limit known requests s f e account =
     let t = (run (opening_with limit) requests).0 in
     let formed = (run_sound requests (opening_with limit) (opening_sound limit known)).formed in
-    let balance = balance-image t account ∙ ap (λ (i : Image). balance_row i (at i.deposits account)) (sym e) ∙ sym (balance-image s account) in
-    let gain = gain-image t formed account ∙ ap (λ (i : Image). gain_row i (at i.deposits account)) (sym e) ∙ sym (gain-image s f account) in
-    allowance_same t s account (events (opening_with limit) (accepted (opening_with limit) requests)) balance gain (reached_shares limit known requests account)
+    let balance = balance-image t account ∙ ap (λ (i : Image). balance_row i (at i.deposits account)) (sym e)
+    ∙ sym (balance-image s account) in
+    let gain = gain-image t formed account ∙ ap (λ (i : Image). gain_row i (at i.deposits account)) (sym e)
+    ∙ sym (gain-image s f account) in
+    allowance_same t s account (events (opening_with limit) (accepted (opening_with limit) requests)) balance gain
+    (reached_shares limit known requests account)
 
 -- ---- the pool and the plain ledger
 
-reached_balances : (limit : ℕ) → IsLimit limit → (requests : List Request) → over_accounts ACCOUNTS (λ account. (exact_share account (events (opening_with limit) (accepted (opening_with limit) requests))).bal) ≡ pool_total (run (opening_with limit) requests).0 * den_of (events (opening_with limit) (accepted (opening_with limit) requests))
+reached_balances : (limit : ℕ) → IsLimit limit → (requests : List Request)
+    → over_accounts ACCOUNTS (λ account. (exact_share account (events (opening_with limit)
+    (accepted (opening_with limit) requests))).bal) ≡ pool_total (run (opening_with limit) requests).0 * den_of
+    (events (opening_with limit) (accepted (opening_with limit) requests))
 reached_balances limit known requests =
     let h = reached_pool limit known requests in
     let es = events (opening_with limit) (accepted (opening_with limit) requests) in
-    subst (λ (q : State). over_accounts ACCOUNTS (λ account. (exact_share account es).bal) ≡ pool_total q * den_of es) (sym h.pool) (all_balances_are LIM (omega arith) es h.lawful ACCOUNTS h.owners)
+    subst (λ (q : State). over_accounts ACCOUNTS (λ account. (exact_share account es).bal) ≡ pool_total q * den_of es)
+    (sym h.pool) (all_balances_are LIM (omega arith) es h.lawful ACCOUNTS h.owners)
 
-reached_gains : (limit : ℕ) → IsLimit limit → (requests : List Request) → over_accounts ACCOUNTS (λ account. (exact_share account (events (opening_with limit) (accepted (opening_with limit) requests))).gain) ≡ offsets_coll (events (opening_with limit) (accepted (opening_with limit) requests)) * den_of (events (opening_with limit) (accepted (opening_with limit) requests))
+reached_gains : (limit : ℕ) → IsLimit limit → (requests : List Request)
+    → over_accounts ACCOUNTS (λ account. (exact_share account (events (opening_with limit)
+    (accepted (opening_with limit) requests))).gain)
+    ≡ offsets_coll (events (opening_with limit) (accepted (opening_with limit) requests)) * den_of
+    (events (opening_with limit) (accepted (opening_with limit) requests))
 reached_gains limit known requests =
     let h = reached_pool limit known requests in
     let es = events (opening_with limit) (accepted (opening_with limit) requests) in
     all_gains_are LIM (omega arith) es h.lawful ACCOUNTS h.owners
 
-pub reached_paid : (limit : ℕ) → IsLimit limit → (requests : List Request) → pool_coll (run (opening_with limit) requests).0 + over_accounts ACCOUNTS (λ account. gains_paid_to account (events (opening_with limit) (accepted (opening_with limit) requests))) ≡ offsets_coll (events (opening_with limit) (accepted (opening_with limit) requests))
+pub reached_paid : (limit : ℕ) → IsLimit limit → (requests : List Request)
+    → pool_coll (run (opening_with limit) requests).0 + over_accounts ACCOUNTS (λ account. gains_paid_to account
+    (events (opening_with limit) (accepted (opening_with limit) requests)))
+    ≡ offsets_coll (events (opening_with limit) (accepted (opening_with limit) requests))
 reached_paid limit known requests =
     let h = reached_pool limit known requests in
     let es = events (opening_with limit) (accepted (opening_with limit) requests) in
-    subst (λ (q : State). pool_coll q + over_accounts ACCOUNTS (λ account. gains_paid_to account es) ≡ offsets_coll es) (sym h.pool) (all_paid_are LIM (omega arith) es h.lawful ACCOUNTS h.owners)
+    subst (λ (q : State). pool_coll q + over_accounts ACCOUNTS (λ account. gains_paid_to account es) ≡ offsets_coll es)
+    (sym h.pool) (all_paid_are LIM (omega arith) es h.lawful ACCOUNTS h.owners)
 
-reached_uncapped : (limit : ℕ) → IsLimit limit → (requests : List Request) (account : ℕ) (d : DepositEntry) → at (run (opening_with limit) requests).0.deposits account ≡ Some d → IsUncapped (run (opening_with limit) requests).0 account d
+reached_uncapped : (limit : ℕ) → IsLimit limit → (requests : List Request) (account : ℕ) (d : DepositEntry)
+    → at (run (opening_with limit) requests).0.deposits account ≡ Some d
+    → IsUncapped (run (opening_with limit) requests).0 account d
 reached_uncapped limit known requests account d there =
     let h = reached_pool limit known requests in
     let es = events (opening_with limit) (accepted (opening_with limit) requests) in
-    subst (λ (q : State). at q.deposits account ≡ Some d → IsUncapped q account d) (sym h.pool) (λ is. (balance_uncapped LIM (omega arith) es h.lawful account d is, gain_uncapped LIM (omega arith) es h.lawful account d is)) there
+    subst (λ (q : State). at q.deposits account ≡ Some d → IsUncapped q account d) (sym h.pool)
+    (λ is. (
+      balance_uncapped LIM (omega arith) es h.lawful account d is,
+      gain_uncapped LIM (omega arith) es h.lawful account d is,
+    )) there
 
-pub reached_exact : (limit : ℕ) → IsLimit limit → (requests : List Request) → IsExactPool (run (opening_with limit) requests).0 (events (opening_with limit) (accepted (opening_with limit) requests))
+pub reached_exact : (limit : ℕ) → IsLimit limit → (requests : List Request)
+    → IsExactPool (run (opening_with limit) requests).0 (events (opening_with limit)
+    (accepted (opening_with limit) requests))
 reached_exact limit known requests =
     record {
       balances = reached_balances limit known requests;
@@ -130,7 +161,8 @@ reached_exact limit known requests =
 
 -- ---- dust
 
-default_covered : (s : State) → IsSoundState s → (sum_by (pending_coll s) (values_of s.troves) ≤ s.default_coll) × (sum_by (pending_debt s) (values_of s.troves) ≤ s.default_debt)
+default_covered : (s : State) → IsSoundState s → (sum_by (pending_coll s) (values_of s.troves) ≤ s.default_coll)
+    × (sum_by (pending_debt s) (values_of s.troves) ≤ s.default_debt)
 default_covered s h =
     let both = pending_covered (books_of s) (sound_facts s h).stands.troves in
     let coll = map-sum (trove_row s) (λ (t : Trove). pending t.stake (books_of s).sums.coll t.mark_coll) s.troves in
@@ -145,15 +177,20 @@ default_dust s h =
     let both = default_covered s h in
     (not_negative _ _ both.0, not_negative _ _ both.1)
 
-pub reached_covered : (limit : ℕ) → IsLimit limit → (requests : List Request) → IsCovered (dust (run (opening_with limit) requests).0)
+pub reached_covered : (limit : ℕ) → IsLimit limit → (requests : List Request)
+    → IsCovered (dust (run (opening_with limit) requests).0)
 reached_covered limit known requests =
     let s = (run (opening_with limit) requests).0 in
     let h = reached_pool limit known requests in
     let es = events (opening_with limit) (accepted (opening_with limit) requests) in
     let troves = default_dust s (run_sound requests (opening_with limit) (opening_sound limit known)) in
     record {
-      pool_total = not_negative (pool_total s) (sum (map (balance_of s) (keys_of s.deposits))) (subst (λ (q : State). sum (map (balance_of q) (keys_of q.deposits)) ≤ pool_total q) (sym h.pool) (balances_held LIM (omega arith) es h.lawful));
-      pool_coll = not_negative (pool_coll s) (sum (map (gain_of s) (keys_of s.deposits))) (subst (λ (q : State). sum (map (gain_of q) (keys_of q.deposits)) ≤ pool_coll q) (sym h.pool) (gains_held LIM (omega arith) es h.lawful));
+      pool_total = not_negative (pool_total s) (sum (map (balance_of s) (keys_of s.deposits)))
+          (subst (λ (q : State). sum (map (balance_of q) (keys_of q.deposits)) ≤ pool_total q) (sym h.pool)
+          (balances_held LIM (omega arith) es h.lawful));
+      pool_coll = not_negative (pool_coll s) (sum (map (gain_of s) (keys_of s.deposits)))
+          (subst (λ (q : State). sum (map (gain_of q) (keys_of q.deposits)) ≤ pool_coll q) (sym h.pool)
+          (gains_held LIM (omega arith) es h.lawful));
       default_coll = troves.0;
       default_debt = troves.1;
     }

@@ -57,20 +57,27 @@ IsOther a b = is_eq (nat_cmp a b) ≡ false
 -- each is the trove of its account, and no account comes twice
 abbrev pub AreVisits : State → ℕ → List Visit → Type 0
 AreVisits t price [] = Unit {0}
-AreVisits t price (v ∷ vs) = IsVisit t price v × AllByRecursion (λ (w : Visit). IsOther v.account w.account) vs × AreVisits t price vs
+AreVisits t price (v ∷ vs) = IsVisit t price v × AllByRecursion (λ (w : Visit). IsOther v.account w.account) vs
+    × AreVisits t price vs
 
 module _ (s : State) (price : ℕ) where
   abbrev visits : List ℕ → List Visit
   visits accounts = filter (is_visited price) (filter_map (visit (sums_words s) (trove_rows s)) accounts)
 
-  visits_all : (P : ℕ → Type 0) (accounts : List ℕ) → AllByRecursion P accounts → AllByRecursion (λ (v : Visit). P v.account) (visits accounts)
+  visits_all : (P : ℕ → Type 0) (accounts : List ℕ) → AllByRecursion P accounts
+      → AllByRecursion (λ (v : Visit). P v.account) (visits accounts)
   visits_all P [] h = tt
   visits_all P (a ∷ others) h = by (entire_of s a) (visits_all P others h.1) where
-    test : (own : ℕ × ℕ) (b : Bool) → AllByRecursion (λ (v : Visit). P v.account) (visits others) → AllByRecursion (λ (v : Visit). P v.account) (cond b (record { account = a; coll = own.0; debt = own.1 } ∷ visits others) (visits others))
+    test : (own : ℕ × ℕ) (b : Bool) → AllByRecursion (λ (v : Visit). P v.account) (visits others)
+        → AllByRecursion (λ (v : Visit). P v.account) (cond b (record { account = a; coll = own.0; debt = own.1 }
+        ∷ visits others) (visits others))
     test own true later = (h.0, later)
     test own false later = later
 
-    by : (o : Option (ℕ × ℕ)) → AllByRecursion (λ (v : Visit). P v.account) (visits others) → AllByRecursion (λ (v : Visit). P v.account) (filter (is_visited price) (cons_option (option_map (λ (own : ℕ × ℕ). record { account = a; coll = own.0; debt = own.1 }) o) (filter_map (visit (sums_words s) (trove_rows s)) others)))
+    by : (o : Option (ℕ × ℕ)) → AllByRecursion (λ (v : Visit). P v.account) (visits others)
+        → AllByRecursion (λ (v : Visit). P v.account) (filter (is_visited price) (cons_option (option_map (λ (own : ℕ
+        × ℕ). record { account = a; coll = own.0; debt = own.1 }) o) (filter_map (visit (sums_words s) (trove_rows s))
+        others)))
     by None later = later
     by (Some own) later = test own (is_visited price (record { account = a; coll = own.0; debt = own.1 })) later
 
@@ -82,13 +89,25 @@ module _ (s : State) (price : ℕ) where
   unfolding IsDistinct
   visits_are [] h = tt
   visits_are (a ∷ others) h = by (entire_of s a) refl (visits_are others h.1) where
-    test : (own : ℕ × ℕ) → entire_of s a ≡ Some own → (b : Bool) → is_visited price (record { account = a; coll = own.0; debt = own.1 }) ≡ b → AreVisits s price (visits others) → AreVisits s price (cond b (record { account = a; coll = own.0; debt = own.1 } ∷ visits others) (visits others))
-    test own e true f later = (record { entire_is = e; above = not_false _ f }, visits_all (λ b. IsOther a b) others h.0, later)
+    test : (own : ℕ × ℕ) → entire_of s a ≡ Some own → (b : Bool)
+        → is_visited price (record { account = a; coll = own.0; debt = own.1 }) ≡ b → AreVisits s price (visits others)
+        → AreVisits s price (cond b (record { account = a; coll = own.0; debt = own.1 } ∷ visits others) (visits others))
+    test own e true f later = (
+      record { entire_is = e; above = not_false _ f },
+      visits_all (λ b. IsOther a b) others h.0,
+      later,
+    )
     test own e false f later = later
 
-    by : (o : Option (ℕ × ℕ)) → entire_of s a ≡ o → AreVisits s price (visits others) → AreVisits s price (filter (is_visited price) (cons_option (option_map (λ (own : ℕ × ℕ). record { account = a; coll = own.0; debt = own.1 }) o) (filter_map (visit (sums_words s) (trove_rows s)) others)))
+    by : (o : Option (ℕ × ℕ)) → entire_of s a ≡ o → AreVisits s price (visits others)
+        → AreVisits s price (filter (is_visited price) (cons_option (option_map (λ (own : ℕ × ℕ). record {
+          account = a;
+          coll = own.0;
+          debt = own.1;
+        }) o) (filter_map (visit (sums_words s) (trove_rows s)) others)))
     by None e later = later
-    by (Some own) e later = test own e (is_visited price (record { account = a; coll = own.0; debt = own.1 })) refl later
+    by (Some own) e later = test own e (is_visited price (record { account = a; coll = own.0; debt = own.1 }))
+        refl later
 
 ranked_accounts : (table : Table Trove) → map (λ (e : Ranked). e.1) (ranks table) ≡ keys_of table
 ranked_accounts [] = refl
@@ -104,9 +123,14 @@ order_distinct : (s : State) → Ascends (trove_rows s) → IsDistinct (eq_by_cm
 order_distinct s h =
     let account : Ranked → ℕ = λ (e : Ranked). e.1 in
     let keys = IsDistinct-from_sorted nat_cmp (keys_of (trove_rows s)) h in
-    let first = subst (λ (ks : List ℕ). IsDistinct (eq_by_cmp nat_cmp) ks) (sym (ranked_accounts (trove_rows s))) keys in
-    let ordered = IsDistinct-IsPermutation (eq_by_cmp nat_cmp) flips (map account (ranks (trove_rows s))) (map account (trove_order s)) (IsPermutation-map account (ranks (trove_rows s)) (trove_order s) (sorted_same (ranks (trove_rows s)))) first in
-    IsDistinct-IsPermutation (eq_by_cmp nat_cmp) flips (map account (trove_order s)) (map account (reverse (trove_order s))) (IsPermutation-map account (trove_order s) (reverse (trove_order s)) (IsPermutation-reverse (trove_order s))) ordered
+    let first = subst (λ (ks : List ℕ). IsDistinct (eq_by_cmp nat_cmp) ks) (sym (ranked_accounts (trove_rows s))) keys
+    in
+    let ordered = IsDistinct-IsPermutation (eq_by_cmp nat_cmp) flips (map account (ranks (trove_rows s)))
+    (map account (trove_order s)) (IsPermutation-map account (ranks (trove_rows s)) (trove_order s)
+    (sorted_same (ranks (trove_rows s)))) first in
+    IsDistinct-IsPermutation (eq_by_cmp nat_cmp) flips (map account (trove_order s))
+    (map account (reverse (trove_order s))) (IsPermutation-map account (trove_order s) (reverse (trove_order s))
+    (IsPermutation-reverse (trove_order s))) ordered
 
 pub visited_are : (s : State) → Ascends (trove_rows s) → AreVisits s s.price (visited s)
 visited_are s h = visits_are s s.price (from_last (trove_order s)) (order_distinct s h)
@@ -129,7 +153,20 @@ pub record Untouched : Type 0 where
 
 abbrev pub untouched : State → Untouched
 untouched t =
-    record { wallets = t.wallets; brought = t.brought; price = t.price; minute = t.minute; fee_coll = t.fee_coll; words = words_of t; generation = t.generation; limit = t.limit; records = t.records; clients = t.clients; snap = t.snap_coll }
+    record {
+      wallets = t.wallets;
+      brought = t.brought;
+      price = t.price;
+      minute = t.minute;
+      fee_coll = t.fee_coll;
+      words = words_of t;
+      generation = t.generation;
+      limit = t.limit;
+      records = t.records;
+      clients = t.clients;
+      snap =
+          t.snap_coll;
+    }
 
 -- the state after the cuts so far, in which so much collateral and LUSD has left its home
 pub record Cutting (s t : State) (coll lusd : ℕ) : Type 0 where
@@ -148,18 +185,21 @@ own_in t o = option_map (entire_by (sums_words t)) (option_map (trove_row t) o)
 
 entire_read : (t : State) (account : ℕ) → entire_of t account ≡ own_in t (at t.troves account)
 unfolding own_in
-entire_read t account = ap (λ (o : Option Trove). option_map (entire_by (sums_words t)) o) (at-map (trove_row t) t.troves account)
+entire_read t account = ap (λ (o : Option Trove). option_map (entire_by (sums_words t)) o)
+    (at-map (trove_row t) t.troves account)
 
 other_account : (a b : ℕ) → IsOther a b → (a == b) ≡ false
 other_account a b h = sym (nat_cmp-eq a b) ∙ h
 
 -- what is read of an entry rests on the lists of redistributions alone
-same_own : (t r : State) (o : Option TroveEntry) → t.start ≡ r.start → t.redistributions ≡ r.redistributions → own_in t o ≡ own_in r o
+same_own : (t r : State) (o : Option TroveEntry) → t.start ≡ r.start → t.redistributions ≡ r.redistributions
+    → own_in t o ≡ own_in r o
 unfolding own_in
 same_own t r None e f = refl
-same_own t r (Some x) e f = ap (λ (q : Image × List Redistribution). read q.0 q.1) (ap (λ (i : Image). (i, t.redistributions)) e ∙ ap (λ (rs : List Redistribution). (r.start, rs)) f) where
-  read : Image → List Redistribution → Option (ℕ × ℕ)
-  read i rs = own_in (record t { start = i; redistributions = rs }) (Some x)
+same_own t r (Some x) e f = ap (λ (q : Image × List Redistribution). read q.0 q.1)
+    (ap (λ (i : Image). (i, t.redistributions)) e ∙ ap (λ (rs : List Redistribution). (r.start, rs)) f) where
+      read : Image → List Redistribution → Option (ℕ × ℕ)
+      read i rs = own_in (record t { start = i; redistributions = rs }) (Some x)
 
 -- what a cut leaves of the other troves
 pub record After (t made : State) (cut : Cut) : Type 0 where
@@ -167,7 +207,9 @@ pub record After (t made : State) (cut : Cut) : Type 0 where
   pub others : (q : ℕ) → IsOther cut.account q → entire_of made q ≡ entire_of t q
 
 -- one trove is cut
-module _ (s t : State) (coll lusd : ℕ) (c : Cutting s t coll lusd) (v : Visit) (has : HasTrove t v.account v.coll v.debt) (price : ℕ) (visit : IsVisit t price v) (price_some : 1 ≤ price) (wanted : ℕ) where
+module _ (s t : State) (coll lusd : ℕ) (c : Cutting s t coll lusd) (v : Visit)
+    (has : HasTrove t v.account v.coll v.debt) (price : ℕ) (visit : IsVisit t price v) (price_some : 1
+    ≤ price) (wanted : ℕ) where
   abbrev cut : Cut
   cut = cut_of price v wanted
 
@@ -181,7 +223,8 @@ module _ (s t : State) (coll lusd : ℕ) (c : Cutting s t coll lusd) (v : Visit)
   draw_part = draw_less v.coll v.debt price cut.lot price_some (omega (arith, has.least)) lot_part visit.above
 
   -- it is closed
-  closed_cut : 2 ≤ trove_count t → cut.lot ≡ v.debt - RESERVE → Cutting s (closed_by t cut (v.coll, v.debt)) (coll + cut.draw) (lusd + cut.lot)
+  closed_cut : 2 ≤ trove_count t → cut.lot ≡ v.debt - RESERVE
+      → Cutting s (closed_by t cut (v.coll, v.debt)) (coll + cut.draw) (lusd + cut.lot)
   closed_cut several whole =
       let e = has.entry in
       let w = has.within in
@@ -189,9 +232,19 @@ module _ (s t : State) (coll lusd : ℕ) (c : Cutting s t coll lusd) (v : Visit)
       let rows = length-without t.troves v.account e has.there in
       let surplus = surplus_sum t.surplus_rows v.account (v.coll - cut.draw) c.stands.surplus.ascend in
       let left = lifted t v.account in
-      let stands : Stands LIM (surplus_added (record left { reserve = left.reserve - RESERVE }) v.account (v.coll - cut.draw)) =
-      added_stands (record left { reserve = left.reserve - RESERVE }) v.account own_key (reserve_stands left (left.reserve - RESERVE) (lifted_stands t v.account c.stands)) (v.coll - cut.draw) in
-      subst (λ (o : Option TroveEntry). Stands LIM (surplus_added (record (lifted_entry t v.account o) { reserve = (lifted_entry t v.account o).reserve - RESERVE }) v.account (v.coll - cut.draw)) → Cutting s (surplus_added (record (lifted_entry t v.account o) { reserve = (lifted_entry t v.account o).reserve - RESERVE }) v.account (v.coll - cut.draw)) (coll + cut.draw) (lusd + cut.lot)) (sym has.there)
+      let stands : Stands LIM (surplus_added (record left { reserve = left.reserve - RESERVE }) v.account
+      (v.coll - cut.draw)) =
+      added_stands (record left { reserve = left.reserve - RESERVE }) v.account own_key (reserve_stands left
+      (left.reserve - RESERVE) (lifted_stands t v.account c.stands)) (v.coll - cut.draw) in
+      subst (λ (o : Option TroveEntry). Stands LIM
+      (surplus_added (record (lifted_entry t v.account o) {
+        reserve = (lifted_entry t v.account o).reserve
+            - RESERVE;
+      }) v.account (v.coll - cut.draw))
+      → Cutting s (surplus_added (record (lifted_entry t v.account o) {
+        reserve = (lifted_entry t v.account o).reserve
+            - RESERVE;
+      }) v.account (v.coll - cut.draw)) (coll + cut.draw) (lusd + cut.lot)) (sym has.there)
       (λ k. record {
         stands = k;
         coll_is = omega (arith, c.coll_is, draw, has.coll_is, w.coll, w.pending_coll);
@@ -204,17 +257,27 @@ module _ (s t : State) (coll lusd : ℕ) (c : Cutting s t coll lusd) (v : Visit)
       }) stands
 
   -- or it is left with less
-  left_cut : MIN_NET ≤ v.debt - RESERVE - cut.lot → Cutting s (set_trove t v.account (v.coll - cut.draw) (v.debt - cut.lot)) (coll + cut.draw) (lusd + cut.lot)
+  left_cut : MIN_NET ≤ v.debt - RESERVE - cut.lot
+      → Cutting s (set_trove t v.account (v.coll - cut.draw) (v.debt - cut.lot)) (coll + cut.draw) (lusd + cut.lot)
   left_cut enough =
       let e = has.entry in
       let w = has.within in
       let draw = draw_part in
       let part = lot_part in
       let rows = length-without t.troves v.account e has.there in
-      let entry : State → TroveEntry = λ (x : State). record { coll = v.coll - cut.draw; debt = v.debt - cut.lot; stake = stake_for x (v.coll - cut.draw); mark = marks.After (length x.redistributions) } in
-      let back = length-put (without t.troves v.account) v.account (entry t) (at-without_same t.troves v.account (trove_table t c.stands.troves.ascend)) in
-      let stands = set_stands t v.account (v.coll - cut.draw) (v.debt - cut.lot) own_key (omega (arith, draw)) (omega (arith, enough, has.least)) c.stands in
-      subst (λ (o : Option TroveEntry). Stands LIM (placed (lifted_entry t v.account o) v.account (v.coll - cut.draw) (v.debt - cut.lot)) → Cutting s (placed (lifted_entry t v.account o) v.account (v.coll - cut.draw) (v.debt - cut.lot)) (coll + cut.draw) (lusd + cut.lot)) (sym has.there)
+      let entry : State → TroveEntry = λ (x : State). record {
+        coll = v.coll - cut.draw;
+        debt = v.debt - cut.lot;
+        stake = stake_for x (v.coll - cut.draw);
+        mark = marks.After (length x.redistributions);
+      } in
+      let back = length-put (without t.troves v.account) v.account (entry t) (at-without_same t.troves v.account
+      (trove_table t c.stands.troves.ascend)) in
+      let stands = set_stands t v.account (v.coll - cut.draw) (v.debt - cut.lot) own_key (omega (arith, draw))
+      (omega (arith, enough, has.least)) c.stands in
+      subst (λ (o : Option TroveEntry). Stands LIM (placed (lifted_entry t v.account o) v.account (v.coll - cut.draw)
+      (v.debt - cut.lot)) → Cutting s (placed (lifted_entry t v.account o) v.account (v.coll - cut.draw)
+      (v.debt - cut.lot)) (coll + cut.draw) (lusd + cut.lot)) (sym has.there)
       (λ k. record {
         stands = k;
         coll_is = omega (arith, c.coll_is, draw, has.coll_is, w.coll, w.pending_coll);
@@ -223,42 +286,62 @@ module _ (s t : State) (coll lusd : ℕ) (c : Cutting s t coll lusd) (v : Visit)
         surplus = c.surplus;
         less = omega (arith, c.less, has.debt_is, w.debt, w.pending_debt);
         same = c.same;
-        marks = λ n. all-put (λ (x : TroveEntry). IsSetSince x.mark) (without t.troves v.account) v.account (entry t) tt (all-without (λ (x : TroveEntry). IsSetSince x.mark) t.troves v.account (c.marks n));
+        marks = λ n. all-put (λ (x : TroveEntry). IsSetSince x.mark) (without t.troves v.account) v.account (entry t) tt
+            (all-without (λ (x : TroveEntry). IsSetSince x.mark) t.troves v.account (c.marks n));
       }) stands
 
   closed_after : cut.full ≡ true → After t (closed_by t cut (v.coll, v.debt)) cut
   closed_after full =
       let e = has.entry in
       let rows = length-without t.troves v.account e has.there in
-      let fewer : troves_after cut (trove_count t) ≡ trove_count t - 1 = ap (λ b. cond b (trove_count t - 1) (trove_count t)) full in
-      subst (λ (o : Option TroveEntry). After t (surplus_added (record (lifted_entry t v.account o) { reserve = (lifted_entry t v.account o).reserve - RESERVE }) v.account (v.coll - cut.draw)) cut) (sym has.there)
+      let fewer : troves_after cut (trove_count t) ≡ trove_count t - 1 =
+      ap (λ b. cond b (trove_count t - 1) (trove_count t)) full in
+      subst (λ (o : Option TroveEntry). After t
+      (surplus_added (record (lifted_entry t v.account o) {
+        reserve = (lifted_entry t v.account o).reserve
+            - RESERVE;
+      }) v.account (v.coll - cut.draw)) cut) (sym has.there)
       (record {
         count = omega (arith, rows, fewer);
         others = λ q n.
-            let made = surplus_added (record (lifted_entry t v.account (Some e)) { reserve = t.reserve - RESERVE }) v.account (v.coll - cut.draw) in
-            entire_read made q ∙ ap (own_in made) (at-without_other t.troves v.account q (other_account v.account q n)) ∙ same_own made t (at t.troves q) refl refl ∙ sym (entire_read t q);
+            let made = surplus_added (record (lifted_entry t v.account (Some e)) { reserve = t.reserve - RESERVE })
+            v.account (v.coll - cut.draw) in
+            entire_read made q ∙ ap (own_in made) (at-without_other t.troves v.account q (other_account v.account q n))
+            ∙ same_own made t (at t.troves q) refl refl ∙ sym (entire_read t q);
       })
 
   left_after : cut.full ≡ false → After t (set_trove t v.account (v.coll - cut.draw) (v.debt - cut.lot)) cut
   left_after full =
       let e = has.entry in
       let gone = lifted_entry t v.account (Some e) in
-      let entry : TroveEntry = record { coll = v.coll - cut.draw; debt = v.debt - cut.lot; stake = stake_for gone (v.coll - cut.draw); mark = marks.After (length t.redistributions) } in
+      let entry : TroveEntry = record {
+        coll = v.coll - cut.draw;
+        debt = v.debt - cut.lot;
+        stake = stake_for gone (v.coll - cut.draw);
+        mark = marks.After (length t.redistributions);
+      } in
       let rows = length-without t.troves v.account e has.there in
-      let back = length-put (without t.troves v.account) v.account entry (at-without_same t.troves v.account (trove_table t c.stands.troves.ascend)) in
-      let same : troves_after cut (trove_count t) ≡ trove_count t = ap (λ b. cond b (trove_count t - 1) (trove_count t)) full in
-      subst (λ (o : Option TroveEntry). After t (placed (lifted_entry t v.account o) v.account (v.coll - cut.draw) (v.debt - cut.lot)) cut) (sym has.there)
+      let back = length-put (without t.troves v.account) v.account entry (at-without_same t.troves v.account
+      (trove_table t c.stands.troves.ascend)) in
+      let same : troves_after cut (trove_count t) ≡ trove_count t =
+      ap (λ b. cond b (trove_count t - 1) (trove_count t)) full in
+      subst (λ (o : Option TroveEntry). After t (placed (lifted_entry t v.account o) v.account (v.coll - cut.draw)
+      (v.debt - cut.lot)) cut) (sym has.there)
       (record {
         count = omega (arith, rows, back, same);
         others = λ q n.
             let made = placed gone v.account (v.coll - cut.draw) (v.debt - cut.lot) in
-            entire_read made q ∙ ap (own_in made) (at-put_other (without t.troves v.account) v.account entry q (other_account v.account q n) ∙ at-without_other t.troves v.account q (other_account v.account q n)) ∙ same_own made t (at t.troves q) refl refl ∙ sym (entire_read t q);
+            entire_read made q ∙ ap (own_in made) (at-put_other (without t.troves v.account) v.account entry q
+            (other_account v.account q n) ∙ at-without_other t.troves v.account q (other_account v.account q n))
+            ∙ same_own made t (at t.troves q) refl refl ∙ sym (entire_read t q);
       })
 
   -- which of the two the cut says
-  pub after_cut : stops_before v cut (trove_count t) ≡ false → Cutting s (cut_down t cut) (coll + cut.draw) (lusd + cut.lot) × After t (cut_down t cut) cut
+  pub after_cut : stops_before v cut (trove_count t) ≡ false
+      → Cutting s (cut_down t cut) (coll + cut.draw) (lusd + cut.lot) × After t (cut_down t cut) cut
   after_cut goes =
-      subst (λ (o : Option (ℕ × ℕ)). Cutting s (cut_entire t cut o) (coll + cut.draw) (lusd + cut.lot) × After t (cut_entire t cut o) cut) (sym visit.entire_is) (by cut.full refl goes)
+      subst (λ (o : Option (ℕ × ℕ)). Cutting s (cut_entire t cut o) (coll + cut.draw) (lusd + cut.lot)
+      × After t (cut_entire t cut o) cut) (sym visit.entire_is) (by cut.full refl goes)
     where
       whole : (cut.lot == net_debt v) ≡ true → cut.lot ≡ v.debt - RESERVE
       whole e = grind (arith, nat_tests, e)
@@ -266,16 +349,25 @@ module _ (s t : State) (coll lusd : ℕ) (c : Cutting s t coll lusd) (v : Visit)
       several : nat_le (trove_count t) 1 ≡ false → 2 ≤ trove_count t
       several e = grind (arith, nat_tests, e)
 
-      by : (b : Bool) → cut.full ≡ b → cond b (nat_le (trove_count t) 1) (nat_lt (net_debt v - cut.lot) MIN_NET) ≡ false → Cutting s (cond b (closed_by t cut (v.coll, v.debt)) (set_trove t v.account (v.coll - cut.draw) (v.debt - cut.lot))) (coll + cut.draw) (lusd + cut.lot) × After t (cond b (closed_by t cut (v.coll, v.debt)) (set_trove t v.account (v.coll - cut.draw) (v.debt - cut.lot))) cut
+      by : (b : Bool) → cut.full ≡ b → cond b (nat_le (trove_count t) 1) (nat_lt (net_debt v - cut.lot) MIN_NET) ≡ false
+          → Cutting s (cond b (closed_by t cut (v.coll, v.debt)) (set_trove t v.account (v.coll - cut.draw)
+          (v.debt - cut.lot))) (coll + cut.draw) (lusd + cut.lot)
+          × After t (cond b (closed_by t cut (v.coll, v.debt)) (set_trove t v.account (v.coll - cut.draw)
+          (v.debt - cut.lot))) cut
       by true e g = (closed_cut (several g) (whole e), closed_after e)
       by false e g = (left_cut (ltb-false (net_debt v - cut.lot) MIN_NET g), left_after e)
 
 -- ---- the cuts along the visits
 
-visits_kept : (t made : State) (price a : ℕ) → ((q : ℕ) → IsOther a q → entire_of made q ≡ entire_of t q) → (vs : List Visit) → AllByRecursion (λ (w : Visit). IsOther a w.account) vs → AreVisits t price vs → AreVisits made price vs
+visits_kept : (t made : State) (price a : ℕ) → ((q : ℕ) → IsOther a q → entire_of made q ≡ entire_of t q)
+    → (vs : List Visit) → AllByRecursion (λ (w : Visit). IsOther a w.account) vs → AreVisits t price vs
+    → AreVisits made price vs
 visits_kept t made price a same [] apart h = tt
-visits_kept t made price a same (v ∷ vs) apart h =
-    (record { entire_is = same v.account apart.0 ∙ h.0.entire_is; above = h.0.above }, h.1, visits_kept t made price a same vs apart.1 h.2)
+visits_kept t made price a same (v ∷ vs) apart h = (
+  record { entire_is = same v.account apart.0 ∙ h.0.entire_is; above = h.0.above },
+  h.1,
+  visits_kept t made price a same vs apart.1 h.2,
+)
 
 cutting_as : (s t : State) (coll lusd c l : ℕ) → coll ≡ c → lusd ≡ l → Cutting s t coll lusd → Cutting s t c l
 cutting_as s t coll lusd c l e f h = subst (λ n. Cutting s t n l) e (subst (λ n. Cutting s t coll n) f h)
@@ -283,33 +375,53 @@ cutting_as s t coll lusd c l e f h = subst (λ n. Cutting s t n l) e (subst (λ 
 module _ (s : State) (price : ℕ) (price_some : 1 ≤ price) where
   -- the list of cuts ends, or goes on with one
   abbrev goes_on : State → ℕ → Visit → List Visit → Bool → Bool → List Cut
-  goes_on t wanted v vs done stops = cond done [] (cond stops [] (cut_of price v wanted ∷ cuts price (troves_after (cut_of price v wanted) (trove_count t)) (wanted - (cut_of price v wanted).lot) vs))
+  goes_on t wanted v vs done stops =
+      cond done [] (cond stops [] (cut_of price v wanted ∷ cuts price (troves_after (cut_of price v wanted)
+      (trove_count t)) (wanted - (cut_of price v wanted).lot) vs))
 
-  along : (vs : List Visit) (t : State) (coll lusd wanted : ℕ) → Cutting s t coll lusd → AreVisits t price vs → Cutting s (fold cut_down t (cuts price (trove_count t) wanted vs)) (coll + drawn (cuts price (trove_count t) wanted vs)) (lusd + redeemed (cuts price (trove_count t) wanted vs))
+  along : (vs : List Visit) (t : State) (coll lusd wanted : ℕ) → Cutting s t coll lusd → AreVisits t price vs
+      → Cutting s (fold cut_down t (cuts price (trove_count t) wanted vs))
+      (coll + drawn (cuts price (trove_count t) wanted vs)) (lusd + redeemed (cuts price (trove_count t) wanted vs))
   along [] t coll lusd wanted c h = cutting_as s t coll lusd (coll + 0) (lusd + 0) (omega arith) (omega arith) c
-  along (v ∷ vs) t coll lusd wanted c h = by (wanted == 0) (stops_before v (cut_of price v wanted) (trove_count t)) refl (λ made more k g. along vs made (coll + (cut_of price v wanted).draw) (lusd + (cut_of price v wanted).lot) (wanted - (cut_of price v wanted).lot) k g) where
-    cut : Cut
-    cut = cut_of price v wanted
+  along (v ∷ vs) t coll lusd wanted c h = by (wanted == 0) (stops_before v (cut_of price v wanted) (trove_count t)) refl
+      (λ made more k g. along vs made (coll + (cut_of price v wanted).draw) (lusd + (cut_of price v wanted).lot)
+      (wanted - (cut_of price v wanted).lot) k g) where
+        cut : Cut
+        cut = cut_of price v wanted
 
-    by : (done stops : Bool) → stops_before v (cut_of price v wanted) (trove_count t) ≡ stops → ((made : State) → ℕ → Cutting s made (coll + (cut_of price v wanted).draw) (lusd + (cut_of price v wanted).lot) → AreVisits made price vs → Cutting s (fold cut_down made (cuts price (trove_count made) (wanted - (cut_of price v wanted).lot) vs)) (coll + (cut_of price v wanted).draw + drawn (cuts price (trove_count made) (wanted - (cut_of price v wanted).lot) vs)) (lusd + (cut_of price v wanted).lot + redeemed (cuts price (trove_count made) (wanted - (cut_of price v wanted).lot) vs)))
-        → Cutting s (fold cut_down t (goes_on t wanted v vs done stops)) (coll + drawn (goes_on t wanted v vs done stops)) (lusd + redeemed (goes_on t wanted v vs done stops))
-    by true stops e later = cutting_as s t coll lusd (coll + 0) (lusd + 0) (omega arith) (omega arith) c
-    by false true e later = cutting_as s t coll lusd (coll + 0) (lusd + 0) (omega arith) (omega arith) c
-    by false false e later =
-        let has = has_trove t v.account (v.coll, v.debt) c.stands h.0.entire_is in
-        let one = after_cut s t coll lusd c v has price h.0 price_some wanted e in
-        let made = cut_down t (cut_of price v wanted) in
-        let kept = visits_kept t made price v.account one.1.others vs h.1 h.2 in
-        let rest = later made 0 one.0 kept in
-        let list = cuts price (troves_after (cut_of price v wanted) (trove_count t)) (wanted - (cut_of price v wanted).lot) vs in
-        let draws = sum_by-cons (λ (x : Cut). x.draw) (cut_of price v wanted) list in
-        let lots = sum_by-cons (λ (x : Cut). x.lot) (cut_of price v wanted) list in
-        let told = subst (λ n. Cutting s (fold cut_down made (cuts price n (wanted - (cut_of price v wanted).lot) vs)) (coll + (cut_of price v wanted).draw + drawn (cuts price n (wanted - (cut_of price v wanted).lot) vs)) (lusd + (cut_of price v wanted).lot + redeemed (cuts price n (wanted - (cut_of price v wanted).lot) vs))) one.1.count rest in
-        cutting_as s (fold cut_down made list) (coll + (cut_of price v wanted).draw + drawn list) (lusd + (cut_of price v wanted).lot + redeemed list) (coll + drawn (cut_of price v wanted ∷ list)) (lusd + redeemed (cut_of price v wanted ∷ list)) (omega (arith, draws)) (omega (arith, lots)) told
+        by : (done stops : Bool) → stops_before v (cut_of price v wanted) (trove_count t) ≡ stops → ((made : State) → ℕ
+            → Cutting s made (coll + (cut_of price v wanted).draw) (lusd + (cut_of price v wanted).lot)
+            → AreVisits made price vs
+            → Cutting s (fold cut_down made (cuts price (trove_count made) (wanted - (cut_of price v wanted).lot) vs))
+            (coll + (cut_of price v wanted).draw + drawn (cuts price (trove_count made) (wanted - (cut_of price v wanted).lot)
+            vs)) (lusd + (cut_of price v wanted).lot + redeemed (cuts price (trove_count made)
+            (wanted - (cut_of price v wanted).lot) vs)))
+            → Cutting s (fold cut_down t (goes_on t wanted v vs done stops))
+            (coll + drawn (goes_on t wanted v vs done stops)) (lusd + redeemed (goes_on t wanted v vs done stops))
+        by true stops e later = cutting_as s t coll lusd (coll + 0) (lusd + 0) (omega arith) (omega arith) c
+        by false true e later = cutting_as s t coll lusd (coll + 0) (lusd + 0) (omega arith) (omega arith) c
+        by false false e later =
+            let has = has_trove t v.account (v.coll, v.debt) c.stands h.0.entire_is in
+            let one = after_cut s t coll lusd c v has price h.0 price_some wanted e in
+            let made = cut_down t (cut_of price v wanted) in
+            let kept = visits_kept t made price v.account one.1.others vs h.1 h.2 in
+            let rest = later made 0 one.0 kept in
+            let list = cuts price (troves_after (cut_of price v wanted) (trove_count t))
+            (wanted - (cut_of price v wanted).lot) vs in
+            let draws = sum_by-cons (λ (x : Cut). x.draw) (cut_of price v wanted) list in
+            let lots = sum_by-cons (λ (x : Cut). x.lot) (cut_of price v wanted) list in
+            let told = subst (λ n. Cutting s (fold cut_down made (cuts price n (wanted - (cut_of price v wanted).lot) vs))
+            (coll + (cut_of price v wanted).draw + drawn (cuts price n (wanted - (cut_of price v wanted).lot) vs))
+            (lusd + (cut_of price v wanted).lot + redeemed (cuts price n (wanted - (cut_of price v wanted).lot) vs)))
+            one.1.count rest in
+            cutting_as s (fold cut_down made list) (coll + (cut_of price v wanted).draw + drawn list)
+            (lusd + (cut_of price v wanted).lot + redeemed list) (coll + drawn (cut_of price v wanted ∷ list))
+            (lusd + redeemed (cut_of price v wanted ∷ list)) (omega (arith, draws)) (omega (arith, lots)) told
 
 -- ---- the whole redemption
 
-module _ (s : State) (f : Finds s) (account amount bound : ℕ) (h : first_refusal (redeem_rules (market_of s) (wallet_of s account) (visited s) amount bound) ≡ None) where
+module _ (s : State) (f : Finds s) (account amount bound : ℕ) (h : first_refusal (redeem_rules (market_of s)
+    (wallet_of s account) (visited s) amount bound) ≡ None) where
   abbrev terms : RedeemTerms
   terms = redeeming_terms (market_of s) (visited s) amount
 
@@ -333,7 +445,8 @@ module _ (s : State) (f : Finds s) (account amount bound : ℕ) (h : first_refus
   cut_done : Cutting s cut_state terms.drawn terms.redeemed
   cut_done =
       let least = f.ranges.price_least in
-      cutting_as s cut_state (0 + terms.drawn) (0 + terms.redeemed) terms.drawn terms.redeemed (omega arith) (omega arith)
+      cutting_as s cut_state (0 + terms.drawn) (0 + terms.redeemed) terms.drawn terms.redeemed (omega arith)
+      (omega arith)
       (along s s.price (omega (arith, least)) (visited s) s 0 0 amount begun (visited_are s f.stands.troves.ascend))
 
   pub redeem_leaves : account < ACCOUNTS → Leaves 0 s (redeemed_by s account terms)
@@ -346,16 +459,21 @@ module _ (s : State) (f : Finds s) (account amount bound : ℕ) (h : first_refus
       let eats : nat_le terms.drawn terms.fee ≡ false = rules.1.1.1.1.1.1.0 in
       let fee_less = fee_below terms.drawn terms.fee eats in
       let within = redeemed_within s.price (visited s) (trove_count s) amount in
-      let enough : terms.redeemed ≤ (wallet_of t account).lusd = subst (λ (u : Untouched). terms.redeemed ≤ (wallet_in u.wallets account).lusd) (sym c.same) (omega (arith, tokens, within)) in
+      let enough : terms.redeemed ≤ (wallet_of t account).lusd = subst (λ (u : Untouched). terms.redeemed
+      ≤ (wallet_in u.wallets account).lusd) (sym c.same) (omega (arith, tokens, within)) in
       let ascend = c.stands.wallets.ascend in
       let mid = charged t account 0 terms.redeemed in
-      let ordered = wallet-ascends t.wallets account (record { coll = (wallet_of t account).coll - 0; lusd = (wallet_of t account).lusd - terms.redeemed }) ascend in
+      let ordered = wallet-ascends t.wallets account (record {
+        coll = (wallet_of t account).coll - 0;
+        lusd = (wallet_of t account).lusd - terms.redeemed;
+      }) ascend in
       let c1 = charged_coll t account 0 terms.redeemed ascend (omega arith) in
       let l1 = charged_lusd t account 0 terms.redeemed ascend enough in
       let c2 = paid_coll mid account (terms.drawn - terms.fee) 0 ordered in
       let l2 = paid_lusd mid account (terms.drawn - terms.fee) 0 ordered in
       let given = credited mid account (terms.drawn - terms.fee) 0 in
-      let moved = paid_stands mid account k (charged_stands t account k c.stands 0 terms.redeemed) (terms.drawn - terms.fee) 0 in
+      let moved = paid_stands mid account k (charged_stands t account k c.stands 0 terms.redeemed)
+      (terms.drawn - terms.fee) 0 in
       let brought : t.brought ≡ s.brought = ap (λ (u : Untouched). u.brought) c.same in
       let price : t.price ≡ s.price = ap (λ (u : Untouched). u.price) c.same in
       let minute : t.minute ≡ s.minute = ap (λ (u : Untouched). u.minute) c.same in
@@ -375,8 +493,10 @@ module _ (s : State) (f : Finds s) (account amount bound : ℕ) (h : first_refus
       let rate : RateInRange s terms.rate = record { base = omega arith; minute = omega arith } in
       record {
         stands = fees_stand given terms.rate.base terms.rate.minute (s.fee_coll + terms.fee) given.fee_lusd moved;
-        rest = rest_in_place s (redeemed_by s account terms) homes (omega (arith, brought, limit, f.limited.coll)) (omega (arith, c.less, limit, f.limited.debt))
-            (ranges_with s (redeemed_by s account terms) r terms.rate rate price minute refl refl generation limit) words generation records clients snap c.marks;
+        rest = rest_in_place s (redeemed_by s account terms) homes (omega (arith, brought, limit, f.limited.coll))
+            (omega (arith, c.less, limit, f.limited.debt))
+            (ranges_with s (redeemed_by s account terms) r terms.rate rate price minute refl refl generation limit)
+            words generation records clients snap c.marks;
       }
     where
       fee_below : (drawn fee : ℕ) → nat_le drawn fee ≡ false → fee < drawn
@@ -385,25 +505,35 @@ module _ (s : State) (f : Finds s) (account amount bound : ℕ) (h : first_refus
 -- ---- what is cut
 
 module _ (s : State) (f : Finds s) where
-  cuts_covered_by : (vs : List Visit) (troves wanted : ℕ) → AreVisits s s.price vs → AllByRecursion (CutIsCovered s) (cuts s.price troves wanted vs)
+  cuts_covered_by : (vs : List Visit) (troves wanted : ℕ) → AreVisits s s.price vs
+      → AllByRecursion (CutIsCovered s) (cuts s.price troves wanted vs)
   cuts_covered_by [] troves wanted h = tt
-  cuts_covered_by (v ∷ vs) troves wanted h = by (wanted == 0) (stops_before v (cut_of s.price v wanted) troves) (cuts_covered_by vs (troves_after (cut_of s.price v wanted) troves) (wanted - (cut_of s.price v wanted).lot) h.2) where
-    covered : CutIsCovered s (cut_of s.price v wanted)
-    covered =
-        let has = has_trove s v.account (v.coll, v.debt) f.stands h.0.entire_is in
-        let part : (cut_of s.price v wanted).lot ≤ v.debt - RESERVE = omega arith in
-        let least = f.ranges.price_least in
-        record {
-          own = (v.coll, v.debt);
-          entire_is = h.0.entire_is;
-          draw = draw_less v.coll v.debt s.price (cut_of s.price v wanted).lot (omega (arith, least)) (omega (arith, has.least)) part h.0.above;
-          lot = omega (arith, part, has.least);
-        }
+  cuts_covered_by (v ∷ vs) troves wanted h = by (wanted == 0) (stops_before v (cut_of s.price v wanted) troves)
+      (cuts_covered_by vs (troves_after (cut_of s.price v wanted) troves) (wanted - (cut_of s.price v wanted).lot)
+      h.2) where
+        covered : CutIsCovered s (cut_of s.price v wanted)
+        covered =
+            let has = has_trove s v.account (v.coll, v.debt) f.stands h.0.entire_is in
+            let part : (cut_of s.price v wanted).lot ≤ v.debt - RESERVE = omega arith in
+            let least = f.ranges.price_least in
+            record {
+              own = (v.coll, v.debt);
+              entire_is = h.0.entire_is;
+              draw = draw_less v.coll v.debt s.price (cut_of s.price v wanted).lot (omega (arith, least)) (omega (
+                arith,
+                has.least,
+              )) part h.0.above;
+              lot = omega (arith, part, has.least);
+            }
 
-    by : (done stops : Bool) → AllByRecursion (CutIsCovered s) (cuts s.price (troves_after (cut_of s.price v wanted) troves) (wanted - (cut_of s.price v wanted).lot) vs) → AllByRecursion (CutIsCovered s) (cond done [] (cond stops [] (cut_of s.price v wanted ∷ cuts s.price (troves_after (cut_of s.price v wanted) troves) (wanted - (cut_of s.price v wanted).lot) vs)))
-    by true stops later = tt
-    by false true later = tt
-    by false false later = (covered, later)
+        by : (done stops : Bool)
+            → AllByRecursion (CutIsCovered s) (cuts s.price (troves_after (cut_of s.price v wanted) troves)
+            (wanted - (cut_of s.price v wanted).lot) vs)
+            → AllByRecursion (CutIsCovered s) (cond done [] (cond stops [] (cut_of s.price v wanted
+            ∷ cuts s.price (troves_after (cut_of s.price v wanted) troves) (wanted - (cut_of s.price v wanted).lot) vs)))
+        by true stops later = tt
+        by false true later = tt
+        by false false later = (covered, later)
 
   pub cuts_covered : (amount : ℕ) → AllByRecursion (CutIsCovered s) (cuts_in s amount)
   cuts_covered amount = cuts_covered_by (visited s) (trove_count s) amount (visited_are s f.stands.troves.ascend)

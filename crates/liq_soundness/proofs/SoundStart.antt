@@ -16,22 +16,26 @@ use Rattle.liq_soundness.proofs.SoundTests.{finished_rows, stakes_added}
 use Rattle.liq_rules.proofs.Started.{started_formed, started_image}
 use Rattle.liq_types.specs.State.{started_trove, started_deposit}
 
-before_rows : (now : Place) (table : List (Place × ℕ)) → AllByRecursion (FinishedStands now) table → AllByRecursion (λ (row : Place × ℕ). IsBefore row.0 now) table
+before_rows : (now : Place) (table : List (Place × ℕ)) → AllByRecursion (FinishedStands now) table
+    → AllByRecursion (λ (row : Place × ℕ). IsBefore row.0 now) table
 before_rows now [] h = tt
 before_rows now (e ∷ es) h = (h.0.before, before_rows now es h.1)
 
 pub finished_before : (i : Image) (records : ℕ) → IsSoundImage i records → AreFinished i
 finished_before i records h = before_rows (i.epoch, i.scale) i.finished (finished_rows i records h)
 
-pub started_with : (i : Image) (records : ℕ) → IsSoundImage i records → IsSoundState (record (started i) { records = records })
+pub started_with : (i : Image) (records : ℕ) → IsSoundImage i records
+    → IsSoundState (record (started i) { records = records })
 started_with i records h =
     record {
       formed = started_formed i (finished_before i records h);
       ordered = (
         h.tables.wallets,
-        subst (λ (keys : List ℕ). IsStrictlySortedBy nat_cmp keys) (sym (keys_of-map_values started_trove i.troves)) h.tables.troves,
+        subst (λ (keys : List ℕ). IsStrictlySortedBy nat_cmp keys) (sym (keys_of-map_values started_trove i.troves))
+            h.tables.troves,
         h.tables.surplus,
-        subst (λ (keys : List ℕ). IsStrictlySortedBy nat_cmp keys) (sym (keys_of-map_values started_deposit i.deposits)) h.tables.deposits,
+        subst (λ (keys : List ℕ). IsStrictlySortedBy nat_cmp keys) (sym (keys_of-map_values started_deposit i.deposits))
+            h.tables.deposits,
         h.tables.clients,
       );
       sound = subst (λ (j : Image). IsSoundImage j records) (sym (started_image i (stakes_added i records h))) h;
@@ -47,7 +51,19 @@ unfolding IsStrictlySortedBy
 opening_image_sound limit known =
     record {
       rules = ruled known;
-      tables = record { wallets = tt; used_wallets = tt; troves = tt; surplus = tt; some_surplus = tt; finished = tt; some_finished = tt; deposits = tt; some_deposits = tt; clients = tt; client_rows = tt };
+      tables = record {
+        wallets = tt;
+        used_wallets = tt;
+        troves = tt;
+        surplus = tt;
+        some_surplus = tt;
+        finished = tt;
+        some_finished = tt;
+        deposits = tt;
+        some_deposits = tt;
+        clients = tt;
+        client_rows = tt;
+      };
     }
   where
     ruled : IsLimit limit → first_unsound (opening_image_with limit) 0 ≡ None

@@ -44,24 +44,35 @@ use Rattle.std.proofs.lemmas.Bool.{ltb-false}
 wide : (few : ℕ) (s t : State) → few ≤ PLACES_A_RECORD → Leaves few s t → Leaves PLACES_A_RECORD s t
 wide few s t k h = leaves_more few PLACES_A_RECORD s t k h
 
-pub effect_leaves : (s : State) → Finds s → (call : Call) → rotates call ≡ false → AllByRecursion (λ a. a < ACCOUNTS) (accounts call) → first_refusal (rules s call) ≡ None → Leaves PLACES_A_RECORD s (effect s call)
+pub effect_leaves : (s : State) → Finds s → (call : Call) → rotates call ≡ false
+    → AllByRecursion (λ a. a < ACCOUNTS) (accounts call) → first_refusal (rules s call) ≡ None
+    → Leaves PLACES_A_RECORD s (effect s call)
 effect_leaves s f (Price price) r k h = wide 0 s _ (omega arith) (price_leaves s f price h)
 effect_leaves s f (Advance minutes) r k h = wide 0 s _ (omega arith) (advance_leaves s f minutes h)
 effect_leaves s f (Fund account coll) r k h = wide 0 s _ (omega arith) (fund_leaves s f account coll k.0 h)
 effect_leaves s f (Take account coll) r k h = wide 0 s _ (omega arith) (take_leaves s f account coll k.0 h)
 effect_leaves s f (Send from to lusd) r k h = wide 0 s _ (omega arith) (send_leaves s f from to lusd k.0 k.1.0 h)
-effect_leaves s f (Open account coll borrow bound hint) r k h = wide 0 s _ (omega arith) (open_leaves s f account coll borrow bound hint k.0 h)
+effect_leaves s f (Open account coll borrow bound hint) r k h =
+    wide 0 s _ (omega arith) (open_leaves s f account coll borrow bound hint k.0 h)
 effect_leaves s f (Adjust account coll_in coll_out borrow repay bound hint) r k h =
-    wide 0 s _ (omega arith) (adjust_leaves s f account bound (record { coll_in = coll_in; coll_out = coll_out; borrow = borrow; repay = repay }) k.0 h)
+    wide 0 s _ (omega arith) (adjust_leaves s f account bound (record {
+      coll_in = coll_in;
+      coll_out = coll_out;
+      borrow = borrow;
+      repay = repay;
+    }) k.0 h)
 effect_leaves s f (Close account) r k h = wide 0 s _ (omega arith) (close_leaves s f account k.0 h)
 effect_leaves s f (Provide account lusd) r k h = wide 0 s _ (omega arith) (provide_leaves s f account lusd k.0 h)
 effect_leaves s f (Withdraw account lusd) r k h = wide 0 s _ (omega arith) (withdraw_leaves s f account lusd k.0 h)
-effect_leaves s f (GainToTrove account hint) r k h = wide 0 s _ (omega arith) (gain_leaves s f account k.0 (gain_allows s account hint h).there)
-effect_leaves s f (Liquidate liquidator account) r k h = wide 3 s _ (omega arith) (liquidate_leaves s f liquidator account k.0)
+effect_leaves s f (GainToTrove account hint) r k h =
+    wide 0 s _ (omega arith) (gain_leaves s f account k.0 (gain_allows s account hint h).there)
+effect_leaves s f (Liquidate liquidator account) r k h =
+    wide 3 s _ (omega arith) (liquidate_leaves s f liquidator account k.0)
 effect_leaves s f (LiquidateLowest liquidator count) r k h =
     let few = ltb-false LOWEST_MOST count (all_false (rules s (LiquidateLowest liquidator count)) h).1.0 in
     wide (3 * count) s _ (omega (arith, few)) (lowest_leaves count s f liquidator k.0)
-effect_leaves s f (Redeem account lusd bound hint) r k h = wide 0 s _ (omega arith) (redeem_leaves s f account lusd bound h k.0)
+effect_leaves s f (Redeem account lusd bound hint) r k h =
+    wide 0 s _ (omega arith) (redeem_leaves s f account lusd bound h k.0)
 effect_leaves s f (Claim account) r k h = wide 0 s _ (omega arith) (claim_leaves s f account k.0 h)
 effect_leaves s f Rotate r k h = cc
 
@@ -99,7 +110,8 @@ kept_clear s (Provide account lusd) n = refl
 kept_clear s (Withdraw account lusd) n = refl
 kept_clear s (GainToTrove account hint) n = refl
 kept_clear s (Liquidate liquidator account) n = by (one s account) where
-  by : (r : Result One Refusal) → is_sound_client (record { last = n; kept = record { kind = 12; values = six (one_values r) } }) ≡ true
+  by : (r : Result One Refusal)
+      → is_sound_client (record { last = n; kept = record { kind = 12; values = six (one_values r) } }) ≡ true
   by (Ok made) = refl
   by (Err refusal) = refl
 kept_clear s (LiquidateLowest liquidator count) n = refl
@@ -113,9 +125,13 @@ six_values used =
     let few = length-take 6 (used ++ replicate 6 0) in
     omega (arith, all, few)
 
-client_stands : (s : State) (c : Command) → 1 ≤ c.number → ClientStands (record { last = c.number; kept = done_of s c.call })
+client_stands : (s : State) (c : Command) → 1 ≤ c.number
+    → ClientStands (record { last = c.number; kept = done_of s c.call })
 client_stands s c some =
-    record { row = record { last = some; kind = kind_range c.call; values = six_values (values s c.call) }; kept = kept_clear s c.call c.number }
+    record {
+      row = record { last = some; kind = kind_range c.call; values = six_values (values s c.call) };
+      kept = kept_clear s c.call c.number;
+    }
 
 -- ---- what an allowed command has
 
@@ -127,7 +143,8 @@ all_right : {X : Type 0} (P : X → Type 0) (xs ys : List X) → AllByRecursion 
 all_right P [] ys h = h
 all_right P (x ∷ xs) ys h = all_right P xs ys h.1
 
-below_all : (numbers : List ℕ) → AllByRecursion (λ (rule : Rule). rule.0 ≡ false) (map in_range numbers) → AllByRecursion (λ a. a < ACCOUNTS) numbers
+below_all : (numbers : List ℕ) → AllByRecursion (λ (rule : Rule). rule.0 ≡ false) (map in_range numbers)
+    → AllByRecursion (λ a. a < ACCOUNTS) numbers
 below_all [] h = tt
 below_all (n ∷ ns) h = (below n h.0, below_all ns h.1) where
   below : (m : ℕ) → nat_le ACCOUNTS m ≡ false → m < ACCOUNTS
@@ -143,7 +160,8 @@ pub record IsAllowed (s : State) (c : Command) : Type 0 where
 pub allowed_has : (s : State) (c : Command) → ruling s c ≡ Allowed → IsAllowed s c
 allowed_has s c h =
     let first = unless (first_refusal (in_range c.client ∷ [])) _ h in
-    let rest = unless (first_refusal (tests s c)) Allowed (not_again (is_repeated s c) (client_of s c.client).kept _ first.1) in
+    let rest = unless (first_refusal (tests s c)) Allowed (not_again (is_repeated s c) (client_of s c.client).kept _
+    first.1) in
     let all = all_false (tests s c) rest.0 in
     let falses : Rule → Type 0 = λ (rule : Rule). rule.0 ≡ false in
     let verb = all_left falses (map in_range (accounts c.call) ++ rules s c.call) (room_rules s c) all.1 in
@@ -166,7 +184,16 @@ allowed_has s c h =
 
 -- ---- a command is noted
 
-noted_facts : (s t : State) (c : Command) (records : ℕ) → Finds t → c.client < ACCOUNTS → 1 ≤ c.number → records ≤ RECORDS_MOST → (words_of t).scale ≤ places_most t.generation records → (words_of t).epoch ≤ places_most t.generation records → SoundFacts (record t { records = records; clients = put t.clients c.client (record { last = c.number; kept = done_of s c.call }) })
+noted_facts : (s t : State) (c : Command) (records : ℕ) → Finds t → c.client < ACCOUNTS → 1 ≤ c.number
+    → records ≤ RECORDS_MOST → (words_of t).scale ≤ places_most t.generation records
+    → (words_of t).epoch ≤ places_most t.generation records
+    → SoundFacts (record t {
+      records = records;
+      clients = put t.clients c.client (record {
+        last = c.number;
+        kept = done_of s c.call;
+      });
+    })
 noted_facts s t c records f client number few scale epoch =
     let h = f.stands in
     let k = f.balanced.homes in
@@ -194,7 +221,17 @@ noted_facts s t c records f client number few scale epoch =
         debt_limit = f.balanced.debt_limit;
       };
       limited = record { coll = f.limited.coll; debt = f.limited.debt };
-      ranges = record { price_least = r.price_least; price_most = r.price_most; minute = r.minute; fee_minute = r.fee_minute; base = r.base; first_generation = r.first_generation; last_generation = r.last_generation; limit = r.limit };
+      ranges = record {
+        price_least = r.price_least;
+        price_most = r.price_most;
+        minute = r.minute;
+        fee_minute = r.fee_minute;
+        base = r.base;
+        first_generation = r.first_generation;
+        last_generation =
+            r.last_generation;
+        limit = r.limit;
+      };
       records = few;
       scale = scale;
       epoch = epoch;
@@ -208,40 +245,73 @@ pub is_rotate : (call : Call) → rotates call ≡ true → call ≡ Rotate
 is_rotate Rotate h = refl
 is_rotate _ h = cc
 
-rotated : (s : State) → SoundFacts s → s.generation + 1 ≤ GENERATIONS_MOST → Finds (record s { generation = s.generation + 1; limit = LIM })
+rotated : (s : State) → SoundFacts s → s.generation + 1 ≤ GENERATIONS_MOST
+    → Finds (record s { generation = s.generation + 1; limit = LIM })
 rotated s h room =
     let k = h.balanced.homes in
     let r = h.ranges in
     let g = h.stands in
     record {
-      stands = record { formed = g.formed; troves = g.troves; pool = g.pool; spread = g.spread; wallets = g.wallets; surplus = g.surplus; trove_keys = g.trove_keys; deposit_keys = g.deposit_keys; clients = g.clients };
+      stands = record {
+        formed = g.formed;
+        troves = g.troves;
+        pool = g.pool;
+        spread = g.spread;
+        wallets = g.wallets;
+        surplus = g.surplus;
+        trove_keys = g.trove_keys;
+        deposit_keys = g.deposit_keys;
+        clients = g.clients;
+      };
       balanced = record {
         homes = record { coll = k.coll; lusd = k.lusd; reserve = k.reserve; surplus = k.surplus };
         coll_limit = h.balanced.coll_limit;
         debt_limit = h.balanced.debt_limit;
       };
       limited = record { coll = h.balanced.coll_limit; debt = h.balanced.debt_limit };
-      ranges = record { price_least = r.price_least; price_most = r.price_most; minute = r.minute; fee_minute = r.fee_minute; base = r.base; first_generation = omega arith; last_generation = room; limit = inr refl };
+      ranges = record {
+        price_least = r.price_least;
+        price_most = r.price_most;
+        minute = r.minute;
+        fee_minute = r.fee_minute;
+        base = r.base;
+        first_generation = omega arith;
+        last_generation = room;
+        limit =
+            inr refl;
+      };
     }
 
 abbrev noted_as : State → Command → Bool → Call → State
-noted_as s c b call = record (effect s call) { records = cond b 0 ((effect s call).records + 1); clients = put (effect s call).clients c.client (record { last = c.number; kept = done_of s c.call }) }
+noted_as s c b call = record (effect s call) {
+  records = cond b 0 ((effect s call).records + 1);
+  clients = put (effect s call).clients c.client (record { last = c.number; kept = done_of s c.call });
+}
 
 abbrev room_as : State → Command → Bool → List Rule
-room_as s c b = cond b (where_above (s.generation + 1) GENERATIONS_MOST AmountLimit ∷ where_above (checkpoint_length (image (after s c))) CHECKPOINT_BYTES_MOST AmountLimit ∷ []) ((nat_le RECORDS_MOST s.records, JournalFull RECORDS_MOST) ∷ [])
+room_as s c b = cond b (where_above (s.generation + 1) GENERATIONS_MOST AmountLimit
+    ∷ where_above (checkpoint_length (image (after s c))) CHECKPOINT_BYTES_MOST AmountLimit ∷ [])
+    ((nat_le RECORDS_MOST s.records, JournalFull RECORDS_MOST) ∷ [])
 
-after_by : (s : State) → SoundFacts s → (c : Command) → IsAllowed s c → (b : Bool) → rotates c.call ≡ b → AllByRecursion (λ (rule : Rule). rule.0 ≡ false) (room_as s c b) → SoundFacts (noted_as s c b c.call)
+after_by : (s : State) → SoundFacts s → (c : Command) → IsAllowed s c → (b : Bool) → rotates c.call ≡ b
+    → AllByRecursion (λ (rule : Rule). rule.0 ≡ false) (room_as s c b) → SoundFacts (noted_as s c b c.call)
 after_by s h c a true e room =
     let generation = ltb-false GENERATIONS_MOST (s.generation + 1) room.0 in
     let first = h.ranges.first_generation in
     let next : State = record s { generation = s.generation + 1; limit = LIM } in
     subst (λ (call : Call). SoundFacts (noted_as s c true call)) (sym (is_rotate c.call e))
-    (noted_facts s next c 0 (rotated s h generation) a.client a.number (omega arith) (omega (arith, h.scale, h.records, first)) (omega (arith, h.epoch, h.records, first)))
+    (noted_facts s next c 0 (rotated s h generation) a.client a.number (omega arith) (omega (
+      arith,
+      h.scale,
+      h.records,
+      first,
+    )) (omega (arith, h.epoch, h.records, first)))
 after_by s h c a false e room =
     let left = effect_leaves s (finds s h) c.call e a.accounts a.rules in
     let few : s.records < RECORDS_MOST = less s.records room.0 in
     let r = left.rest in
-    noted_facts s (effect s c.call) c ((effect s c.call).records + 1) (finds_after s (effect s c.call) left) a.client a.number
+    noted_facts s (effect s c.call) c ((effect s c.call).records + 1) (finds_after s (effect s c.call) left) a.client
+    a.number
     (omega (arith, few, r.records))
     (omega (arith, h.scale, r.scale, r.generation, r.records))
     (omega (arith, h.epoch, r.epoch, r.generation, r.records))
@@ -256,7 +326,8 @@ after_sound s h c allowed =
 
 -- ---- the step, and whole runs
 
-ruled_sound : (s : State) → IsSoundState s → (c : Command) (r : Ruling) → ruling s c ≡ r → IsSoundState (after_ruling s c r).0
+ruled_sound : (s : State) → IsSoundState s → (c : Command) (r : Ruling) → ruling s c ≡ r
+    → IsSoundState (after_ruling s c r).0
 ruled_sound s h c (Refused refusal) e = h
 ruled_sound s h c (Repeated kept) e = h
 ruled_sound s h c Allowed e = after_sound s h c e

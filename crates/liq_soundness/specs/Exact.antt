@@ -18,9 +18,13 @@ IsUncapped s account d =
 -- After these events the pool is what the plain ledger says.
 pub record IsExactPool (s : State) (es : List PoolEvent) : Type 0 where
   -- the exact balances of all accounts come to its LUSD
-  pub balances : over_accounts ACCOUNTS (λ account. (exact_share account es).bal) ≡ pool_total s * den_of es
+  pub balances : over_accounts ACCOUNTS (λ account. (exact_share account es).bal)
+      ≡ pool_total s * den_of es
   -- their exact gains come to the collateral of all offsets
-  pub gains : over_accounts ACCOUNTS (λ account. (exact_share account es).gain) ≡ offsets_coll es * den_of es
+  pub gains : over_accounts ACCOUNTS (λ account. (exact_share account es).gain)
+      ≡ offsets_coll es * den_of es
   -- what was paid of these is what is no longer in it
-  pub paid : pool_coll s + over_accounts ACCOUNTS (λ account. gains_paid_to account es) ≡ offsets_coll es
-  pub caps : (account : ℕ) (d : DepositEntry) → at s.deposits account ≡ Some d → IsUncapped s account d
+  pub paid : pool_coll s + over_accounts ACCOUNTS (λ account. gains_paid_to account es)
+      ≡ offsets_coll es
+  pub caps : (account : ℕ) (d : DepositEntry) → at s.deposits account ≡ Some d
+      → IsUncapped s account d

@@ -12,7 +12,8 @@ use Rattle.liq_soundness.specs.SoundState.{IsSoundState}
 
 -- market, sums, troves, list and pool are those of one sound state
 pub record ArePartsOfSound
-    (s : State) (m : Market) (sums : Sums) (troves : Table Trove) (order : List Ranked) (words : PoolWords)
+    (s : State) (m : Market) (sums : Sums) (troves : Table Trove) (order : List Ranked)
+    (words : PoolWords)
     : Type 0 where
   pub sound : IsSoundState s
   pub parts : AreParts s m sums troves order words

@@ -23,8 +23,8 @@ use Rattle.liq_liquidation.specs.One.{one, gas_of, one_total_coll, one_total_deb
 use Rattle.liq_redemption.specs.declared.cut.Cut.{Cut}
 use Rattle.liq_rules.specs.Image.{image}
 
--- It is well formed, its tables are in order, its image meets the rules beside its records, and every redistribution
--- went to some stake.
+-- It is well formed, its tables are in order, its image meets the rules beside its records, and
+-- every redistribution went to some stake.
 pub record IsSoundState (s : State) : Type 0 where
   pub formed : IsWellFormed s
   pub ordered : TablesAscend s
@@ -75,7 +75,8 @@ pub record SnapshotWithin (most : ℕ) (s : State) : Type 0 where
 -- product, sums and place of the Stability Pool, and the sums per stake
 pub record WordsWithin (s : State) : Type 0 where
   pub product : IsWithinRange (words_of s)
-  pub sum : sumat s.start s.offsets (place_of (words_of s)) ≤ OFFSET_MOST * (P_OPENING - (words_of s).p)
+  pub sum : sumat s.start s.offsets (place_of (words_of s))
+      ≤ OFFSET_MOST * (P_OPENING - (words_of s).p)
   pub sums : (place : Place) → sumat s.start s.offsets place ≤ OFFSET_MOST * P_OPENING
   pub scale : (words_of s).scale ≤ places_most s.generation s.records
   pub epoch : (words_of s).epoch ≤ places_most s.generation s.records
@@ -103,38 +104,44 @@ pub record DepositIsCovered (s : State) (d : DepositEntry) : Type 0 where
   pub sum : (mark_of s d.mark).sum ≤ sums_from s (mark_of s d.mark) 0
   pub product : P_LEAST ≤ (mark_of s d.mark).p
   pub epoch : (mark_of s d.mark).epoch ≤ (words_of s).epoch
-  pub scale : (mark_of s d.mark).epoch ≡ (words_of s).epoch → (mark_of s d.mark).scale ≤ (words_of s).scale
+  pub scale : (mark_of s d.mark).epoch ≡ (words_of s).epoch → (mark_of s d.mark).scale
+      ≤ (words_of s).scale
 
 -- what left the Stability Pool comes together with what is in it to what came in
 pub record PoolIsWhole (s : State) : Type 0 where
-  pub lusd : pool_total s + s.withdrawn + sum_by (λ (o : PoolOffset). o.debt) s.offsets ≡ s.start.total + s.provided
-  pub coll : pool_coll s + s.gains_paid ≡ s.start.pool_coll + sum_by (λ (o : PoolOffset). o.coll) s.offsets
+  pub lusd : pool_total s + s.withdrawn + sum_by (λ (o : PoolOffset). o.debt) s.offsets
+      ≡ s.start.total + s.provided
+  pub coll : pool_coll s + s.gains_paid ≡ s.start.pool_coll + sum_by (λ (o : PoolOffset). o.coll)
+      s.offsets
 
 -- ---- what an allowed call takes
 
--- of the troves that are struck one after the other each may be liquidated at its moment, and what stands of the
--- troves and of the product stands after each
+-- of the troves that are struck one after the other each may be liquidated at its moment, and what
+-- stands of the troves and of the product stands after each
 abbrev pub StruckStand : State → List Victim → Type 0
 StruckStand s [] = Unit {0}
 StruckStand s (v ∷ vs) =
-    (one s v.account ≡ Ok v.one) × TrovesStand (books_of (struck s v)) × IsWithinRange (words_of (struck s v))
+    (one s v.account ≡ Ok v.one) × TrovesStand (books_of (struck s v))
+    × IsWithinRange (words_of (struck s v))
     × StruckStand (struck s v) vs
 
--- all that becomes of a trove with these entire amounts is in it, and the pool takes over no more than it has
+-- all that becomes of a trove with these entire amounts is in it, and the pool takes over no more
+-- than it has
 pub record OneIsCovered (s : State) (own : ℕ × ℕ) (one : One) : Type 0 where
   pub coll : one_total_coll one ≡ own.0
   pub debt : one_total_debt one ≡ own.1
   pub served : one.offset_debt ≤ pool_total s
   pub worth : one.offset_coll ≤ OFFSET_MOST * one.offset_debt
 
--- what is divided of a liquidated trove: the collateral of the offset times the product, and what each unit of stake
--- gets
+-- what is divided of a liquidated trove: the collateral of the offset times the product, and what
+-- each unit of stake gets
 pub record OneFits (s : State) (one : One) : Type 0 where
   pub offset : one.offset_coll * (words_of s).p ≤ P_OPENING * LIM
   pub spread_coll : one.spread_coll * ONE ≤ ONE * LIM
   pub spread_debt : one.spread_debt * ONE ≤ ONE * LIM
 
--- what is divided before it: the cap on the collateral of a trove with these entire amounts, and the pool's share of it
+-- what is divided before it: the cap on the collateral of a trove with these entire amounts, and
+-- the pool's share of it
 pub record OwnFits (s : State) (own : ℕ × ℕ) : Type 0 where
   pub cap : own.1 * CAP_WORTH ≤ CAP_WORTH * LIM
   pub share : (own.0 - gas_of own.0) * min own.1 (pool_total s) ≤ LIM * LIM

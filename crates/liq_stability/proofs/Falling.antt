@@ -24,20 +24,29 @@ pub record StaysLive (now : ScaledProduct) (o : PoolOffset) (mark : PoolMark) (j
 -- less than a unit is left of all of it
 pub record FallsPast (now : ScaledProduct) (o : PoolOffset) (mark : PoolMark) (j : ℕ) : Type 0 where
   pub past : IsPast (after_offset now o) mark
-  pub little : (amount : ℕ) → amount ≤ 10 ^ 27 → amount * (now.p * reach j) * (o.total - o.debt) ≤ base_of mark * o.total
+  pub little : (amount : ℕ) → amount ≤ 10 ^ 27 → amount * (now.p * reach j) * (o.total - o.debt)
+      ≤ base_of mark * o.total
 
-module _ (most : ℕ) (served : most ≤ 10 ^ (9 * RISES_MOST)) (now : ScaledProduct) (o : PoolOffset) (range : IsWithinRange now) (takes : TakesPartUpTo most o) (mark : PoolMark) (least : P_LEAST ≤ mark.p) where
-  stays : (j k : ℕ) → rise_of now.p o ≡ k → j + k ≤ 3 → IsLive now mark j → LeavesPart now o → StaysLive now o mark j (j + k)
+module _ (most : ℕ) (served : most ≤ 10 ^ (9 * RISES_MOST)) (now : ScaledProduct) (o : PoolOffset)
+    (range : IsWithinRange now) (takes : TakesPartUpTo most o) (mark : PoolMark) (least : P_LEAST ≤ mark.p) where
+  stays : (j k : ℕ) → rise_of now.p o ≡ k → j + k ≤ 3 → IsLive now mark j → LeavesPart now o
+      → StaysLive now o mark j (j + k)
   stays j k is near h part =
       let next = after_offset now o in
       let rest = o.total - o.debt in
       let p_is : next.p ≡ product_after now.p o k = part.p ∙ ap (product_after now.p o) is in
-      let floor : next.p * o.total ≤ now.p * (rest * 10 ^ (9 * k)) = subst (λ n. n * o.total ≤ now.p * (rest * 10 ^ (9 * k))) (sym p_is) (floor_low now.p (rest * 10 ^ (9 * k)) o.total) in
-      let above : now.p * (rest * 10 ^ (9 * k)) ≤ next.p * o.total + o.total = subst (λ n. now.p * (rest * 10 ^ (9 * k)) ≤ n * o.total + o.total) (sym p_is) (floor_high now.p (rest * 10 ^ (9 * k)) o.total (omega (arith, part.less))) in
+      let floor : next.p * o.total ≤ now.p * (rest * 10 ^ (9 * k)) =
+      subst (λ n. n * o.total ≤ now.p * (rest * 10 ^ (9 * k))) (sym p_is) (floor_low now.p (rest * 10 ^ (9 * k))
+      o.total) in
+      let above : now.p * (rest * 10 ^ (9 * k)) ≤ next.p * o.total + o.total = subst (λ n. now.p * (rest * 10 ^ (9 * k))
+      ≤ n * o.total + o.total) (sym p_is) (floor_high now.p (rest * 10 ^ (9 * k)) o.total (omega (arith, part.less)))
+      in
       record {
         live = record { few = near; epoch = part.epoch ∙ h.epoch; scale = omega (arith, part.scale, h.scale, is) };
-        low = worth_below now.p next.p (10 ^ (9 * k)) (reach j) (reach (j + k)) o.total rest (reach_split j k near) floor;
-        near = worth_near now.p next.p (10 ^ (9 * k)) (reach j) (reach (j + k)) o.total rest (reach_split j k near) (some_power (9 * k)) above;
+        low = worth_below now.p next.p (10 ^ (9 * k)) (reach j) (reach (j + k)) o.total rest
+            (reach_split j k near) floor;
+        near = worth_near now.p next.p (10 ^ (9 * k)) (reach j) (reach (j + k)) o.total rest (reach_split j k near)
+            (some_power (9 * k)) above;
       }
 
   falls : (j k : ℕ) → rise_of now.p o ≡ k → 3 < j + k → IsLive now mark j → LeavesPart now o → FallsPast now o mark j
@@ -49,7 +58,8 @@ module _ (most : ℕ) (served : most ≤ 10 ^ (9 * RISES_MOST)) (now : ScaledPro
       let under : now.p * (rest * 10 ^ (9 * i)) < P_LEAST * o.total = (div-lt_iff_lt-mul pos).0 low in
       record {
         past = inr (sym h.epoch ∙ sym part.epoch, omega (arith, part.scale, h.scale, is));
-        little = λ amount small. little_left amount now.p mark.p P_LEAST (reach j) (10 ^ (9 * i)) (10 ^ 27) o.total rest (reach_low j i far) (omega (arith, under)) (omega (arith, small)) least;
+        little = λ amount small. little_left amount now.p mark.p P_LEAST (reach j) (10 ^ (9 * i)) (10 ^ 27) o.total rest
+            (reach_low j i far) (omega (arith, under)) (omega (arith, small)) least;
       }
 
   ends : (j : ℕ) → IsLive now mark j → TakesAll now o → FallsPast now o mark j
@@ -57,7 +67,8 @@ module _ (most : ℕ) (served : most ≤ 10 ^ (9 * RISES_MOST)) (now : ScaledPro
     past = inl (omega (arith, all.epoch, h.epoch));
     little = λ amount small.
         let none : o.total - o.debt ≡ 0 = omega (arith, all.all) in
-        let gone : amount * (now.p * reach j) * (o.total - o.debt) ≡ amount * (now.p * reach j) * 0 = ap (λ r. amount * (now.p * reach j) * r) none in
+        let gone : amount * (now.p * reach j) * (o.total - o.debt) ≡ amount * (now.p * reach j) * 0 =
+        ap (λ r. amount * (now.p * reach j) * r) none in
         omega (arith, gone);
   }
 
@@ -78,21 +89,28 @@ module _ (most : ℕ) (served : most ≤ 10 ^ (9 * RISES_MOST)) (now : ScaledPro
     by true e (inl k) = let all = takes_all now o e in inl (omega (arith, all.epoch))
     by true e (inr k) = let all = takes_all now o e in inl (omega (arith, all.epoch, k.0))
     by false e (inl k) = let part = leaves_part now o takes.within e in inl (omega (arith, part.epoch))
-    by false e (inr k) = let part = leaves_part now o takes.within e in inr (k.0 ∙ sym part.epoch, omega (arith, part.scale, k.1))
+    by false e (inr k) = let part = leaves_part now o takes.within e
+        in inr (k.0 ∙ sym part.epoch, omega (arith, part.scale, k.1))
 
 -- ---- what the sums gain
 
 -- in the unit of a deposit that counts
-pub gained_low : (now : ScaledProduct) (o : PoolOffset) (j : ℕ) → sum_growth now o * reach j * o.total ≤ o.coll * (now.p * reach j)
+pub gained_low : (now : ScaledProduct) (o : PoolOffset) (j : ℕ) → sum_growth now o * reach j * o.total
+    ≤ o.coll * (now.p * reach j)
 gained_low now o j = gain_below now.p (sum_growth now o) (reach j) o.total o.coll (floor_low o.coll now.p o.total)
 
-pub gained_near : (now : ScaledProduct) (o : PoolOffset) (j : ℕ) → 0 < o.total → o.coll * (now.p * reach j) ≤ sum_growth now o * reach j * o.total + reach j * o.total
-gained_near now o j pos = gain_near now.p (sum_growth now o) (reach j) o.total o.coll (floor_high o.coll now.p o.total pos)
+pub gained_near : (now : ScaledProduct) (o : PoolOffset) (j : ℕ) → 0 < o.total → o.coll * (now.p * reach j)
+    ≤ sum_growth now o * reach j * o.total + reach j * o.total
+gained_near now o j pos = gain_near now.p (sum_growth now o) (reach j) o.total o.coll
+    (floor_high o.coll now.p o.total pos)
 
 -- the place of now among the four places of a deposit
-pub live_place : (now : ScaledProduct) (mark : PoolMark) (j i : ℕ) → IsLive now mark j → is_place (place_of now) (mark.epoch, mark.scale + i) ≡ (i == j)
+pub live_place : (now : ScaledProduct) (mark : PoolMark) (j i : ℕ) → IsLive now mark j
+    → is_place (place_of now) (mark.epoch, mark.scale + i) ≡ (i == j)
 live_place now mark j i h = grind (arith, nat_tests, h.epoch, h.scale)
 
-pub past_place : (now : ScaledProduct) (mark : PoolMark) (i : ℕ) → i ≤ 3 → IsPast now mark → is_place (place_of now) (mark.epoch, mark.scale + i) ≡ false
+pub past_place : (now : ScaledProduct) (mark : PoolMark) (i : ℕ) → i ≤ 3 → IsPast now mark
+    → is_place (place_of now) (mark.epoch, mark.scale + i) ≡ false
 past_place now mark i few (inl h) = after_not_place (mark.epoch, mark.scale + i) (place_of now) (inl h)
-past_place now mark i few (inr h) = after_not_place (mark.epoch, mark.scale + i) (place_of now) (inr (h.0, omega (arith, h.1)))
+past_place now mark i few (inr h) = after_not_place (mark.epoch, mark.scale + i) (place_of now)
+    (inr (h.0, omega (arith, h.1)))

@@ -11,14 +11,17 @@ pub lawful_limit : (most : ℕ) (s : State) (events : List PoolEvent) → IsLawf
 lawful_limit most s [] h = h
 lawful_limit most s (e ∷ es) h = h.0
 
-pub lawful_joined : (most : ℕ) (s : State) (first rest : List PoolEvent) → IsLawfulUpTo most s first → IsLawfulUpTo most (fold after_event s first) rest → IsLawfulUpTo most s (first ++ rest)
+pub lawful_joined : (most : ℕ) (s : State) (first rest : List PoolEvent) → IsLawfulUpTo most s first
+    → IsLawfulUpTo most (fold after_event s first) rest → IsLawfulUpTo most s (first ++ rest)
 lawful_joined most s [] rest h k = k
 lawful_joined most s (e ∷ es) rest h k = (h.0, h.1, lawful_joined most (after_event s e) es rest h.2 k)
 
-pub lawful_first : (most : ℕ) (s : State) (first rest : List PoolEvent) → IsLawfulUpTo most s (first ++ rest) → IsLawfulUpTo most s first
+pub lawful_first : (most : ℕ) (s : State) (first rest : List PoolEvent) → IsLawfulUpTo most s (first ++ rest)
+    → IsLawfulUpTo most s first
 lawful_first most s [] rest h = lawful_limit most s rest h
 lawful_first most s (e ∷ es) rest h = (h.0, h.1, lawful_first most (after_event s e) es rest h.2)
 
-pub lawful_rest : (most : ℕ) (s : State) (first rest : List PoolEvent) → IsLawfulUpTo most s (first ++ rest) → IsLawfulUpTo most (fold after_event s first) rest
+pub lawful_rest : (most : ℕ) (s : State) (first rest : List PoolEvent) → IsLawfulUpTo most s (first ++ rest)
+    → IsLawfulUpTo most (fold after_event s first) rest
 lawful_rest most s [] rest h = h
 lawful_rest most s (e ∷ es) rest h = lawful_rest most (after_event s e) es rest h.2

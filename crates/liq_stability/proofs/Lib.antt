@@ -1,8 +1,8 @@
 pub mod Falling
-pub mod Finishing
+mod Finishing
 pub mod Following
-pub mod Holding
-pub mod Keeping
+mod Holding
+mod Keeping
 pub mod LawfulLists
 pub mod Pool
 pub mod PoolPart

@@ -60,50 +60,77 @@ opening_whole n = record {
 
 -- ---- lawful lists
 
-module _ (most : ℕ) (served : most ≤ 10 ^ (9 * RISES_MOST)) (events : List PoolEvent) (lawful : IsLawfulUpTo most opening events) where
-  pub whole : (n : ℕ) → AreOwnedBelow n events → Whole n (after_events events) (den_of events) (offsets_coll events) (λ a. exact_share a events) (λ a. watched a events) (λ a. gains_paid_to a events)
-  whole n below = after_all most served n opening 1 0 (λ a. no_share) (λ a. no_watch) (λ a. 0) events below lawful (opening_whole n)
+module _ (most : ℕ) (served : most ≤ 10 ^ (9 * RISES_MOST)) (events : List PoolEvent)
+    (lawful : IsLawfulUpTo most opening events) where
+  pub whole : (n : ℕ) → AreOwnedBelow n events → Whole n (after_events events) (den_of events) (offsets_coll events)
+      (λ a. exact_share a events) (λ a. watched a events) (λ a. gains_paid_to a events)
+  whole n below = after_all most served n opening 1 0 (λ a. no_share) (λ a. no_watch) (λ a. 0) events below lawful
+      (opening_whole n)
 
-  pub whole_with : (account : ℕ) → Whole (above_with account events) (after_events events) (den_of events) (offsets_coll events) (λ a. exact_share a events) (λ a. watched a events) (λ a. gains_paid_to a events)
+  pub whole_with : (account : ℕ) → Whole (above_with account events) (after_events events) (den_of events)
+      (offsets_coll events) (λ a. exact_share a events) (λ a. watched a events) (λ a. gains_paid_to a events)
   whole_with account = whole (above_with account events) (owned_with account events)
 
-  reads_of : (account : ℕ) → IsRead (exact_share account events) (watched account events).weight (watched account events).own_events (balance_of (after_events events) account) (gains_paid_to account events + gain_of (after_events events) account)
+  reads_of : (account : ℕ) → IsRead (exact_share account events) (watched account events).weight
+      (watched account events).own_events (balance_of (after_events events) account) (gains_paid_to account events
+      + gain_of (after_events events) account)
   reads_of account =
-      read (above_with account events) (after_events events) (den_of events) (offsets_coll events) (λ a. exact_share a events) (λ a. watched a events) (λ a. gains_paid_to a events) (whole_with account) account (under_with account events)
+      read (above_with account events) (after_events events) (den_of events) (offsets_coll events)
+      (λ a. exact_share a events) (λ a. watched a events) (λ a. gains_paid_to a events) (whole_with account) account
+      (under_with account events)
 
-  turned : (account : ℕ) → gains_paid_to account events + gain_of (after_events events) account ≡ gained_of (after_events events) account events
+  turned : (account : ℕ) → gains_paid_to account events + gain_of (after_events events) account
+      ≡ gained_of (after_events events) account events
   turned account = plus (gains_paid_to account events) (gain_of (after_events events) account) where
     plus : (x y : ℕ) → x + y ≡ y + x
     plus x y = omega arith
 
-  reads_turned : (account : ℕ) → IsRead (exact_share account events) (weight_of account events) (own_events_of account events) (balance_of (after_events events) account) (gained_of (after_events events) account events)
+  reads_turned : (account : ℕ) → IsRead (exact_share account events) (weight_of account events)
+      (own_events_of account events) (balance_of (after_events events) account)
+      (gained_of (after_events events) account events)
   reads_turned account =
-      subst (λ m. IsRead (exact_share account events) (weight_of account events) m (balance_of (after_events events) account) (gained_of (after_events events) account events)) (own_events_are account events)
-      (subst (λ w. IsRead (exact_share account events) w (watched account events).own_events (balance_of (after_events events) account) (gained_of (after_events events) account events)) (weight_is account events)
-      (subst (λ g. IsRead (exact_share account events) (watched account events).weight (watched account events).own_events (balance_of (after_events events) account) g) (turned account) (reads_of account)))
+      subst (λ m. IsRead (exact_share account events) (weight_of account events) m
+      (balance_of (after_events events) account) (gained_of (after_events events) account events))
+      (own_events_are account events)
+      (subst (λ w. IsRead (exact_share account events) w (watched account events).own_events
+      (balance_of (after_events events) account) (gained_of (after_events events) account events))
+      (weight_is account events)
+      (subst (λ g. IsRead (exact_share account events) (watched account events).weight
+      (watched account events).own_events (balance_of (after_events events) account) g) (turned account)
+      (reads_of account)))
 
-  pub balance_at_most : (account : ℕ) → balance_of (after_events events) account * (exact_share account events).den ≤ (exact_share account events).bal
+  pub balance_at_most : (account : ℕ) → balance_of (after_events events) account * (exact_share account events).den
+      ≤ (exact_share account events).bal
   balance_at_most account = (reads_turned account).upper_balance
 
-  pub gain_at_most : (account : ℕ) → gained_of (after_events events) account events * (exact_share account events).den ≤ (exact_share account events).gain
+  pub gain_at_most : (account : ℕ) → gained_of (after_events events) account events * (exact_share account events).den
+      ≤ (exact_share account events).gain
   gain_at_most account = (reads_turned account).upper_gain
 
-  pub balance_at_least : (account : ℕ) → (exact_share account events).bal ≤ (balance_of (after_events events) account + balance_allowance account events) * (exact_share account events).den
+  pub balance_at_least : (account : ℕ) → (exact_share account events).bal
+      ≤ (balance_of (after_events events) account + balance_allowance account events) * (exact_share account events).den
   balance_at_least account =
       let weight = weight_of account events in
       let share = exact_share account events in
-      let up : weight * 1 ≤ ceiling_of weight 1 (10 ^ 9) * 10 ^ 9 = (div_ceil_times (weight * 1) (10 ^ 9) (omega arith)).0 in
+      let up : weight * 1 ≤ ceiling_of weight 1 (10 ^ 9) * 10 ^ 9 =
+      (div_ceil_times (weight * 1) (10 ^ 9) (omega arith)).0 in
       le_of_mul-le-mul_right {k = 10 ^ 9}
-      (balance_law (balance_of (after_events events) account) share.den share.bal (10 ^ 9) weight (ceiling_of weight 1 (10 ^ 9)) (own_events_of account events) (omega (arith, up)) (reads_turned account).balance)
+      (balance_law (balance_of (after_events events) account) share.den share.bal (10 ^ 9) weight (ceiling_of weight 1
+      (10 ^ 9)) (own_events_of account events) (omega (arith, up)) (reads_turned account).balance)
       (omega arith)
 
-  pub gain_at_least : (account : ℕ) → (exact_share account events).gain ≤ (gained_of (after_events events) account events + gain_allowance account events) * (exact_share account events).den
+  pub gain_at_least : (account : ℕ) → (exact_share account events).gain
+      ≤ (gained_of (after_events events) account events + gain_allowance account events)
+      * (exact_share account events).den
   gain_at_least account =
       let weight = weight_of account events in
       let share = exact_share account events in
-      let up : 12 * weight ≤ ceiling_of 12 weight (10 ^ 9) * 10 ^ 9 = (div_ceil_times (12 * weight) (10 ^ 9) (omega arith)).0 in
+      let up : 12 * weight ≤ ceiling_of 12 weight (10 ^ 9) * 10 ^ 9 =
+      (div_ceil_times (12 * weight) (10 ^ 9) (omega arith)).0 in
       le_of_mul-le-mul_right {k = 10 ^ 9}
-      (gain_law (balance_of (after_events events) account) (gained_of (after_events events) account events) share.den share.gain share.bal (10 ^ 9) weight (ceiling_of 12 weight (10 ^ 9)) (own_events_of account events) up (reads_turned account).upper_balance (reads_turned account).gain)
+      (gain_law (balance_of (after_events events) account) (gained_of (after_events events) account events) share.den
+      share.gain share.bal (10 ^ 9) weight (ceiling_of 12 weight (10 ^ 9)) (own_events_of account events) up
+      (reads_turned account).upper_balance (reads_turned account).gain)
       (omega arith)
 
   pub within_allowance : (account : ℕ) → IsWithinAllowance (after_events events) account events
@@ -115,52 +142,75 @@ module _ (most : ℕ) (served : most ≤ 10 ^ (9 * RISES_MOST)) (events : List P
   }
 
   -- before anything is rounded
-  pub unrounded : (account : ℕ) (d : DepositEntry) → at (after_events events).deposits account ≡ Some d → d.amount * worth_of (mark_of (after_events events) d.mark) (words_of (after_events events)) * (exact_share account events).den ≤ (exact_share account events).bal * base_of (mark_of (after_events events) d.mark)
+  pub unrounded : (account : ℕ) (d : DepositEntry) → at (after_events events).deposits account ≡ Some d
+      → d.amount * worth_of (mark_of (after_events events) d.mark) (words_of (after_events events))
+      * (exact_share account events).den ≤ (exact_share account events).bal * base_of
+      (mark_of (after_events events) d.mark)
   unrounded account d is =
       let s = after_events events in
       let mark = mark_of s d.mark in
       let share = exact_share account events in
-      let stands : StandsBy s share (watched account events) (gains_paid_to account events) (Some d) = subst (StandsBy s share (watched account events) (gains_paid_to account events)) is ((whole_with account).each account) in
+      let stands : StandsBy s share (watched account events) (gains_paid_to account events) (Some d) =
+      subst (StandsBy s share (watched account events) (gains_paid_to account events)) is
+      ((whole_with account).each account) in
       elim stands.1.2 [
-        | inl k ↦ subst (λ v. d.amount * v * share.den ≤ share.bal * base_of mark) (sym (worth-live (words_of s) mark k.0 k.1.live)) k.1.holds.worth
-        | inr k ↦ subst (λ v. d.amount * v * share.den ≤ share.bal * base_of mark) (sym (worth-past (words_of s) mark k.past)) (omega arith)
+        | inl k ↦ subst (λ v. d.amount * v * share.den ≤ share.bal * base_of mark)
+            (sym (worth-live (words_of s) mark k.0 k.1.live)) k.1.holds.worth
+        | inr k ↦ subst (λ v. d.amount * v * share.den ≤ share.bal * base_of mark)
+            (sym (worth-past (words_of s) mark k.past)) (omega arith)
       ]
 
   -- the caps never act
-  pub balance_uncapped : (account : ℕ) (d : DepositEntry) → at (after_events events).deposits account ≡ Some d → balance_of (after_events events) account ≡ balance_by d.amount (mark_of (after_events events) d.mark) (words_of (after_events events))
+  pub balance_uncapped : (account : ℕ) (d : DepositEntry) → at (after_events events).deposits account ≡ Some d
+      → balance_of (after_events events) account ≡ balance_by d.amount (mark_of (after_events events) d.mark)
+      (words_of (after_events events))
   balance_uncapped account d is =
-      balance_bare (above_with account events) (after_events events) (den_of events) (offsets_coll events) (λ a. exact_share a events) (λ a. watched a events) (λ a. gains_paid_to a events) (whole_with account) account (under_with account events)
+      balance_bare (above_with account events) (after_events events) (den_of events) (offsets_coll events)
+      (λ a. exact_share a events) (λ a. watched a events) (λ a. gains_paid_to a events) (whole_with account) account
+      (under_with account events)
       ∙ ap (bare_balance (after_events events)) is
 
-  pub gain_uncapped : (account : ℕ) (d : DepositEntry) → at (after_events events).deposits account ≡ Some d → gain_of (after_events events) account ≡ gain_by d.amount (mark_of (after_events events) d.mark) (sums_from (after_events events) (mark_of (after_events events) d.mark))
+  pub gain_uncapped : (account : ℕ) (d : DepositEntry) → at (after_events events).deposits account ≡ Some d
+      → gain_of (after_events events) account ≡ gain_by d.amount (mark_of (after_events events) d.mark)
+      (sums_from (after_events events) (mark_of (after_events events) d.mark))
   gain_uncapped account d is =
-      gain_bare (above_with account events) (after_events events) (den_of events) (offsets_coll events) (λ a. exact_share a events) (λ a. watched a events) (λ a. gains_paid_to a events) (whole_with account) account (under_with account events)
+      gain_bare (above_with account events) (after_events events) (den_of events) (offsets_coll events)
+      (λ a. exact_share a events) (λ a. watched a events) (λ a. gains_paid_to a events) (whole_with account) account
+      (under_with account events)
       ∙ ap (bare_gain (after_events events)) is
 
   -- ---- all accounts
 
-  pub all_balances_are : (n : ℕ) → AreOwnedBelow n events → over_accounts n (λ a. (exact_share a events).bal) ≡ pool_total (after_events events) * den_of events
+  pub all_balances_are : (n : ℕ) → AreOwnedBelow n events → over_accounts n (λ a. (exact_share a events).bal)
+      ≡ pool_total (after_events events) * den_of events
   all_balances_are n below = (whole n below).balances
 
-  pub all_gains_are : (n : ℕ) → AreOwnedBelow n events → over_accounts n (λ a. (exact_share a events).gain) ≡ offsets_coll events * den_of events
+  pub all_gains_are : (n : ℕ) → AreOwnedBelow n events → over_accounts n (λ a. (exact_share a events).gain)
+      ≡ offsets_coll events * den_of events
   all_gains_are n below = (whole n below).gains
 
-  pub all_paid_are : (n : ℕ) → AreOwnedBelow n events → pool_coll (after_events events) + over_accounts n (λ a. gains_paid_to a events) ≡ offsets_coll events
+  pub all_paid_are : (n : ℕ) → AreOwnedBelow n events
+      → pool_coll (after_events events) + over_accounts n (λ a. gains_paid_to a events) ≡ offsets_coll events
   all_paid_are n below = let h = whole n below in omega (arith, h.paid, h.colls_are)
 
   pub one_den : (account : ℕ) → ((exact_share account events).den ≡ den_of events) × (0 < den_of events)
   one_den account = let h = whole_with account in (h.dens account, h.some)
 
-  pub balances_held : sum (map (balance_of (after_events events)) (keys_of (after_events events).deposits)) ≤ pool_total (after_events events)
-  balances_held = dust_balances (above_with 0 events) (after_events events) (den_of events) (offsets_coll events) (λ a. exact_share a events) (λ a. watched a events) (λ a. gains_paid_to a events) (whole_with 0)
+  pub balances_held : sum (map (balance_of (after_events events)) (keys_of (after_events events).deposits))
+      ≤ pool_total (after_events events)
+  balances_held = dust_balances (above_with 0 events) (after_events events) (den_of events) (offsets_coll events)
+      (λ a. exact_share a events) (λ a. watched a events) (λ a. gains_paid_to a events) (whole_with 0)
 
-  pub gains_held : sum (map (gain_of (after_events events)) (keys_of (after_events events).deposits)) ≤ pool_coll (after_events events)
-  gains_held = dust_gains (above_with 0 events) (after_events events) (den_of events) (offsets_coll events) (λ a. exact_share a events) (λ a. watched a events) (λ a. gains_paid_to a events) (whole_with 0)
+  pub gains_held : sum (map (gain_of (after_events events)) (keys_of (after_events events).deposits))
+      ≤ pool_coll (after_events events)
+  gains_held = dust_gains (above_with 0 events) (after_events events) (den_of events) (offsets_coll events)
+      (λ a. exact_share a events) (λ a. watched a events) (λ a. gains_paid_to a events) (whole_with 0)
 
   -- ---- the pool
 
   pub pool_stands : PoolStands (after_events events)
   pool_stands = (whole_with 0).pool
 
-  pub sum_beside : (pool_words (after_events events)).sum ≤ OFFSET_MOST * (P_OPENING - (pool_words (after_events events)).p)
+  pub sum_beside : (pool_words (after_events events)).sum
+      ≤ OFFSET_MOST * (P_OPENING - (pool_words (after_events events)).p)
   sum_beside = let h = pool_stands in omega (arith, h.sums.now, h.range.most)

@@ -23,7 +23,8 @@ product_in p h =
     record { least = leb-true P_LEAST p parts.0; most = leb-true p P_OPENING parts.1 }
 
 pub product_tested : (p : ℕ) → IsInRange p → IsTrue (is_product p)
-product_tested p h = and_from (nat_le P_LEAST p) (nat_le p P_OPENING) (le-leb P_LEAST p h.least) (le-leb p P_OPENING h.most)
+product_tested p h = and_from (nat_le P_LEAST p) (nat_le p P_OPENING) (le-leb P_LEAST p h.least)
+    (le-leb p P_OPENING h.most)
 
 pub sum_beside : (sum p : ℕ) → IsTrue (is_sum_beside sum p) → sum ≤ OFFSET_MOST * (P_OPENING - p)
 sum_beside sum p h = leb-true sum (OFFSET_MOST * (P_OPENING - p)) h
@@ -47,7 +48,8 @@ before_tested a b (inr h) = grind (arith, nat_tests, h.0, h.1)
 
 pub up_to_in : (now place : Place) → not (is_before now place) ≡ true → IsUpTo place now
 up_to_in now place h = by (nat_lt now.0 place.0) refl h where
-  by : (c : Bool) → nat_lt now.0 place.0 ≡ c → not (c || (now.0 == place.0 && nat_lt now.1 place.1)) ≡ true → IsUpTo place now
+  by : (c : Bool) → nat_lt now.0 place.0 ≡ c → not (c || (now.0 == place.0 && nat_lt now.1 place.1)) ≡ true
+      → IsUpTo place now
   by true e k = cc
   by false e k = same (now.0 == place.0) refl k where
     same : (d : Bool) → (now.0 == place.0) ≡ d → not (d && nat_lt now.1 place.1) ≡ true → IsUpTo place now
@@ -74,7 +76,8 @@ finished_in now row h =
 
 pub finished_tested : (now : Place) (row : Place × ℕ) → IsFinished now row → IsTrue (is_sound_sum now row)
 finished_tested now row h =
-    and_from (nat_le row.1 (OFFSET_MOST * P_OPENING)) (is_before row.0 now) (le-leb row.1 (OFFSET_MOST * P_OPENING) h.most) (before_tested row.0 now h.before)
+    and_from (nat_le row.1 (OFFSET_MOST * P_OPENING)) (is_before row.0 now) (le-leb row.1 (OFFSET_MOST * P_OPENING)
+    h.most) (before_tested row.0 now h.before)
 
 pub record IsMarked (now : Place) (sum : ℕ) (d : Deposit) : Type 0 where
   pub product : IsInRange d.p
@@ -94,5 +97,6 @@ deposit_in now sum d h =
 pub deposit_tested : (now : Place) (sum : ℕ) (d : Deposit) → IsMarked now sum d → IsTrue (is_sound_deposit now sum d)
 deposit_tested now sum d h =
     and_from (is_product d.p && not (is_before now (d.epoch, d.scale))) (nat_le d.sum sum)
-    (and_from (is_product d.p) (not (is_before now (d.epoch, d.scale))) (product_tested d.p h.product) (up_to_tested now (d.epoch, d.scale) h.place))
+    (and_from (is_product d.p) (not (is_before now (d.epoch, d.scale))) (product_tested d.p h.product)
+    (up_to_tested now (d.epoch, d.scale) h.place))
     (le-leb d.sum sum h.within)

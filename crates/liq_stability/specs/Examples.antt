@@ -17,7 +17,8 @@ allowances account events = (balance_allowance account events, gain_allowance ac
 
 -- all but one micro-LUSD of a large pool is taken
 abbrev pub one_rise : List PoolEvent
-one_rise = Own 1 1000000000000000000 0 0 1000000000000000000 ∷ Offset 999999999999999999 0 1000000000000000000 1 ∷ []
+one_rise = Own 1 1000000000000000000 0 0 1000000000000000000
+    ∷ Offset 999999999999999999 0 1000000000000000000 1 ∷ []
 
 -- again, which raises the scale twice at once
 abbrev pub two_rises : List PoolEvent
@@ -35,7 +36,8 @@ four_scales_on =
     ∷ Offset 999999999999999999 0 1000000000000000000 2
     ∷ []
 
--- from the least product on, all but one micro-LUSD of the greatest pool: the scale is raised three times at once
+-- from the least product on, all but one micro-LUSD of the greatest pool: the scale is raised three
+-- times at once
 abbrev pub three_rises : List PoolEvent
 three_rises =
     one_rise
@@ -61,11 +63,13 @@ paid_out = shared ++ Own 1 0 30 23 36 ∷ Offset 17 10 170 0 ∷ []
 
 -- the next epoch begins with a second deposit of the first depositor and one of another
 abbrev pub begun_again : List PoolEvent
-begun_again = emptied ++ Own 1 500 0 9431279620 500 ∷ Own 2 1500 0 0 1500 ∷ Offset 400 300 2000 0 ∷ []
+begun_again = emptied ++ Own 1 500 0 9431279620 500 ∷ Own 2 1500 0 0 1500
+    ∷ Offset 400 300 2000 0 ∷ []
 
 -- a little is taken where the product is at its least
 abbrev pub at_the_least : List PoolEvent
-at_the_least = one_rise ++ Own 2 999999999999999999 0 0 999999999999999999 ∷ Offset 1 0 1000000000000000000 1 ∷ []
+at_the_least = one_rise ++ Own 2 999999999999999999 0 0 999999999999999999
+    ∷ Offset 1 0 1000000000000000000 1 ∷ []
 
 -- an offset of which one depositor gained too little is followed by another's
 abbrev pub after_another : List PoolEvent

@@ -20,8 +20,8 @@ use Rattle.liq_types.specs.declared.image.FinishedSum.{FinishedSum}
 use Rattle.liq_stability.specs.Position.{position_by, deposit_now, deposit_rows}
 use Rattle.liq_stability.specs.Words.{pool_words}
 
--- The six words; the finished sums, each beside its place; the deposits, with the accounts that have room for one; for how
--- many more finished sums there is room.
+-- The six words; the finished sums, each beside its place; the deposits, with the accounts that
+-- have room for one; for how many more finished sums there is room.
 pub record Kept : Type 0 where
   pub words : PoolWords
   pub finished : List (Place × ℕ)
@@ -49,7 +49,8 @@ room_for (Some f) = 1
 -- the sum of a place: that of now is among the words, and one that is not kept is 0
 abbrev pub sum_at : PoolWords → List (Place × ℕ) → Place → ℕ
 sum_at words finished place =
-    if is_place (words.epoch, words.scale) place then words.sum else unwrap_or (lookup (is_place place) finished) 0
+    if is_place (words.epoch, words.scale) place then words.sum
+    else unwrap_or (lookup (is_place place) finished) 0
 
 -- the sums of a deposit's epoch, from its scale on
 abbrev pub sums_for : PoolWords → List (Place × ℕ) → Deposit → ℕ → ℕ
@@ -67,14 +68,19 @@ pub record IsSoundDeposit (now : Place) (sum : ℕ) (d : Deposit) : Type 0 where
   pub sound : IsTrue (is_sound_deposit now sum d)
 
 abbrev pub IsDepositOf : PoolWords → List (Place × ℕ) → Deposit → Type 0
-IsDepositOf words finished d = IsSoundDeposit (words.epoch, words.scale) (sum_at words finished (d.epoch, d.scale)) d
+IsDepositOf words finished d = IsSoundDeposit (words.epoch, words.scale) (sum_at words finished
+    (d.epoch, d.scale)) d
 
--- The rules on words, finished sums and deposits, as far as they speak of these; each table has each key once, in order;
--- and the pool has no more than may be inside.
-pub record IsSoundPool (words : PoolWords) (finished : List (Place × ℕ)) (deposits : Table Deposit) : Type 0 where
+-- The rules on words, finished sums and deposits, as far as they speak of these; each table has
+-- each key once, in order; and the pool has no more than may be inside.
+pub record IsSoundPool (words : PoolWords) (finished : List (Place × ℕ))
+    (deposits : Table Deposit) : Type 0 where
   pub product : IsTrue (is_product words.p)
   pub sum : IsTrue (is_sum_beside words.sum words.p)
-  pub sums : AllByRecursion (λ (row : Place × ℕ). IsTrue (is_sound_sum (words.epoch, words.scale) row)) finished
+  pub sums : AllByRecursion (λ (row : Place × ℕ). IsTrue (is_sound_sum (
+    words.epoch,
+    words.scale,
+  ) row)) finished
   pub places : IsStrictlySortedBy place_order (keys_of finished)
   pub each : AllByRecursion (λ (row : ℕ × Deposit). IsDepositOf words finished row.1) deposits
   pub accounts : Ascends deposits
@@ -91,7 +97,8 @@ position_of pool (Some d) = position_by d pool.words (sums_for pool.words pool.f
 abbrev pub position_at : Kept → ℕ → ℕ × ℕ
 position_at pool account = position_of pool (at pool.deposits.rows account)
 
--- the deposits after an own operation: this amount counts from now on, and a deposit of nothing leaves no row
+-- the deposits after an own operation: this amount counts from now on, and a deposit of nothing
+-- leaves no row
 abbrev pub left_in : Table Deposit → PoolWords → ℕ → ℕ → Table Deposit
 left_in deposits now account amount =
     if amount == 0 then without deposits account else put deposits account (deposit_now now amount)

@@ -23,7 +23,8 @@ pub record IsLawfulOffset (s : State) (debt coll total rise : ℕ) : Type 0 wher
   pub rise_is : rise ≡ rise_of (words_of s).p (record { debt = debt; coll = coll; total = total })
 
 abbrev pub IsLawfulEvent : State → PoolEvent → Type 0
-IsLawfulEvent s (event.Own account put_in paid_out gain amount) = IsLawfulOwn s account put_in paid_out gain amount
+IsLawfulEvent s (event.Own account put_in paid_out gain amount) =
+    IsLawfulOwn s account put_in paid_out gain amount
 IsLawfulEvent s (event.Offset debt coll total rise) = IsLawfulOffset s debt coll total rise
 
 -- the pool holds no more than so much
@@ -33,7 +34,8 @@ pub record IsWithinLimit (most : ℕ) (s : State) : Type 0 where
 
 abbrev pub IsLawfulUpTo : ℕ → State → List PoolEvent → Type 0
 IsLawfulUpTo most s [] = IsWithinLimit most s
-IsLawfulUpTo most s (e ∷ es) = IsWithinLimit most s × IsLawfulEvent s e × IsLawfulUpTo most (after_event s e) es
+IsLawfulUpTo most s (e ∷ es) = IsWithinLimit most s × IsLawfulEvent s e
+    × IsLawfulUpTo most (after_event s e) es
 
 abbrev pub IsLawful : State → List PoolEvent → Type 0
 IsLawful s events = IsLawfulUpTo LIM s events

@@ -1,4 +1,5 @@
--- The pool's words if they were rounded otherwise: of use in examples alone, which show that shares would then be passed.
+-- The pool's words if they were rounded otherwise: of use in examples alone, which show that shares
+-- would then be passed.
 use Rattle.std.specs.Prelude.{ℕ, ◌+◌, ◌-◌, ◌*◌, ◌/◌, ◌%◌, ◌^◌, ◌==◌, nat_le, List, [], ◌∷◌, fold, take, if◌then◌else◌}
 use Rattle.liq_num.specs.Quotient.{ceiling_of}
 use Rattle.liq_types.specs.declared.amounts.TheConstants.{P_LEAST}
@@ -26,7 +27,8 @@ words_upward offsets = fold after_upward opening_words offsets
 abbrev pub balance_upward : State → ℕ → ℕ → ℕ
 balance_upward s amount items =
     let w = words_upward (take items s.offsets) in
-    balance_by amount (record { p = w.p; sum = 0; scale = w.scale; epoch = w.epoch }) (words_upward s.offsets)
+    balance_by amount (record { p = w.p; sum = 0; scale = w.scale; epoch = w.epoch })
+    (words_upward s.offsets)
 
 -- ---- the remainder of a sum's quotient carried into the next offset
 
@@ -35,7 +37,8 @@ abbrev pub carried_at : ScaledProduct → ℕ → List PoolOffset → Place → 
 carried_at w carried [] place = 0
 carried_at w carried (o ∷ os) place =
     let due = o.coll * w.p + carried in
-    (if is_place (place_of w) place then due / o.total else 0) + carried_at (after_offset w o) (due % o.total) os place
+    (if is_place (place_of w) place then due / o.total else 0) + carried_at (after_offset w o)
+    (due % o.total) os place
 
 -- what an amount gained that was recorded after so many offsets
 abbrev pub gain_carried : State → ℕ → ℕ → ℕ

@@ -15,7 +15,8 @@ amount_after s account put_in paid_out = balance_of s account + put_in - paid_ou
 abbrev pub with_deposit : Table DepositEntry → ℕ → DepositEntry → Table DepositEntry
 with_deposit table account d = if d.amount == 0 then without table account else put table account d
 
--- An own operation: LUSD is put in and paid out, the gain is paid, and what is left counts from now on.
+-- An own operation: LUSD is put in and paid out, the gain is paid, and what is left counts from now
+-- on.
 abbrev pub owned : State → ℕ → ℕ → ℕ → State
 owned s account put_in paid_out =
     record s {
@@ -24,12 +25,21 @@ owned s account put_in paid_out =
       gains_paid = s.gains_paid + gain_of s account;
       deposits =
           let left = amount_after s account put_in paid_out in
-          with_deposit s.deposits account (record { amount = left; mark = After (length s.offsets) });
+          with_deposit s.deposits account (record {
+            amount = left;
+            mark = After (length s.offsets);
+          });
     }
 
 -- the pool takes over debt for collateral; no deposit changes
 abbrev pub offset : State → ℕ → ℕ → State
-offset s debt coll = record s { offsets = s.offsets ++ record { debt = debt; coll = coll; total = pool_total s } ∷ [] }
+offset s debt coll = record s {
+  offsets = s.offsets ++ record {
+    debt = debt;
+    coll = coll;
+    total = pool_total s;
+  } ∷ [];
+}
 
 -- what an event does to the pool
 abbrev pub after_event : State → PoolEvent → State

@@ -11,17 +11,20 @@ pub use Rattle.liq_stability.specs.Words.{words_of}
 
 -- ---- by words and sums
 
--- what is left of an amount; nothing after the epoch's end, and too little to count after more than three scales
+-- what is left of an amount; nothing after the epoch's end, and too little to count after more than
+-- three scales
 abbrev pub balance_by : ℕ → PoolMark → ScaledProduct → ℕ
 balance_by amount mark now =
     let rise = now.scale - mark.scale in
-    if now.epoch == mark.epoch && nat_le rise 3 then floor_of amount now.p (mark.p * 10 ^ (9 * rise)) else 0
+    if now.epoch == mark.epoch && nat_le rise 3
+    then floor_of amount now.p (mark.p * 10 ^ (9 * rise)) else 0
 
 -- how the sum grew since the mark, at the mark's scale and those above it
 abbrev pub growth : PoolMark → (ℕ → ℕ) → ℕ → ℕ
 growth mark sums i = if i == 0 then sums 0 - mark.sum else sums i
 
--- what an amount gained, at the mark's scale and the next three; the sums are told by their distance from that scale
+-- what an amount gained, at the mark's scale and the next three; the sums are told by their
+-- distance from that scale
 abbrev pub gain_by : ℕ → PoolMark → (ℕ → ℕ) → ℕ
 gain_by amount mark sums =
     sum_by (λ i. floor_of amount (growth mark sums i) (mark.p * 10 ^ (9 * i))) (0 ∷ 1 ∷ 2 ∷ 3 ∷ [])
@@ -31,15 +34,23 @@ gain_by amount mark sums =
 abbrev pub mark_in : Deposit → PoolMark
 mark_in d = record { p = d.p; sum = d.sum; scale = d.scale; epoch = d.epoch }
 
--- Balance and gain of a deposit, by the pool's words and the sums of its epoch from its scale on. No more is ever paid than
--- there is.
+-- Balance and gain of a deposit, by the pool's words and the sums of its epoch from its scale on.
+-- No more is ever paid than there is.
 abbrev pub position_by : Deposit → PoolWords → (ℕ → ℕ) → ℕ × ℕ
-position_by d now sums =
-    (min now.total (balance_by d.amount (mark_in d) (words_in now)), min now.coll (gain_by d.amount (mark_in d) sums))
+position_by d now sums = (
+  min now.total (balance_by d.amount (mark_in d) (words_in now)),
+  min now.coll (gain_by d.amount (mark_in d) sums),
+)
 
 -- a deposit that counts from now on
 abbrev pub deposit_now : PoolWords → ℕ → Deposit
-deposit_now now amount = record { amount = amount; p = now.p; sum = now.sum; scale = now.scale; epoch = now.epoch }
+deposit_now now amount = record {
+  amount = amount;
+  p = now.p;
+  sum = now.sum;
+  scale = now.scale;
+  epoch = now.epoch;
+}
 
 -- ---- in a state
 

@@ -10,11 +10,15 @@ use Rattle.liq_stability.specs.Position.{balance_of, gain_of}
 abbrev pub gained_of : State → ℕ → List PoolEvent → ℕ
 gained_of s account events = gain_of s account + gains_paid_to account events
 
--- Neither the balance nor all that was gained is more than the exact share, and neither is less by more than the allowance.
+-- Neither the balance nor all that was gained is more than the exact share, and neither is less by
+-- more than the allowance.
 pub record IsWithinAllowance (s : State) (account : ℕ) (events : List PoolEvent) : Type 0 where
-  pub balance_at_most : balance_of s account * (exact_share account events).den ≤ (exact_share account events).bal
-  pub gain_at_most : gained_of s account events * (exact_share account events).den ≤ (exact_share account events).gain
+  pub balance_at_most : balance_of s account * (exact_share account events).den
+      ≤ (exact_share account events).bal
+  pub gain_at_most : gained_of s account events * (exact_share account events).den
+      ≤ (exact_share account events).gain
   pub balance_at_least : (exact_share account events).bal
       ≤ (balance_of s account + balance_allowance account events) * (exact_share account events).den
   pub gain_at_least : (exact_share account events).gain
-      ≤ (gained_of s account events + gain_allowance account events) * (exact_share account events).den
+      ≤ (gained_of s account events + gain_allowance account events)
+      * (exact_share account events).den

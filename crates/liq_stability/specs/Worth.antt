@@ -1,5 +1,5 @@
--- What a deposit is worth before anything is rounded. All of it is counted in one unit from one own operation to the next:
--- a unit of the amount is the product at the mark, three scales further on.
+-- What a deposit is worth before anything is rounded. All of it is counted in one unit from one own
+-- operation to the next: a unit of the amount is the product at the mark, three scales further on.
 use Rattle.std.specs.Prelude.{ℕ, ◌-◌, ◌*◌, ◌^◌, ◌==◌, ◌&&◌, nat_le, if◌then◌else◌}
 use Rattle.liq_types.specs.Product.{ScaledProduct}
 use Rattle.liq_types.specs.State.{PoolMark}

@@ -24,9 +24,10 @@ use liq_types::{Deposit, DepositRow, DepositRows, FinishedRows, FinishedSum, NoM
 use std::alloc::Global;
 use std::marker::Model;
 
-/// The words of the pool, the sums that are finished, and the deposit of each account that has one. Contracts see the words,
-/// the finished sums in ascending places, the deposits in ascending accounts with the accounts that have room for one, and
-/// for how many more finished sums there is room. Only [`Stability::reserve`] and [`Stability::from_parts`] take memory.
+/// The words of the pool, the sums that are finished, and the deposit of each account that has one.
+/// Contracts see the words, the finished sums in ascending places, the deposits in ascending
+/// accounts with the accounts that have room for one, and for how many more finished sums there is
+/// room. Only [`Stability::reserve`] and [`Stability::from_parts`] take memory.
 #[derive(Drop)]
 pub struct Stability {
     words: PoolWords,
@@ -53,7 +54,14 @@ impl Model for Stability {
 impl Stability {
     /// A pool of nothing: the product is whole.
     pub fn new(alloc: Global) -> Stability
-        ensures words { result.words ≡ record { p = P_OPENING; scale = 0; epoch = 0; sum = 0; total = 0; coll = 0 } }
+        ensures words { result.words ≡ record {
+          p = P_OPENING;
+          scale = 0;
+          epoch = 0;
+          sum = 0;
+          total = 0;
+          coll = 0;
+        } }
         ensures finished { result.finished ≡ [] }
         ensures deposits { result.deposits.rows ≡ [] }
     {
@@ -64,9 +72,10 @@ impl Stability {
         }
     }
 
-    /// Makes room for a deposit of the account, if one is named, and for so many offsets, so that [`Stability::provide`] and
-    /// [`Stability::offset`] take no memory. Words, finished sums and deposits stay, also where there is no memory, and so
-    /// does all room that there was. Where there was this room none is wanted.
+    /// Makes room for a deposit of the account, if one is named, and for so many offsets, so that
+    /// [`Stability::provide`] and [`Stability::offset`] take no memory. Words, finished sums and
+    /// deposits stay, also where there is no memory, and so does all room that there was. Where
+    /// there was this room none is wanted.
     pub fn reserve(&mut self, account: Option<u32>, offsets: usize) -> Result<(), NoMemory>
         ensures words { self.new.words ≡ self.old.words }
         ensures finished { self.new.finished ≡ self.old.finished }
@@ -75,7 +84,8 @@ impl Stability {
         ensures offsets { OnOk result (offsets ≤ self.new.spare) }
         ensures kept { KeepsRoom self.old.deposits self.new.deposits }
         ensures spare { self.old.spare ≤ self.new.spare }
-        ensures had { IfSome account (λ a. HasRoom self.old.deposits a) → offsets ≤ self.old.spare → IsOk result }
+        ensures had { IfSome account (λ a. HasRoom self.old.deposits a) → offsets ≤ self.old.spare
+            → IsOk result }
     {
         if let Some(account) = account {
             self.deposits.reserve(account)?;
@@ -106,9 +116,11 @@ impl Stability {
         self.deposits.get(account)
     }
 
-    /// The sums of the deposit's epoch at its scale and the next three, the deposit's own mark not taken off.
+    /// The sums of the deposit's epoch at its scale and the next three, the deposit's own mark not
+    /// taken off.
     pub fn four(&self, deposit: &Deposit) -> [u128; 4]
-        ensures sums { result ≡ map (sums_for self.now.words self.now.finished deposit.now) (0 ∷ 1 ∷ 2 ∷ 3 ∷ []) }
+        ensures sums { result ≡ map (sums_for self.now.words self.now.finished deposit.now) (0 ∷ 1
+            ∷ 2 ∷ 3 ∷ []) }
         ensures within { AllByRecursion (λ sum. sum ≤ OFFSET_MOST * P_OPENING) result }
     {
         let Deposit { epoch, scale, .. } = *deposit;
@@ -121,15 +133,17 @@ impl Stability {
         ]
     }
 
-    /// LUSD (micro-LUSD) into the account's deposit, which has what was left of it and this from now on. Answers the gain
-    /// (gwei), which is paid out. Other deposits and the finished sums stay.
+    /// LUSD (micro-LUSD) into the account's deposit, which has what was left of it and this from
+    /// now on. Answers the gain (gwei), which is paid out. Other deposits and the finished sums
+    /// stay.
     pub fn provide(&mut self, account: u32, amount: u64) -> u64
         requires room { HasRoom self.old.deposits account }
         requires some { 1 ≤ amount }
         requires limit { self.old.words.total + amount ≤ LIM }
         ensures gain { result ≡ (position_at self.old account).1 }
         ensures words { self.new.words ≡ words_owned self.old.words amount 0 result }
-        ensures deposits { self.new.deposits.rows ≡ left_in self.old.deposits.rows self.old.words account ((position_at self.old account).0 + amount) }
+        ensures deposits { self.new.deposits.rows ≡ left_in self.old.deposits.rows self.old.words
+            account ((position_at self.old account).0 + amount) }
         ensures room { self.new.deposits.room ≡ self.old.deposits.room }
         ensures finished { self.new.finished ≡ self.old.finished }
         ensures spare { self.new.spare ≡ self.old.spare }
@@ -142,13 +156,17 @@ impl Stability {
         gain
     }
 
-    /// LUSD out of the account's deposit, at most this much (micro-LUSD), and its gain. Answers both, LUSD first. What is left
-    /// counts from now on, and where nothing is left the account has no deposit any more. `NoDeposit` comes where it has none,
-    /// and nothing changes then. Other deposits and the finished sums stay.
+    /// LUSD out of the account's deposit, at most this much (micro-LUSD), and its gain. Answers
+    /// both, LUSD first. What is left counts from now on, and where nothing is left the account has
+    /// no deposit any more. `NoDeposit` comes where it has none, and nothing changes then. Other
+    /// deposits and the finished sums stay.
     pub fn withdraw(&mut self, account: u32, most: u64) -> Result<(u64, u64), Refusal>
         ensures answer { result ≡ withdrawing self.old account most }
-        ensures words { IfOk result (λ paid. self.new.words ≡ words_owned self.old.words 0 paid.0 paid.1) }
-        ensures deposits { IfOk result (λ paid. self.new.deposits.rows ≡ left_in self.old.deposits.rows self.old.words account ((position_at self.old account).0 - paid.0)) }
+        ensures words { IfOk result (λ paid. self.new.words
+            ≡ words_owned self.old.words 0 paid.0 paid.1) }
+        ensures deposits { IfOk result (λ paid. self.new.deposits.rows
+            ≡ left_in self.old.deposits.rows self.old.words account
+            ((position_at self.old account).0 - paid.0)) }
         ensures room { self.new.deposits.room ≡ self.old.deposits.room }
         ensures finished { self.new.finished ≡ self.old.finished }
         ensures spare { self.new.spare ≡ self.old.spare }
@@ -166,8 +184,9 @@ impl Stability {
         Ok((paid, gain))
     }
 
-    /// The pool takes over debt (micro-LUSD) for collateral (gwei): the words change, and the sum of the place that they leave
-    /// is finished, if it is not 0. Every deposit and every other finished sum stays.
+    /// The pool takes over debt (micro-LUSD) for collateral (gwei): the words change, and the sum
+    /// of the place that they leave is finished, if it is not 0. Every deposit and every other
+    /// finished sum stays.
     pub fn offset(&mut self, debt: u64, coll: u64)
         requires some { 1 ≤ debt }
         requires within { debt ≤ self.old.words.total }
@@ -177,9 +196,11 @@ impl Stability {
         requires epoch { self.old.words.epoch ≤ 2 ^ 64 - 4 }
         requires room { 1 ≤ self.old.spare }
         ensures words { self.new.words ≡ words_after self.old.words debt coll }
-        ensures finished { self.new.finished ≡ finished_with self.old.finished (finished_by self.old.words debt coll) }
+        ensures finished { self.new.finished ≡ finished_with self.old.finished
+            (finished_by self.old.words debt coll) }
         ensures deposits { self.new.deposits ≡ self.old.deposits }
-        ensures spare { self.new.spare + room_for (finished_by self.old.words debt coll) ≡ self.old.spare }
+        ensures spare { self.new.spare + room_for (finished_by self.old.words debt coll)
+            ≡ self.old.spare }
     {
         let (words, finished) = offset_words(&self.words, debt, coll);
         self.words = words;
@@ -238,7 +259,8 @@ impl Stability {
         self.finished.get(index as usize).copied()
     }
 
-    /// A pool of just these words, finished sums and deposits, as a sound image has them. A deposit of nothing is none.
+    /// A pool of just these words, finished sums and deposits, as a sound image has them. A deposit
+    /// of nothing is none.
     pub fn from_parts(
         alloc: Global,
         words: PoolWords,
@@ -248,7 +270,8 @@ impl Stability {
         requires { IsSoundPool words (finished_rows finished.items) deposits.items }
         ensures words { IfOk result (λ s. s.words ≡ words) }
         ensures finished { IfOk result (λ s. s.finished ≡ finished_rows finished.items) }
-        ensures deposits { IfOk result (λ s. s.deposits.rows ≡ rows is_used_deposit deposits.items) }
+        ensures deposits { IfOk result (λ s. s.deposits.rows
+            ≡ rows is_used_deposit deposits.items) }
     {
         let deposits = Reserved::filled(alloc, &deposits)?;
         Ok(Stability {

@@ -13,9 +13,10 @@ use liq_types::amounts::{LIM, OFFSET_MOST, P_LEAST, P_OPENING, RISES_MOST};
 /// By one step of the scale the product is raised so many times.
 const STEP: u128 = 1_000_000_000;
 
-/// The words after the pool took over debt (micro-LUSD) for collateral (gwei), and the sum of the place that they leave: none
-/// where they stay at their place, or where that sum is 0. The scale rises by as many steps as the product needs, and where
-/// the debt is all of the pool the epoch ends. What is left of a quotient is dropped.
+/// The words after the pool took over debt (micro-LUSD) for collateral (gwei), and the sum of the
+/// place that they leave: none where they stay at their place, or where that sum is 0. The scale
+/// rises by as many steps as the product needs, and where the debt is all of the pool the epoch
+/// ends. What is left of a quotient is dropped.
 pub fn offset_words(words: &PoolWords, debt: u64, coll: u64) -> (PoolWords, Option<FinishedSum>)
     requires product { IsTrue (is_product words.now.p) }
     requires sum { IsTrue (is_sum_beside words.now.sum words.now.p) }
@@ -60,7 +61,8 @@ struct Product {
     epoch: u64,
 }
 
-/// The product after an offset, and where it counts: the whole in a new epoch, where all of the pool is taken.
+/// The product after an offset, and where it counts: the whole in a new epoch, where all of the
+/// pool is taken.
 fn product_after(words: &PoolWords, debt: u64) -> Product
     requires product { IsTrue (is_product words.now.p) }
     requires some { 1 ≤ debt }
@@ -69,8 +71,10 @@ fn product_after(words: &PoolWords, debt: u64) -> Product
     requires scale { words.now.scale ≤ 2 ^ 64 - 4 }
     requires epoch { words.now.epoch ≤ 2 ^ 64 - 4 }
     ensures p { result.p ≡ (after_offset (words_in words.now) (offset_in words.now debt 0)).p }
-    ensures scale { result.scale ≡ (after_offset (words_in words.now) (offset_in words.now debt 0)).scale }
-    ensures epoch { result.epoch ≡ (after_offset (words_in words.now) (offset_in words.now debt 0)).epoch }
+    ensures scale { result.scale
+        ≡ (after_offset (words_in words.now) (offset_in words.now debt 0)).scale }
+    ensures epoch { result.epoch
+        ≡ (after_offset (words_in words.now) (offset_in words.now debt 0)).epoch }
 {
     if debt == words.total {
         return Product {
@@ -87,7 +91,8 @@ fn product_after(words: &PoolWords, debt: u64) -> Product
     }
 }
 
-/// The product after an offset that leaves a part of the pool, and by how many steps the scale rises.
+/// The product after an offset that leaves a part of the pool, and by how many steps the scale
+/// rises.
 fn product_left(words: &PoolWords, debt: u64) -> (u128, u64)
     requires product { IsTrue (is_product words.now.p) }
     requires some { 1 ≤ debt }

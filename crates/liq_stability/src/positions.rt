@@ -15,11 +15,12 @@ use liq_types::amounts::{LIM, OFFSET_MOST, P_LEAST, P_OPENING};
 /// A deposit counts at the scale of its mark and so many above it.
 const SCALES_READ: u64 = 3;
 
-/// Balance (micro-LUSD) and gain (gwei) of a deposit, by the pool's words and the sums of the deposit's epoch at its scale and
-/// the next three. Neither is more than the pool has.
+/// Balance (micro-LUSD) and gain (gwei) of a deposit, by the pool's words and the sums of the
+/// deposit's epoch at its scale and the next three. Neither is more than the pool has.
 pub fn position(deposit: &Deposit, words: &PoolWords, four: &[u128; 4]) -> (u64, u64)
     requires amount { deposit.now.amount ≤ LIM }
-    requires deposit { IsTrue (is_sound_deposit (words.now.epoch, words.now.scale) (slice_index four.now 0) deposit.now) }
+    requires deposit { IsTrue (is_sound_deposit (words.now.epoch, words.now.scale)
+        (slice_index four.now 0) deposit.now) }
     requires product { IsTrue (is_product words.now.p) }
     requires sums { AllByRecursion (λ sum. sum ≤ OFFSET_MOST * P_OPENING) four.now }
     ensures { result ≡ position_by deposit.now words.now (slice_index four.now) }
@@ -58,7 +59,8 @@ fn gain(deposit: &Deposit, four: &[u128; 4]) -> u128
         + part_of(deposit, four[3], 3)
 }
 
-/// What a deposit has of a number that is told of a whole one, so many scales above its mark, rounded down.
+/// What a deposit has of a number that is told of a whole one, so many scales above its mark,
+/// rounded down.
 fn part_of(deposit: &Deposit, number: u128, scales: u64) -> u128
     requires amount { deposit.now.amount ≤ LIM }
     requires mark { IsTrue (is_product deposit.now.p) }

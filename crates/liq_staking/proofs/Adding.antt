@@ -41,7 +41,8 @@ lifted-pool s account (Some t) = refl
 cut-pool : (s : State) (cut : Cut) (o : Option (ℕ × ℕ)) → pool (cut_entire s cut o) ≡ pool s
 cut-pool s cut None = refl
 cut-pool s cut (Some own) = by cut.full where
-  by : (b : Bool) → pool (cond b (closed_by s cut own) (set_trove s cut.account (own.0 - cut.draw) (own.1 - cut.lot))) ≡ pool s
+  by : (b : Bool) → pool (cond b (closed_by s cut own) (set_trove s cut.account (own.0 - cut.draw) (own.1 - cut.lot)))
+      ≡ pool s
   by true = lifted-pool s cut.account (at s.troves cut.account)
   by false = lifted-pool s cut.account (at s.troves cut.account)
 
@@ -51,7 +52,9 @@ cuts-pool (cut ∷ cuts) s = cuts-pool cuts (cut_down s cut) ∙ cut-pool s cut 
 
 liquidated-pool : (s : State) (liquidator : ℕ) (v : Victim) → pool (liquidated s liquidator v) ≡ pool s
 liquidated-pool s liquidator v = by (at s.troves v.account) (v.one.offset_debt == 0) where
-  by : (o : Option TroveEntry) (b : Bool) → pool (cond b (lifted_entry s v.account o) (offset (lifted_entry s v.account o) v.one.offset_debt v.one.offset_coll)) ≡ pool s
+  by : (o : Option TroveEntry) (b : Bool)
+      → pool (cond b (lifted_entry s v.account o) (offset (lifted_entry s v.account o) v.one.offset_debt
+      v.one.offset_coll)) ≡ pool s
   by o true = lifted-pool s v.account o
   by o false = lifted-pool s v.account o
 
@@ -71,12 +74,14 @@ none_added before now same =
     let lusd : now.fee_lusd ≡ before.fee_lusd = ap (λ (p : Fees). p.1) same in
     record { coll = omega (arith, coll); lusd = omega (arith, lusd) }
 
-lusd_added : (before now : State) (fee : ℕ) → pool now ≡ (before.fee_coll, before.fee_lusd + fee) → IsAdded before (0, fee) now
+lusd_added : (before now : State) (fee : ℕ) → pool now ≡ (before.fee_coll, before.fee_lusd + fee)
+    → IsAdded before (0, fee) now
 lusd_added before now fee same =
     let coll : now.fee_coll ≡ before.fee_coll = ap (λ (p : Fees). p.0) same in
     record { coll = omega (arith, coll); lusd = ap (λ (p : Fees). p.1) same }
 
-coll_added : (before now : State) (fee : ℕ) → pool now ≡ (before.fee_coll + fee, before.fee_lusd) → IsAdded before (fee, 0) now
+coll_added : (before now : State) (fee : ℕ) → pool now ≡ (before.fee_coll + fee, before.fee_lusd)
+    → IsAdded before (fee, 0) now
 coll_added before now fee same =
     let lusd : now.fee_lusd ≡ before.fee_lusd = ap (λ (p : Fees). p.1) same in
     record { coll = ap (λ (p : Fees). p.0) same; lusd = omega (arith, lusd) }
@@ -91,15 +96,18 @@ effect_adds s (Open account coll borrow bound hint) = lusd_added s _ _ refl
 effect_adds s (Adjust account coll_in coll_out borrow repay bound hint) =
     let change : Change = record { coll_in = coll_in; coll_out = coll_out; borrow = borrow; repay = repay } in
     let plan = adjusting_terms (market_of s) (or_nothing (entire_of s account)) change in
-    lusd_added s _ _ (lifted-pool (credited (charged (with_fee s plan) account coll_in repay) account coll_out borrow) account (at s.troves account))
+    lusd_added s _ _ (lifted-pool (credited (charged (with_fee s plan) account coll_in repay) account coll_out borrow)
+    account (at s.troves account))
 effect_adds s (Close account) =
     let terms = closing_terms (or_nothing (entire_of s account)) in
     let settled = credited (charged s account 0 terms.0) account terms.1 0 in
     none_added s _ (lifted-pool (record settled { reserve = settled.reserve - RESERVE }) account (at s.troves account))
 effect_adds s (Provide account lusd) = none_added s _ refl
 effect_adds s (Withdraw account lusd) = none_added s _ refl
-effect_adds s (GainToTrove account hint) = none_added s _ (lifted-pool (owned s account 0 0) account (at s.troves account))
-effect_adds s (Liquidate liquidator account) = none_added s _ (all-pool (listed (victim_by account (one s account))) s liquidator)
+effect_adds s (GainToTrove account hint) =
+    none_added s _ (lifted-pool (owned s account 0 0) account (at s.troves account))
+effect_adds s (Liquidate liquidator account) =
+    none_added s _ (all-pool (listed (victim_by account (one s account))) s liquidator)
 effect_adds s (LiquidateLowest liquidator count) = none_added s _ (all-pool (lowest s count) s liquidator)
 effect_adds s (Redeem account lusd bound hint) =
     let terms = redeeming_terms (market_of s) (visited s) lusd in
@@ -114,7 +122,8 @@ pub record HasGrown (before : State) (fees : List Fees) (now : State) : Type 0 w
   pub coll : now.fee_coll ≡ before.fee_coll + coll_in fees
   pub lusd : now.fee_lusd ≡ before.fee_lusd + lusd_in fees
 
-grown_by : (before mid now : State) (fee : Fees) (fees : List Fees) → IsAdded before fee mid → HasGrown mid fees now → HasGrown before (fee ∷ fees) now
+grown_by : (before mid now : State) (fee : Fees) (fees : List Fees) → IsAdded before fee mid → HasGrown mid fees now
+    → HasGrown before (fee ∷ fees) now
 grown_by before mid now fee fees one more =
     let coll = sum_by-cons (λ (f : Fees). f.0) fee fees in
     let lusd = sum_by-cons (λ (f : Fees). f.1) fee fees in
@@ -129,8 +138,10 @@ none_grown s end same =
 added_after : (s : State) (c : Command) → IsAdded s (fee_of (done_of s c.call)) (after s c)
 added_after s c = let h = effect_adds s c.call in record { coll = h.coll; lusd = h.lusd }
 
-pub replay_grows : (commands : List Command) (index : ℕ) (s end : State) → replay index s commands ≡ Ok end → HasGrown s (fees_along s commands) end
+pub replay_grows : (commands : List Command) (index : ℕ) (s end : State) → replay index s commands ≡ Ok end
+    → HasGrown s (fees_along s commands) end
 replay_grows [] index s end came = none_grown s end (ok_same s end (sym (replay_none index s) ∙ came))
 replay_grows (c ∷ cs) index s end came =
     let first = first_accepted index s end c cs came in
-    grown_by s (after s c) end (fee_of (done_of s c.call)) (fees_along (after s c) cs) (added_after s c) (replay_grows cs (index + 1) (after s c) end first.rest)
+    grown_by s (after s c) end (fee_of (done_of s c.call)) (fees_along (after s c) cs) (added_after s c)
+    (replay_grows cs (index + 1) (after s c) end first.rest)

@@ -36,9 +36,11 @@ not_refused (Some refusal) h = absurd (h refusal refl)
 
 -- ---- a change
 
-in_range : (account amount : ℕ) (out : Bool) (staked stake : ℕ) → refusal_of account amount out staked stake ≡ None → account < ACCOUNTS
+in_range : (account amount : ℕ) (out : Bool) (staked stake : ℕ) → refusal_of account amount out staked stake ≡ None
+    → account < ACCOUNTS
 in_range account amount out staked stake = by (leb ACCOUNTS account) _ refl where
-  by : (far : Bool) (rest : Option StakeRefusal) → leb ACCOUNTS account ≡ far → cond far (Some (AccountRange account)) rest ≡ None → account < ACCOUNTS
+  by : (far : Bool) (rest : Option StakeRefusal) → leb ACCOUNTS account ≡ far
+      → cond far (Some (AccountRange account)) rest ≡ None → account < ACCOUNTS
   by true rest is e = absurd cc
   by false rest is e = leb-false ACCOUNTS account is
 
@@ -49,7 +51,8 @@ module _ (kept next : Answering) (a : Asked) (l : StakeLine) (h : IsAsked kept a
   abbrev pub moved : Asked
   moved = record a { least = l.at }
 
-  pub made : asked_for ≡ None → IsKeptOf next.fees (change_by l.account l.amount l.out ∷ a.past) → next.stakers.keys ≡ insert_key nat_cmp kept.stakers.keys l.account
+  pub made : asked_for ≡ None → IsKeptOf next.fees (change_by l.account l.amount l.out ∷ a.past)
+      → next.stakers.keys ≡ insert_key nat_cmp kept.stakers.keys l.account
       → next.least ≡ l.at → next.text.items ≡ kept.text.items ++ words_line (codes "ok" ∷ [])
       → IsAsked next (changed moved l asked_for)
   made none fees keys least text =
@@ -57,13 +60,17 @@ module _ (kept next : Answering) (a : Asked) (l : StakeLine) (h : IsAsked kept a
       subst (λ (o : Option StakeRefusal). IsAsked next (changed moved l o)) (sym none)
       (record {
         fees = fees;
-        stakers = keys ∙ ap (λ (ks : List ℕ). insert_key nat_cmp ks l.account) h.stakers ∙ one_more_staker ACCOUNTS l.account l.amount l.out a.past low;
+        stakers = keys ∙ ap (λ (ks : List ℕ). insert_key nat_cmp ks l.account) h.stakers
+            ∙ one_more_staker ACCOUNTS l.account l.amount l.out a.past low;
         least = least;
-        text = text ∙ ap (λ (t : List ℕ). t ++ words_line (codes "ok" ∷ [])) h.text ∙ sym (reply_more a.replies (codes "ok"));
+        text = text ∙ ap (λ (t : List ℕ). t ++ words_line (codes "ok" ∷ [])) h.text
+            ∙ sym (reply_more a.replies (codes "ok"));
       })
 
-  pub refused_only : (refusal : StakeRefusal) → asked_for ≡ Some refusal → next.fees ≡ kept.fees → next.stakers.keys ≡ kept.stakers.keys
-      → next.least ≡ l.at → next.text.items ≡ kept.text.items ++ words_line (codes "no" ∷ map decimal (numbers_of refusal))
+  pub refused_only : (refusal : StakeRefusal) → asked_for ≡ Some refusal → next.fees ≡ kept.fees
+      → next.stakers.keys ≡ kept.stakers.keys
+      → next.least ≡ l.at → next.text.items ≡ kept.text.items ++ words_line (codes "no"
+      ∷ map decimal (numbers_of refusal))
       → IsAsked next (changed moved l asked_for)
   refused_only refusal some fees keys least text =
       subst (λ (o : Option StakeRefusal). IsAsked next (changed moved l o)) (sym some)
@@ -90,20 +97,27 @@ module _ (fees : List Fees) (kept : Answering) (a : Asked) (l : StakeLine) (h : 
 
   -- in place
   module _ (low : kept.least ≤ l.at) (high : l.at ≤ length fees) where
-    pub answered_in : changed (record a { past = now_past; least = l.at }) l (refusal_of l.account l.amount l.out (staked_of now_past) (stake_of l.account now_past)) ≡ answered fees a l
+    pub answered_in : changed (record a { past = now_past; least = l.at }) l (refusal_of l.account l.amount l.out
+        (staked_of now_past) (stake_of l.account now_past)) ≡ answered fees a l
     answered_in =
         let here : ltb l.at a.least ≡ false = not_less l.at a.least (omega (arith, low, h.least)) in
         let there : ltb (length fees) l.at ≡ false = not_less (length fees) l.at high in
-        ap (λ (p : List Happened). changed (record a { past = p; least = l.at }) l (refusal_of l.account l.amount l.out (staked_of p) (stake_of l.account p))) (sym up_to)
+        ap (λ (p : List Happened). changed (record a { past = p; least = l.at }) l (refusal_of l.account l.amount l.out
+        (staked_of p) (stake_of l.account p))) (sym up_to)
         ∙ sym (
-        ap (λ b. cond (b || ltb (length fees) l.at) (record a { replies = a.replies ++ refused (44 ∷ l.at ∷ a.least ∷ length fees ∷ []) ∷ [] }) (in_place fees a l)) here
-        ∙ ap (λ b. cond b (record a { replies = a.replies ++ refused (44 ∷ l.at ∷ a.least ∷ length fees ∷ []) ∷ [] }) (in_place fees a l)) there
+        ap (λ b. cond (b || ltb (length fees) l.at) (record a {
+          replies = a.replies ++ refused (44 ∷ l.at ∷ a.least
+              ∷ length fees ∷ []) ∷ [];
+        }) (in_place fees a l)) here
+        ∙ ap (λ b. cond b (record a { replies = a.replies ++ refused (44 ∷ l.at ∷ a.least ∷ length fees ∷ []) ∷ [] })
+        (in_place fees a l)) there
         ) where
           not_less : (m n : ℕ) → n ≤ m → ltb m n ≡ false
           not_less m n le = grind (arith, nat_tests, le)
 
     pub can_share : IsOnTheWay fees a → CanBeShared fees → IsLawful now_past
-    can_share way all = subst IsLawful up_to (shared_happens fees a way l.at (omega (arith, low, h.least)) high h.fees.lawful all)
+    can_share way all = subst IsLawful up_to (shared_happens fees a way l.at (omega (arith, low, h.least)) high
+        h.fees.lawful all)
 
   pub same_count : changes_in now_past ≡ changes_in a.past
   same_count = (all_add (take (l.at - kept.least) (drop kept.least fees)) a.past).changes
@@ -118,16 +132,20 @@ module _ (fees : List Fees) (kept : Answering) (a : Asked) (h : IsAsked kept a) 
   up_to_last = ap (λ n. fold shared a.past (take (length fees - n) (drop n fees))) h.least
 
   pub can_share_last : IsOnTheWay fees a → CanBeShared fees → IsLawful last_past
-  can_share_last way all = subst IsLawful (sym up_to_last) (shared_happens fees a way (length fees) way.least (omega arith) h.fees.lawful all)
+  can_share_last way all = subst IsLawful (sym up_to_last) (shared_happens fees a way (length fees) way.least
+      (omega arith) h.fees.lawful all)
 
-  pub told_last : (rows whole : List ℕ) (coll lusd : ℕ) → rows ≡ kept.text.items ++ flat_map (row_line last_past) kept.stakers.keys
-      → whole ≡ rows ++ words_line (codes "unshared" ∷ map decimal (coll ∷ lusd ∷ [])) → coll ≡ unshared_of of_coll last_past → lusd ≡ unshared_of of_lusd last_past
+  pub told_last : (rows whole : List ℕ) (coll lusd : ℕ)
+      → rows ≡ kept.text.items ++ flat_map (row_line last_past) kept.stakers.keys
+      → whole ≡ rows ++ words_line (codes "unshared" ∷ map decimal (coll ∷ lusd ∷ []))
+      → coll ≡ unshared_of of_coll last_past → lusd ≡ unshared_of of_lusd last_past
       → whole ≡ told_of fees a
   told_last rows whole coll lusd first second same_coll same_lusd =
       second
       ∙ ap (λ n. rows ++ words_line (codes "unshared" ∷ map decimal (n ∷ lusd ∷ []))) same_coll
       ∙ ap (λ n. rows ++ words_line (codes "unshared" ∷ map decimal (unshared_of of_coll last_past ∷ n ∷ []))) same_lusd
-      ∙ ap (λ (t : List ℕ). t ++ words_line (codes "unshared" ∷ map decimal (unshared_of of_coll last_past ∷ unshared_of of_lusd last_past ∷ []))) (
+      ∙ ap (λ (t : List ℕ). t ++ words_line (codes "unshared" ∷ map decimal (unshared_of of_coll last_past
+      ∷ unshared_of of_lusd last_past ∷ []))) (
       first
       ∙ ap (λ (t : List ℕ). t ++ flat_map (row_line last_past) kept.stakers.keys) h.text
       ∙ ap (λ (ks : List ℕ). reply_lines a.replies ++ flat_map (row_line last_past) ks)

@@ -1,8 +1,8 @@
-pub mod Adding
-pub mod Sharing
-pub mod Ways
-pub mod Stakers
-pub mod Lines
-pub mod Answered
-pub mod Limits
-pub mod Shares
+mod Adding
+mod Sharing
+mod Ways
+mod Stakers
+mod Lines
+mod Answered
+mod Limits
+mod Shares

@@ -35,7 +35,8 @@ module _ (limit : ℕ) (commands : List Command) (s : State) (came : replay 1 (o
   pub can_be_shared : IsLimit limit → HaveNoRotation commands → CanBeShared (fees_along (opening_with limit) commands)
   can_be_shared known none =
       let run = replay_runs s commands 1 (opening_with limit) came in
-      let within = amounts_within s (subst IsSoundState run.state (run_sound (map Do commands) (opening_with limit) (opening_sound limit known))) in
+      let within = amounts_within s (subst IsSoundState run.state (run_sound (map Do commands) (opening_with limit)
+      (opening_sound limit known))) in
       let count = replay_few s commands 1 (opening_with limit) none (omega arith) came in
       record {
         coll = omega (arith, coll_adds_up, within.fee_coll);

@@ -34,7 +34,8 @@ staked_least [] h = omega arith
 staked_least (e ∷ past) h = h.0
 
 -- what was lawful before a fee is so behind it, if the fee is not too much
-shared_lawful : (past : List Happened) (fee : Fees) → IsLawful past → fees_of of_coll past + fee.0 ≤ LIM → fees_of of_lusd past + fee.1 ≤ LIM → fees_in past + 1 ≤ FEES_MOST → IsLawful (shared past fee)
+shared_lawful : (past : List Happened) (fee : Fees) → IsLawful past → fees_of of_coll past + fee.0 ≤ LIM
+    → fees_of of_lusd past + fee.1 ≤ LIM → fees_in past + 1 ≤ FEES_MOST → IsLawful (shared past fee)
 shared_lawful past fee h coll lusd few = by (eqb (fee.0 + fee.1) 0) where
   by : (none : Bool) → IsLawful (cond none past (Fee fee.0 fee.1 ∷ past))
   by true = h
@@ -71,7 +72,8 @@ pub record AddsAll (past : List Happened) (fees : List Fees) (now : List Happene
   pub few : fees_in now ≤ fees_in past + length fees
   pub changes : changes_in now ≡ changes_in past
 
-adds_more : (past mid now : List Happened) (fee : Fees) (fees : List Fees) → Adds past fee mid → AddsAll mid fees now → AddsAll past (fee ∷ fees) now
+adds_more : (past mid now : List Happened) (fee : Fees) (fees : List Fees) → Adds past fee mid → AddsAll mid fees now
+    → AddsAll past (fee ∷ fees) now
 adds_more past mid now fee fees one more =
     let coll = sum_by-cons (λ (f : Fees). f.0) fee fees in
     let lusd = sum_by-cons (λ (f : Fees). f.1) fee fees in
@@ -85,9 +87,12 @@ adds_more past mid now fee fees one more =
 pub all_add : (fees : List Fees) (past : List Happened) → AddsAll past fees (fold shared past fees)
 all_add [] past = record { coll = omega arith; lusd = omega arith; few = omega arith; changes = refl }
 all_add (fee ∷ fees) past =
-    adds_more past (shared past fee) (fold shared past (fee ∷ fees)) fee fees (shared_adds past fee) (all_add fees (shared past fee))
+    adds_more past (shared past fee) (fold shared past (fee ∷ fees)) fee fees (shared_adds past fee)
+    (all_add fees (shared past fee))
 
-pub all_lawful : (fees : List Fees) (past : List Happened) → IsLawful past → fees_of of_coll past + coll_in fees ≤ LIM → fees_of of_lusd past + lusd_in fees ≤ LIM → fees_in past + length fees ≤ FEES_MOST → IsLawful (fold shared past fees)
+pub all_lawful : (fees : List Fees) (past : List Happened) → IsLawful past → fees_of of_coll past + coll_in fees ≤ LIM
+    → fees_of of_lusd past + lusd_in fees ≤ LIM → fees_in past + length fees ≤ FEES_MOST
+    → IsLawful (fold shared past fees)
 all_lawful [] past h coll lusd few = h
 all_lawful (fee ∷ fees) past h coll lusd few =
     let coll_more = sum_by-cons (λ (f : Fees). f.0) fee fees in
@@ -103,10 +108,12 @@ all_before (fee ∷ fees) past h = shared_before past fee (all_before fees (shar
 
 -- ---- one more of a list
 
-pub one_more_lawful : (fees : List Fees) (past : List Happened) (i : ℕ) (d : Fees) → i < length fees → IsLawful (fold shared past fees) → IsLawful (shared (fold shared past (take i fees)) (get_or fees i d))
+pub one_more_lawful : (fees : List Fees) (past : List Happened) (i : ℕ) (d : Fees) → i < length fees
+    → IsLawful (fold shared past fees) → IsLawful (shared (fold shared past (take i fees)) (get_or fees i d))
 one_more_lawful fees past i d lt h =
     let whole : fold shared past fees ≡ fold shared (fold shared past (take (i + 1) fees)) (drop (i + 1) fees) =
-    ap (λ (fs : List Fees). fold shared past fs) (sym (take-append-drop (i + 1) fees)) ∙ fold-append shared past (take (i + 1) fees) (drop (i + 1) fees) in
+    ap (λ (fs : List Fees). fold shared past fs) (sym (take-append-drop (i + 1) fees))
+    ∙ fold-append shared past (take (i + 1) fees) (drop (i + 1) fees) in
     subst IsLawful (fold_more shared past fees i d lt)
     (all_before (drop (i + 1) fees) (fold shared past (take (i + 1) fees)) (subst IsLawful whole h))
 
@@ -117,8 +124,12 @@ some_shared past fee some = ap (λ none. cond none past (Fee fee.0 fee.1 ∷ pas
 
 -- ---- a part of a list that is another list
 
-pub part_lawful : (past : List Happened) (part whole : List Fees) → part ≡ whole → IsLawful (fold shared past whole) → IsLawful (fold shared past part)
+pub part_lawful : (past : List Happened) (part whole : List Fees) → part ≡ whole → IsLawful (fold shared past whole)
+    → IsLawful (fold shared past part)
 part_lawful past part whole is h = subst (λ (fees : List Fees). IsLawful (fold shared past fees)) (sym is) h
 
-pub part_shared : (kept : Kept) (past : List Happened) (part whole : List Fees) → part ≡ whole → IsLawful (fold shared past whole) → (IsLawful (fold shared past part) → IsKeptOf kept (fold shared past part)) → IsKeptOf kept (fold shared past whole)
-part_shared kept past part whole is h shares = subst (λ (fees : List Fees). IsKeptOf kept (fold shared past fees)) is (shares (part_lawful past part whole is h))
+pub part_shared : (kept : Kept) (past : List Happened) (part whole : List Fees) → part ≡ whole
+    → IsLawful (fold shared past whole) → (IsLawful (fold shared past part) → IsKeptOf kept (fold shared past part))
+    → IsKeptOf kept (fold shared past whole)
+part_shared kept past part whole is h shares = subst (λ (fees : List Fees). IsKeptOf kept (fold shared past fees)) is
+    (shares (part_lawful past part whole is h))

@@ -28,7 +28,8 @@ same_from (suc n) low p q h =
 
 -- ---- one more account
 
-insert_first : (key : ℕ) (n low : ℕ) (p : ℕ → Bool) → key < low → insert_key nat_cmp (from low n p) key ≡ key ∷ from low n p
+insert_first : (key : ℕ) (n low : ℕ) (p : ℕ → Bool) → key < low → insert_key nat_cmp (from low n p) key
+    ≡ key ∷ from low n p
 unfolding from
 insert_first key zero low p lt = refl
 insert_first key (suc n) low p lt = by (p low) (insert_first key n (low + 1) p (omega (arith, lt))) where
@@ -36,8 +37,10 @@ insert_first key (suc n) low p lt = by (p low) (insert_first key n (low + 1) p (
   less = grind (arith, nat_tests, lt)
 
   by : (b : Bool) → insert_key nat_cmp (from (low + 1) n p) key ≡ key ∷ from (low + 1) n p
-      → insert_key nat_cmp (cond b (low ∷ from (low + 1) n p) (from (low + 1) n p)) key ≡ key ∷ cond b (low ∷ from (low + 1) n p) (from (low + 1) n p)
-  by true rest = ap (λ o. match_ordering o (key ∷ low ∷ from (low + 1) n p) (low ∷ from (low + 1) n p) (low ∷ insert_key nat_cmp (from (low + 1) n p) key)) less
+      → insert_key nat_cmp (cond b (low ∷ from (low + 1) n p) (from (low + 1) n p)) key
+      ≡ key ∷ cond b (low ∷ from (low + 1) n p) (from (low + 1) n p)
+  by true rest = ap (λ o. match_ordering o (key ∷ low ∷ from (low + 1) n p) (low ∷ from (low + 1) n p) (low
+      ∷ insert_key nat_cmp (from (low + 1) n p) key)) less
   by false rest = rest
 
 -- the test that a key passes too
@@ -58,8 +61,10 @@ module _ (key low : ℕ) (p : ℕ → Bool) (rest more : List ℕ) where
     right : (b : Bool) → cond (cond (key == low) true b) (low ∷ more) more ≡ low ∷ rest
     right b = ap (λ t. cond (cond t true b) (low ∷ more) more) found ∙ ap (λ (ks : List ℕ). low ∷ ks) others
 
-    by : (b : Bool) → insert_key nat_cmp (cond b (low ∷ rest) rest) key ≡ cond (cond (key == low) true b) (low ∷ more) more
-    by true = ap (λ o. match_ordering o (key ∷ low ∷ rest) (low ∷ rest) (low ∷ insert_key nat_cmp rest key)) equal ∙ sym (right true)
+    by : (b : Bool) → insert_key nat_cmp (cond b (low ∷ rest) rest) key ≡ cond (cond (key == low) true b) (low
+        ∷ more) more
+    by true = ap (λ o. match_ordering o (key ∷ low ∷ rest) (low ∷ rest) (low ∷ insert_key nat_cmp rest key)) equal
+        ∙ sym (right true)
     by false = first ∙ ap (λ k. k ∷ rest) same ∙ sym (right false)
 
   behind : low < key → insert_key nat_cmp rest key ≡ more
@@ -71,7 +76,8 @@ module _ (key low : ℕ) (p : ℕ → Bool) (rest more : List ℕ) where
     greater : nat_cmp key low ≡ Greater
     greater = grind (arith, nat_tests, less)
 
-    by : (b : Bool) → insert_key nat_cmp (cond b (low ∷ rest) rest) key ≡ cond (cond (key == low) true b) (low ∷ more) more
+    by : (b : Bool) → insert_key nat_cmp (cond b (low ∷ rest) rest) key ≡ cond (cond (key == low) true b) (low
+        ∷ more) more
     by true =
         ap (λ o. match_ordering o (key ∷ low ∷ rest) (low ∷ rest) (low ∷ insert_key nat_cmp rest key)) greater
         ∙ ap (λ (ks : List ℕ). low ∷ ks) later
@@ -81,33 +87,42 @@ module _ (key low : ℕ) (p : ℕ → Bool) (rest more : List ℕ) where
 other_later : (j k : ℕ) → j < k → (j == k) ≡ false
 other_later j k h = grind (arith, nat_tests, h)
 
-inserted : (key : ℕ) (n low : ℕ) (p : ℕ → Bool) → low ≤ key → key < low + n → insert_key nat_cmp (from low n p) key ≡ from low n (with_key key p)
+inserted : (key : ℕ) (n low : ℕ) (p : ℕ → Bool) → low ≤ key → key < low + n → insert_key nat_cmp (from low n p) key
+    ≡ from low n (with_key key p)
 unfolding from
 inserted key zero low p le lt = absurd (omega (arith, le, lt))
-inserted key (suc n) low p le lt = by (key == low) refl (λ less. inserted key n (low + 1) p (omega (arith, less)) (omega (arith, lt))) where
-  by : (found : Bool) → (key == low) ≡ found → (low < key → insert_key nat_cmp (from (low + 1) n p) key ≡ from (low + 1) n (with_key key p))
-      → insert_key nat_cmp (cond (p low) (low ∷ from (low + 1) n p) (from (low + 1) n p)) key
-      ≡ cond (with_key key p low) (low ∷ from (low + 1) n (with_key key p)) (from (low + 1) n (with_key key p))
-  by true is later =
-      let same = eqb-true key low is in
-      here key low p (from (low + 1) n p) (from (low + 1) n (with_key key p)) same
-      (same_from n (low + 1) (with_key key p) p (λ k high. ap (λ t. cond t true (p k)) (other_later key k (omega (arith, same, high)))))
-      (insert_first key n (low + 1) p (omega (arith, same)))
-  by false is later =
-      let not_same = eqb-false key low is in
-      let less : low < key = omega (arith, le, not_same) in
-      behind key low p (from (low + 1) n p) (from (low + 1) n (with_key key p)) less (later less)
+inserted key (suc n) low p le lt = by (key == low) refl (λ less. inserted key n (low + 1) p (omega (arith, less))
+    (omega (arith, lt))) where
+      by : (found : Bool) → (key == low) ≡ found → (low < key → insert_key nat_cmp (from (low + 1) n p) key
+          ≡ from (low + 1) n (with_key key p))
+          → insert_key nat_cmp (cond (p low) (low ∷ from (low + 1) n p) (from (low + 1) n p)) key
+          ≡ cond (with_key key p low) (low ∷ from (low + 1) n (with_key key p)) (from (low + 1) n (with_key key p))
+      by true is later =
+          let same = eqb-true key low is in
+          here key low p (from (low + 1) n p) (from (low + 1) n (with_key key p)) same
+          (same_from n (low + 1) (with_key key p) p (λ k high. ap (λ t. cond t true (p k)) (other_later key k (omega (
+            arith,
+            same,
+            high,
+          )))))
+          (insert_first key n (low + 1) p (omega (arith, same)))
+      by false is later =
+          let not_same = eqb-false key low is in
+          let less : low < key = omega (arith, le, not_same) in
+          behind key low p (from (low + 1) n p) (from (low + 1) n (with_key key p)) less (later less)
 
 -- ---- what happens
 
-pub same_stakers : (n : ℕ) (past : List Happened) (fee : Fees) → stakers_below n (shared past fee) ≡ stakers_below n past
+pub same_stakers : (n : ℕ) (past : List Happened) (fee : Fees) → stakers_below n (shared past fee)
+    ≡ stakers_below n past
 unfolding stakers_below
 same_stakers n past fee = by (eqb (fee.0 + fee.1) 0) where
   by : (none : Bool) → stakers_below n (cond none past (Fee fee.0 fee.1 ∷ past)) ≡ stakers_below n past
   by true = refl
   by false = refl
 
-pub all_same_stakers : (n : ℕ) (fees : List Fees) (past : List Happened) → stakers_below n (fold shared past fees) ≡ stakers_below n past
+pub all_same_stakers : (n : ℕ) (fees : List Fees) (past : List Happened) → stakers_below n (fold shared past fees)
+    ≡ stakers_below n past
 all_same_stakers n [] past = refl
 all_same_stakers n (fee ∷ fees) past = all_same_stakers n fees (shared past fee) ∙ same_stakers n past fee
 
@@ -119,15 +134,19 @@ counted true n = some n
 counted false n = refl
 
 -- an account with a change has one more, the others have as many
-counts : (account amount : ℕ) (out : Bool) (past : List Happened) (k : ℕ) → with_key account (λ k. nat_lt 0 (changes_of k past)) k ≡ nat_lt 0 (changes_of k (change_by account amount out ∷ past))
+counts : (account amount : ℕ) (out : Bool) (past : List Happened) (k : ℕ)
+    → with_key account (λ k. nat_lt 0 (changes_of k past)) k ≡ nat_lt 0 (changes_of k (change_by account amount out
+    ∷ past))
 counts account amount true past k = counted (account == k) (changes_of k past)
 counts account amount false past k = counted (account == k) (changes_of k past)
 
-pub one_more_staker : (n account amount : ℕ) (out : Bool) (past : List Happened) → account < n → insert_key nat_cmp (stakers_below n past) account ≡ stakers_below n (change_by account amount out ∷ past)
+pub one_more_staker : (n account amount : ℕ) (out : Bool) (past : List Happened) → account < n
+    → insert_key nat_cmp (stakers_below n past) account ≡ stakers_below n (change_by account amount out ∷ past)
 unfolding stakers_below from
 one_more_staker n account amount out past lt =
     inserted account n 0 (λ k. nat_lt 0 (changes_of k past)) (omega arith) (omega (arith, lt))
-    ∙ same_from n 0 (with_key account (λ k. nat_lt 0 (changes_of k past))) (λ k. nat_lt 0 (changes_of k (change_by account amount out ∷ past))) (λ k le. counts account amount out past k)
+    ∙ same_from n 0 (with_key account (λ k. nat_lt 0 (changes_of k past)))
+    (λ k. nat_lt 0 (changes_of k (change_by account amount out ∷ past))) (λ k le. counts account amount out past k)
 
 none_from : (n low : ℕ) → from low n (λ k. nat_lt 0 0) ≡ []
 unfolding from

@@ -46,7 +46,11 @@ numbers_of (ShortStake need have) = 43 ∷ need ∷ have ∷ []
 abbrev pub changed : Asked → StakeLine → Option StakeRefusal → Asked
 changed a l (Some refusal) = record a { replies = a.replies ++ refused (numbers_of refusal) ∷ [] }
 changed a l None =
-    record a { past = change_by l.account l.amount l.out ∷ a.past; replies = a.replies ++ codes "ok" ∷ [] }
+    record a {
+      past = change_by l.account l.amount l.out ∷ a.past;
+      replies = a.replies
+          ++ codes "ok" ∷ [];
+    }
 
 -- The fees up to the line's record are shared first, whether the line is then refused or not.
 abbrev pub in_place : List Fees → Asked → StakeLine → Asked
@@ -55,7 +59,8 @@ in_place fees a l =
     changed (record a { past = past; least = l.at }) l
     (refusal_of l.account l.amount l.out (staked_of past) (stake_of l.account past))
 
--- A line is out of place where its record comes before that of the last line in place, or is not there.
+-- A line is out of place where its record comes before that of the last line in place, or is not
+-- there.
 abbrev pub answered : List Fees → Asked → StakeLine → Asked
 answered fees a l =
     if nat_lt l.at a.least || nat_lt (length fees) l.at

@@ -10,8 +10,8 @@ use Rattle.liq_rules.specs.Step.{after}
 abbrev pub Fees : Type 0
 Fees = ℕ × ℕ
 
--- A reply's kind is its verb's place: opening a trove (6) and changing it (7) pay LUSD, redeeming (14) pays collateral.
--- The reply has it as its second or third value.
+-- A reply's kind is its verb's place: opening a trove (6) and changing it (7) pay LUSD, redeeming
+-- (14) pays collateral. The reply has it as its second or third value.
 abbrev pub fee_of : Done → Fees
 fee_of done =
     if done.kind == 6 then (0, get_or done.values 1 0)

@@ -1,4 +1,5 @@
--- The text that answers stakers: a reply for each line, what each account has, and what stayed unshared.
+-- The text that answers stakers: a reply for each line, what each account has, and what stayed
+-- unshared.
 use Rattle.std.specs.Prelude.{ℕ, nat_lt, List, [], ◌∷◌, ◌++◌, length, map, filter, codes, decimal}
 use Rattle.std.specs.List.{flat_map, range_with_len}
 use Rattle.liq_types.specs.declared.amounts.TheConstants.{ACCOUNTS}
@@ -23,7 +24,8 @@ abbrev pub row_words : StakeRow → List (List ℕ)
 row_words row = map decimal (row.account ∷ row.stake ∷ row.coll ∷ row.lusd ∷ row.allow ∷ [])
 
 abbrev pub unshared_words : List Happened → List (List ℕ)
-unshared_words past = codes "unshared" ∷ map decimal (unshared_of of_coll past ∷ unshared_of of_lusd past ∷ [])
+unshared_words past = codes "unshared" ∷ map decimal (unshared_of of_coll past
+    ∷ unshared_of of_lusd past ∷ [])
 
 abbrev pub row_line : List Happened → ℕ → List ℕ
 row_line past account = words_line (row_words (row_of account past))
@@ -33,7 +35,8 @@ reply_lines replies = flat_map (λ reply. reply ++ 10 ∷ []) replies
 
 -- what is told at the end, once the fees of all records are shared
 abbrev pub told : List (List ℕ) → List Happened → List ℕ
-told replies past = reply_lines replies ++ flat_map (row_line past) (stakers past) ++ words_line (unshared_words past)
+told replies past = reply_lines replies ++ flat_map (row_line past) (stakers past)
+    ++ words_line (unshared_words past)
 
 abbrev pub told_of : List Fees → Asked → List ℕ
 told_of fees a = told a.replies (shared_up_to fees a.past a.least (length fees))

@@ -28,9 +28,10 @@ pub(crate) struct Answering {
     pub(crate) text: Vec<u8>,
 }
 
-/// The text that answers stakers, for the fees that the records of a journal paid (each collateral in gwei and LUSD in
-/// micro-LUSD) and these lines: a reply for each line, a line `ACCOUNT STAKE COLL LUSD ALLOW` for each account with an
-/// accepted change, ascending, and a line `unshared COLL LUSD`. It fails for want of memory alone.
+/// The text that answers stakers, for the fees that the records of a journal paid (each collateral
+/// in gwei and LUSD in micro-LUSD) and these lines: a reply for each line, a line
+/// `ACCOUNT STAKE COLL LUSD ALLOW` for each account with an accepted change, ascending, and a line
+/// `unshared COLL LUSD`. It fails for want of memory alone.
 pub(crate) fn answer_stakers(
     alloc: Global,
     fees: &[(u64, u64)],
@@ -38,7 +39,8 @@ pub(crate) fn answer_stakers(
 ) -> Result<Vec<u8>, NoMemory>
     requires few { length lines.now ≤ CHANGES_MOST }
     requires fees { CanBeShared fees.now }
-    ensures { IfOk result (λ text. text.items ≡ told_of fees.now (answered_all fees.now lines.now)) }
+    ensures { IfOk result (λ text. text.items
+        ≡ told_of fees.now (answered_all fees.now lines.now)) }
 {
     let mut asked = Answering {
         fees: Fees::new(alloc),
@@ -53,8 +55,8 @@ pub(crate) fn answer_stakers(
 }
 
 impl Answering {
-    /// Answers a line. It is out of place where its record comes before that of the last line in place, or is not
-    /// there.
+    /// Answers a line. It is out of place where its record comes before that of the last line in
+    /// place, or is not there.
     fn answer(&mut self, fees: &[(u64, u64)], line: &StakeLine) -> Result<(), NoMemory>
         requires fees { CanBeShared fees.now }
         requires few { ∥ ((a : Asked) × IsAsked self.old a × IsOnTheWay fees.now a
@@ -75,13 +77,15 @@ impl Answering {
         self.change(line)
     }
 
-    /// Makes the change that a line in place asks for, once the fees up to its record are shared. It is the last line
-    /// in place then, whether it is refused or not.
+    /// Makes the change that a line in place asks for, once the fees up to its record are shared.
+    /// It is the last line in place then, whether it is refused or not.
     fn change(&mut self, line: &StakeLine) -> Result<(), NoMemory>
         requires few { ∥ ((past : List Happened) × IsKeptOf self.old.fees past
             × (changes_in past < CHANGES_MOST)) ∥₁ }
-        ensures asked { OnOk result ((a : Asked) → IsAsked self.old a → changes_in a.past < CHANGES_MOST →
-            IsAsked self.new (changed (record a { least = line.now.at }) line.now (refusal_of line.now.account
+        ensures asked { OnOk result ((a : Asked) → IsAsked self.old a
+            → changes_in a.past < CHANGES_MOST →
+            IsAsked self.new (changed (record a { least = line.now.at }) line.now
+            (refusal_of line.now.account
             line.now.amount line.now.out (staked_of a.past) (stake_of line.now.account a.past)))) }
         ensures least { self.new.least ≡ line.now.at }
     {
@@ -99,7 +103,8 @@ impl Answering {
         Ok(())
     }
 
-    /// The whole text: what is left of the fees is shared, and what each account has and what stayed unshared is told.
+    /// The whole text: what is left of the fees is shared, and what each account has and what
+    /// stayed unshared is told.
     fn tell(self, fees: &[(u64, u64)]) -> Result<Vec<u8>, NoMemory>
         requires fees { CanBeShared fees.now }
         requires least { self.least ≤ length fees.now }
@@ -136,8 +141,10 @@ fn fees_between(fees: &[(u64, u64)], from: u64, to: u64) -> &[(u64, u64)]
 
 /// Shares the fees of records, in order.
 fn share_all(kept: &mut Fees, fees: &[(u64, u64)])
-    requires { ∥ ((past : List Happened) × IsKeptOf kept.old past × IsLawful (fold shared past fees.now)) ∥₁ }
-    ensures { (past : List Happened) → IsKeptOf kept.old past → IsLawful (fold shared past fees.now) →
+    requires { ∥ ((past : List Happened) × IsKeptOf kept.old past
+        × IsLawful (fold shared past fees.now)) ∥₁ }
+    ensures { (past : List Happened) → IsKeptOf kept.old past
+        → IsLawful (fold shared past fees.now) →
         IsKeptOf kept.new (fold shared past fees.now) }
 {
     for fee in fees {

@@ -1,12 +1,13 @@
-//! Worked lists, with values that were worked out apart from the definitions. The functions here do nothing.
+//! Worked lists, with values that were worked out apart from the definitions. The functions here do
+//! nothing.
 
 ghost use Rattle.std.specs.Prelude.{◌≡◌, [], ◌∷◌, true, false, map, codes};
 ghost use Rattle.liq_fees.specs.Happened.{of_coll, of_lusd, unshared_of};
 ghost use Rattle.liq_fees.specs.Kept.{row_of};
 ghost use Rattle.liq_staking.specs.Asked.{answered_all, shared_up_to};
 
-/// Two records, of which the second pays 20 LUSD, and four lines: two that stake before it, one that takes out more
-/// than there is after it, and one that comes too late.
+/// Two records, of which the second pays 20 LUSD, and four lines: two that stake before it, one
+/// that takes out more than there is after it, and one that comes too late.
 pub fn two_stakers_share_a_fee()
     ensures replies { (answered_all ((0, 0) ∷ (0, 20000000) ∷ []) (
         record { at = 0; account = 1; amount = 3; out = false }

@@ -17,12 +17,14 @@ use liq_retold::{ReplayFault, retold};
 use liq_types::Command;
 use std::alloc::Global;
 
-/// The text that answers stakers on these lines, for a journal's commands, which are replayed from the opening under
-/// the journal's limit: a reply for each line, a line `ACCOUNT STAKE COLL LUSD ALLOW` for each account with an accepted
-/// change, ascending, and a line `unshared COLL LUSD`. A line's change is made behind its record, and each record's fee
-/// is shared by those who have a stake by then.
+/// The text that answers stakers on these lines, for a journal's commands, which are replayed from
+/// the opening under the journal's limit: a reply for each line, a line
+/// `ACCOUNT STAKE COLL LUSD ALLOW` for each account with an accepted change, ascending, and a line
+/// `unshared COLL LUSD`. A line's change is made behind its record, and each record's fee is shared
+/// by those who have a stake by then.
 ///
-/// [`ReplayFault::Damaged`] comes exactly where the replay does not accept a command, where there is memory.
+/// [`ReplayFault::Damaged`] comes exactly where the replay does not accept a command, where there
+/// is memory.
 pub fn staked(
     alloc: Global,
     limit: u64,

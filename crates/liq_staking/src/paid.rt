@@ -49,8 +49,8 @@ impl Onlooker for Paid {
     }
 }
 
-/// The fee that a command paid, by its reply: collateral (gwei) and LUSD (micro-LUSD). Opening a trove (6) and adjusting
-/// it (7) pay LUSD, redeeming (14) pays collateral.
+/// The fee that a command paid, by its reply: collateral (gwei) and LUSD (micro-LUSD). Opening a
+/// trove (6) and adjusting it (7) pay LUSD, redeeming (14) pays collateral.
 fn fee_paid(done: &Done) -> (u64, u64)
     ensures { result ≡ fee_of done.now }
 {

@@ -25,7 +25,8 @@ key_with_own list e n = here list n where
   here : (l : List Ranked) → IsAbsent e.1 l → key_in (with_ranked l e) e.1 ≡ Some e.0
   here [] h = own []
   here (f ∷ fs) h = by (rank_order e f) (here fs h.1) where
-    by : (o : Ordering) → key_in (with_ranked fs e) e.1 ≡ Some e.0 → key_in (match_ordering o (e ∷ f ∷ fs) (e ∷ f ∷ fs) (f ∷ with_ranked fs e)) e.1 ≡ Some e.0
+    by : (o : Ordering) → key_in (with_ranked fs e) e.1 ≡ Some e.0
+        → key_in (match_ordering o (e ∷ f ∷ fs) (e ∷ f ∷ fs) (f ∷ with_ranked fs e)) e.1 ≡ Some e.0
     by Less more = own (f ∷ fs)
     by Equal more = own (f ∷ fs)
     by Greater more = ap (λ b. key_or f e.1 b (with_ranked fs e)) (ne_eqb f.1 e.1 h.0) ∙ more
@@ -37,11 +38,14 @@ without_own list e n = filter_here list e ∙ without_absent list e.1 n
 
 -- ---- what it took
 
-pub few_put : (list next : List Ranked) (key : ℤ) (account : ℕ) (hint : Hint) (old new : ℕ) → key_in list account ≡ None → next ≡ with_ranked list (key, account) → (IsTight list (key, account) hint.prev hint.next → new ≤ old + 4) → TakesFew next hint (entry_in next account) old new
+pub few_put : (list next : List Ranked) (key : ℤ) (account : ℕ) (hint : Hint) (old new : ℕ) → key_in list account ≡ None
+    → next ≡ with_ranked list (key, account) → (IsTight list (key, account) hint.prev hint.next → new ≤ old + 4)
+    → TakesFew next hint (entry_in next account) old new
 few_put list next key account hint old new unlisted is few =
     let e : Ranked = (key, account) in
     let absent = absent_from_key list account unlisted in
-    let found = ap (λ (l : List Ranked). entry_in l account) is ∙ ap (option_map (λ (k : ℤ). (k, account))) (key_with_own list e absent) in
+    let found = ap (λ (l : List Ranked). entry_in l account) is
+    ∙ ap (option_map (λ (k : ℤ). (k, account))) (key_with_own list e absent) in
     let back = ap (λ (l : List Ranked). without_ranked l account) is ∙ without_own list e absent in
     subst (λ (o : Option Ranked). TakesFew next hint o old new) (sym found)
     (λ tight. few (subst (λ (l : List Ranked). IsTight l e hint.prev hint.next) back tight))

@@ -1,3 +1,3 @@
 pub mod Entries
 pub mod Others
-pub mod Taken
+mod Taken

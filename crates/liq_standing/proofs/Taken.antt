@@ -15,7 +15,8 @@ pub record IsTaken (b : Books) (sums : Sums) (t : Trove) : Type 0 where
   pub pending_coll : pending t.stake sums.coll t.mark_coll ≤ b.default_coll
   pub pending_debt : pending t.stake sums.debt t.mark_debt ≤ b.default_debt
 
-pub taken : (b : Books) (sums : Sums) (account : ℕ) (t : Trove) → sums ≡ b.sums → Some t ≡ at b.troves account → TrovesStand b → IsTaken b sums t
+pub taken : (b : Books) (sums : Sums) (account : ℕ) (t : Trove) → sums ≡ b.sums → Some t ≡ at b.troves account
+    → TrovesStand b → IsTaken b sums t
 taken b sums account t same there h =
     subst (λ (s : Sums). IsTaken b s t) (sym same)
     (let w = trove_within b account t (sym there) h in

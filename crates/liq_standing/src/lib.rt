@@ -1,4 +1,5 @@
-//! A trove leaves, a trove comes: in the table, in the pools that hold what it has, and in the list.
+//! A trove leaves, a trove comes: in the table, in the pools that hold what it has, and in the
+//! list.
 #![tactic(auto)]
 
 mod standing;

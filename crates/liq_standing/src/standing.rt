@@ -17,8 +17,9 @@ use liq_types::amounts::{LIM, RESERVE};
 use liq_types::{Hint, Steps};
 use std::sync::ledger::Ledger;
 
-/// The account's trove leaves the table, the pools that hold what it has, and the list; its room stays in the table, and comes in the
-/// list. The other pools stay. Answers what it had in all: gwei and micro-LUSD.
+/// The account's trove leaves the table, the pools that hold what it has, and the list; its room
+/// stays in the table, and comes in the list. The other pools stay. Answers what it had in all:
+/// gwei and micro-LUSD.
 pub fn lift(pools: &mut Pools, troves: &mut Troves, order: &mut Order, account: u32) -> (u64, u64)
     requires there { IsSome (at troves.old.table.rows account) }
     requires stand { TrovesStand (books_kept troves.old pools.old) }
@@ -26,9 +27,12 @@ pub fn lift(pools: &mut Pools, troves: &mut Troves, order: &mut Order, account: 
     requires coll { pools.old.active_coll + pools.old.default_coll ≤ LIM }
     requires debt { pools.old.active_debt + pools.old.default_debt ≤ LIM }
     ensures own { Some result ≡ entire_in troves.old.sums troves.old.table.rows account }
-    ensures books { books_kept troves.new pools.new ≡ lifted (books_kept troves.old pools.old) account }
-    ensures coll { pools.new.active_coll + pools.new.default_coll + result.0 ≡ pools.old.active_coll + pools.old.default_coll }
-    ensures debt { pools.new.active_debt + pools.new.default_debt + result.1 ≡ pools.old.active_debt + pools.old.default_debt }
+    ensures books { books_kept troves.new pools.new ≡ lifted (books_kept troves.old pools.old)
+        account }
+    ensures coll { pools.new.active_coll + pools.new.default_coll + result.0 ≡ pools.old.active_coll
+        + pools.old.default_coll }
+    ensures debt { pools.new.active_debt + pools.new.default_debt + result.1 ≡ pools.old.active_debt
+        + pools.old.default_debt }
     ensures rest { pools.new ≡ pools_with pools.old (books_kept troves.new pools.new) }
     ensures rows { troves.new.table.rows ≡ without troves.old.table.rows account }
     ensures gone { at troves.new.table.rows account ≡ None }
@@ -50,8 +54,9 @@ pub fn lift(pools: &mut Pools, troves: &mut Troves, order: &mut Order, account: 
     (coll, debt)
 }
 
-/// A trove of the account comes into the table, the active pool and the list, with these amounts in gwei and micro-LUSD and
-/// nothing pending. The other pools stay. The hint changes nothing but the steps: with a tight one there are four at most.
+/// A trove of the account comes into the table, the active pool and the list, with these amounts in
+/// gwei and micro-LUSD and nothing pending. The other pools stay. The hint changes nothing but the
+/// steps: with a tight one there are four at most.
 pub fn place<L: Ledger>(
     pools: &mut Pools,
     troves: &mut Troves,
@@ -71,12 +76,18 @@ pub fn place<L: Ledger>(
     requires debt { pools.old.active_debt + debt ≤ LIM }
     requires room { HasRoom troves.old.table account }
     requires spare { 1 ≤ order.old.room }
-    ensures books { books_kept troves.new pools.new ≡ placed (books_kept troves.old pools.old) account coll debt }
+    ensures books { books_kept troves.new pools.new ≡ placed (books_kept troves.old pools.old)
+        account coll debt }
     ensures rest { pools.new ≡ pools_with pools.old (books_kept troves.new pools.new) }
-    ensures tight { IsTight order.old.entries (key_by (set_row troves.old.sums coll debt), account) hint.now.prev hint.now.next → steps.new ≤ steps.old + 4 }
-    ensures few { TakesFew order.new.entries hint.now (entry_in order.new.entries account) steps.old steps.new }
+    ensures tight { IsTight order.old.entries (
+      key_by (set_row troves.old.sums coll debt),
+      account,
+    ) hint.now.prev hint.now.next → steps.new ≤ steps.old + 4 }
+    ensures few { TakesFew order.new.entries hint.now (entry_in order.new.entries account) steps.old
+        steps.new }
     ensures any { steps.new ≤ steps.old + (length order.old.entries + 4) }
-    ensures list { order.new.entries ≡ with_ranked order.old.entries (key_by (set_row troves.old.sums coll debt), account) }
+    ensures list { order.new.entries ≡ with_ranked order.old.entries
+        (key_by (set_row troves.old.sums coll debt), account) }
     ensures room { troves.new.table.room ≡ troves.old.table.room }
     ensures spare { order.new.room + 1 ≡ order.old.room }
 {

@@ -1,4 +1,5 @@
-//! Where each account stands in the ordered list, and where it will after the changes that are being followed.
+//! Where each account stands in the ordered list, and where it will after the changes that are
+//! being followed.
 #![tactic(auto)]
 
 mod kept;

@@ -24,8 +24,8 @@ pub struct Stand {
 
 /// Where each account stands. Contracts see it account by account.
 ///
-/// An account takes 12 bytes where its key fits an i64 and is not the least of all, and nothing is noted of it. The others are kept
-/// apart, and so are those of which something is noted.
+/// An account takes 12 bytes where its key fits an i64 and is not the least of all, and nothing is
+/// noted of it. The others are kept apart, and so are those of which something is noted.
 #[derive(Drop)]
 pub struct Stands {
     // Each account that is kept apart has room here.
@@ -71,7 +71,10 @@ impl Stands {
     /// Notes where an account will stand. After `NoMemory` all is as before.
     pub fn aim(&mut self, account: u32, next: Option<i128>) -> Result<(), NoMemory>
         ensures ok { OnOk result ((a : ℕ) → stand_of self.new a
-            ≡ moved (stand_of self.old) account (record { key = (stand_of self.old account).key; next = next }) a) }
+            ≡ moved (stand_of self.old) account (record {
+              key = (stand_of self.old account).key;
+              next = next;
+            }) a) }
         ensures err { OnErr result ((a : ℕ) → stand_of self.new a ≡ stand_of self.old a) }
     {
         self.kept.reserve(account)?;
@@ -83,10 +86,12 @@ impl Stands {
         Ok(())
     }
 
-    /// Ends what was noted of an account: it stands where it will, or, where the changes are not made, where it stood. Takes no memory.
+    /// Ends what was noted of an account: it stands where it will, or, where the changes are not
+    /// made, where it stood. Takes no memory.
     pub fn settle(&mut self, account: u32, made: bool)
         ensures { (a : ℕ) → stand_of self.new a
-            ≡ moved (stand_of self.old) account (settled_at (side_of made (stand_of self.old account))) a }
+            ≡ moved (stand_of self.old) account
+            (settled_at (side_of made (stand_of self.old account))) a }
     {
         let Some(stand) = self.apart.get(&account) else {
             return;
@@ -111,7 +116,8 @@ impl Stands {
     /// The key of an account that is kept: that no change moves, under a key that fits.
     pub fn kept(&self, account: u32) -> Option<Kept>
         ensures kept { result ≡ at self.now.kept account }
-        ensures key { IfSome result (λ kept. stand_of self.now account ≡ settled_at (Some kept.key)) }
+        ensures key { IfSome result (λ kept. stand_of self.now account
+            ≡ settled_at (Some kept.key)) }
     {
         self.kept.get(account).copied()
     }
@@ -120,7 +126,8 @@ impl Stands {
     pub fn keep(&mut self, account: u32, key: Kept)
         requires kept { IsSome (at self.old.kept account) }
         requires key { is_kept key ≡ true }
-        ensures moved { (a : ℕ) → stand_of self.new a ≡ moved (stand_of self.old) account (settled_at (Some key.key)) a }
+        ensures moved { (a : ℕ) → stand_of self.new a ≡ moved (stand_of self.old) account
+            (settled_at (Some key.key)) a }
         ensures kept { at self.new.kept account ≡ Some key }
     {
         let _ = self.kept.write(account, key);
@@ -129,7 +136,8 @@ impl Stands {
     /// Takes out an account that is kept: it stands nowhere then. Takes no memory.
     pub fn leave(&mut self, account: u32)
         requires { IsSome (at self.old.kept account) }
-        ensures { (a : ℕ) → stand_of self.new a ≡ moved (stand_of self.old) account (settled_at None) a }
+        ensures { (a : ℕ) → stand_of self.new a ≡ moved (stand_of self.old) account
+            (settled_at None) a }
     {
         self.kept.take(account);
     }
@@ -137,7 +145,8 @@ impl Stands {
     /// Keeps an account under a key, wherever it stood. After `NoMemory` all is as before.
     pub fn open(&mut self, account: u32, kept: Kept) -> Result<(), NoMemory>
         requires { is_kept kept ≡ true }
-        ensures ok { OnOk result ((a : ℕ) → stand_of self.new a ≡ moved (stand_of self.old) account (settled_at (Some kept.key)) a) }
+        ensures ok { OnOk result ((a : ℕ) → stand_of self.new a ≡ moved (stand_of self.old) account
+            (settled_at (Some kept.key)) a) }
         ensures kept { OnOk result (at self.new.kept account ≡ Some kept) }
         ensures err { OnErr result (self.new ≡ self.old) }
     {

@@ -16,7 +16,8 @@ use Rattle.liq_records.specs.declared.answers.AcceptedFault.TheVariants.{Damaged
 use Rattle.liq_store.specs.Bases.{BeginsTo}
 
 -- a later generation than the first
-pub begins_later : (w : Written) (generation : ℕ) (checkpoint : List ℕ) (read : Result Image ℕ) (result : Result Core AcceptedFault) → (generation ≡ 1 → ⊥) → w.generation ≡ generation → w.checkpoint ≡ checkpoint
+pub begins_later : (w : Written) (generation : ℕ) (checkpoint : List ℕ) (read : Result Image ℕ)
+    (result : Result Core AcceptedFault) → (generation ≡ 1 → ⊥) → w.generation ≡ generation → w.checkpoint ≡ checkpoint
     → image_at (length checkpoint) checkpoint ≡ read → BeginsTo (read_base w read) result → BeginsTo (base_of w) result
 begins_later w generation checkpoint read result later same same_checkpoint is begins =
     let base : base_of w ≡ read_base w read =
@@ -29,7 +30,8 @@ abbrev bad_at : ℕ → ℕ → Result State Damage
 bad_at place limit = Err (record { index = 0; what = what.Form (header_size (layout_with limit) + place) })
 
 -- what is told of a place of the checkpoint is its damage
-pub begins_badly : (w : Written) (limit place : ℕ) (base : Result State Damage) (why : AcceptedFault) → base ≡ bad_checkpoint w place → w.limit ≡ limit
+pub begins_badly : (w : Written) (limit place : ℕ) (base : Result State Damage) (why : AcceptedFault)
+    → base ≡ bad_checkpoint w place → w.limit ≡ limit
     → why ≡ Damaged (record { index = 0; what = what.Form (header_size (layout_with limit) + place) })
     → BeginsTo base (Err why)
 begins_badly w limit place base why bad same is =
@@ -37,20 +39,24 @@ begins_badly w limit place base why bad same is =
 
 -- ---- by its image
 
-pub unsound_base : (w : Written) (rule : ℕ) (i : Image) → first_unsound i 0 ≡ Some rule → read_base w (Ok i) ≡ bad_checkpoint w 0
+pub unsound_base : (w : Written) (rule : ℕ) (i : Image) → first_unsound i 0 ≡ Some rule
+    → read_base w (Ok i) ≡ bad_checkpoint w 0
 unsound_base w rule i is = ap (sound_base w i) is
 
 -- of another generation, or of another limit
-pub foreign_base : (w : Written) (i : Image) → first_unsound i 0 ≡ None → is_image_of w i ≡ false → read_base w (Ok i) ≡ bad_checkpoint w 0
+pub foreign_base : (w : Written) (i : Image) → first_unsound i 0 ≡ None → is_image_of w i ≡ false
+    → read_base w (Ok i) ≡ bad_checkpoint w 0
 foreign_base w i sound isnt =
     ap (sound_base w i) sound ∙ ap (λ (b : Bool). if b then Ok (started i) else bad_checkpoint w 0) isnt
 
-pub own_base : (w : Written) (i : Image) → first_unsound i 0 ≡ None → is_image_of w i ≡ true → read_base w (Ok i) ≡ Ok (started i)
+pub own_base : (w : Written) (i : Image) → first_unsound i 0 ≡ None → is_image_of w i ≡ true
+    → read_base w (Ok i) ≡ Ok (started i)
 own_base w i sound is =
     ap (sound_base w i) sound ∙ ap (λ (b : Bool). if b then Ok (started i) else bad_checkpoint w 0) is
 
 -- what was tested of a protocol is so of the image with which it begins
-pub tested_image : (w : Written) (i begun : Image) (generation limit : ℕ) → w.generation ≡ generation → w.limit ≡ limit → begun ≡ i
+pub tested_image : (w : Written) (i begun : Image) (generation limit : ℕ) → w.generation ≡ generation → w.limit ≡ limit
+    → begun ≡ i
     → is_image_of w i ≡ (begun.generation == generation && begun.limit == limit)
 tested_image w i begun generation limit same same_limit is =
     let back = sym is in λ k. (back k).generation == same k && (back k).limit == same_limit k

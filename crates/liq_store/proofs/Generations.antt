@@ -13,7 +13,8 @@ use Rattle.liq_pairs.specs.declared.side.Side.{Side}
 use Rattle.liq_pairs.specs.declared.side.Side.TheVariants.{Left, Right}
 use Rattle.liq_pairs.specs.Sides.{has_odd, other}
 
-pub next_generation : (old new : Core) (s : State) (c : Command) → c.call ≡ Rotate → StandsFor old s → StandsFor new (after s c) → new.image.generation ≡ old.image.generation + 1
+pub next_generation : (old new : Core) (s : State) (c : Command) → c.call ≡ Rotate → StandsFor old s
+    → StandsFor new (after s c) → new.image.generation ≡ old.image.generation + 1
 next_generation old new s c is before stands =
     ap (λ (i : Image). i.generation) stands.image
     ∙ ap (λ (call : Call). (effect s call).generation) is
@@ -23,6 +24,7 @@ pub no_records : (new : Core) (s : State) (c : Command) → c.call ≡ Rotate �
 no_records new s c is stands = stands.records ∙ ap (λ (call : Call). records_after (effect s c.call) call) is
 
 -- the next generation is the other disk's
-pub next_side : (generation : ℕ) (side : Side) → is_odd generation ≡ has_odd side → is_odd (generation + 1) ≡ has_odd (other side)
+pub next_side : (generation : ℕ) (side : Side) → is_odd generation ≡ has_odd side
+    → is_odd (generation + 1) ≡ has_odd (other side)
 next_side generation Left is = next_parity generation ∙ ap not is
 next_side generation Right is = next_parity generation ∙ ap not is

@@ -1,20 +1,20 @@
 pub mod Appending
-pub mod Basing
-pub mod Beginning
-pub mod Calling
-pub mod Counts
-pub mod Following
-pub mod Generations
-pub mod Going
-pub mod Limits
-pub mod Listing
-pub mod Looking
-pub mod OneDisk
-pub mod Opening
+mod Basing
+mod Beginning
+mod Calling
+mod Counts
+mod Following
+mod Generations
+mod Going
+mod Limits
+mod Listing
+mod Looking
+mod OneDisk
+mod Opening
 pub mod Past
 pub mod Recovered
-pub mod Rulings
-pub mod Shutting
-pub mod Steps
-pub mod Turning
-pub mod Verbs
+mod Rulings
+mod Shutting
+mod Steps
+mod Turning
+mod Verbs

@@ -28,10 +28,14 @@ rotation_fits s c allowed is =
     let length_is = checkpoint_length (image (after s c)) in
     let room = subst
     (λ (b : Bool). AllByRecursion (λ (rule : Rule). rule.0 ≡ false)
-    (if b then where_above (s.generation + 1) GENERATIONS_MOST AmountLimit ∷ where_above length_is CHECKPOINT_BYTES_MOST AmountLimit ∷ []
+    (if b then where_above (s.generation + 1) GENERATIONS_MOST AmountLimit ∷ where_above length_is CHECKPOINT_BYTES_MOST
+    AmountLimit ∷ []
     else (nat_le RECORDS_MOST s.records, JournalFull RECORDS_MOST) ∷ []))
     (ap rotates is) (allowed_has s c allowed).room in
-    record { generation = at_most GENERATIONS_MOST (s.generation + 1) room.0; bytes = at_most CHECKPOINT_BYTES_MOST length_is room.1.0 }
+    record {
+      generation = at_most GENERATIONS_MOST (s.generation + 1) room.0;
+      bytes = at_most CHECKPOINT_BYTES_MOST length_is room.1.0;
+    }
 
 -- so many bytes a later generation may have
 pub size_fits : (generation size : ℕ) → 2 ≤ generation → 0 < size → size ≤ 68719476736 → is_size generation size ≡ true

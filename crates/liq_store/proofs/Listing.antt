@@ -7,7 +7,9 @@ use Rattle.liq_wire.specs.Fields.{command_of}
 use Rattle.liq_journal.specs.Bodies.{IsAccepted}
 use Rattle.liq_journal.specs.Written.{Written}
 
-pub one_more : (commands items : List Command) (done : ℕ) (c : Command) → done < length commands → slice_get commands (done + 1 - 1) ≡ Some c → items ≡ take done commands → items ++ c ∷ [] ≡ take (done + 1) commands
+pub one_more : (commands items : List Command) (done : ℕ) (c : Command) → done < length commands
+    → slice_get commands (done + 1 - 1) ≡ Some c → items ≡ take done commands
+    → items ++ c ∷ [] ≡ take (done + 1) commands
 one_more commands items done c within recorded so_far =
     let at : done + 1 - 1 ≡ done = omega arith in
     let here : slice_get commands done ≡ Some c = ap (slice_get commands) (sym at) ∙ recorded in
@@ -15,7 +17,8 @@ one_more commands items done c within recorded so_far =
     (λ i. so_far i ++ (sym is i) ∷ []) ∙ sym (take_more commands done c within)
 
 -- the command that was read is the record's
-pub recorded_so : (start index : ℕ) (held body : List ℕ) (w : Written) (d : Command) → IsAccepted start held w index body → command_of body ≡ Ok d → slice_get w.commands (index - 1) ≡ Some d
+pub recorded_so : (start index : ℕ) (held body : List ℕ) (w : Written) (d : Command)
+    → IsAccepted start held w index body → command_of body ≡ Ok d → slice_get w.commands (index - 1) ≡ Some d
 recorded_so start index held body w d accepted read =
     let spelled : command_of body ≡ Ok accepted.command = accepted.spelled.spelled in
     let here : slice_get w.commands (index - 1) ≡ Some accepted.command = accepted.recorded in

@@ -29,16 +29,20 @@ base_fails w DiskFault h = tt
 base_fails w (Damaged damage) h = ap (λ (base : Result State Damage). replay_from base w.commands) h
 base_fails w NoMemory h = tt
 
-pub leads_on : (w : Written) (s : State) (core : Core) → base_of w ≡ Ok s → Replays s w.commands core (Ok tt) → (t : State) × (outcome w ≡ Ok t) × StandsFor core t
+pub leads_on : (w : Written) (s : State) (core : Core) → base_of w ≡ Ok s → Replays s w.commands core (Ok tt)
+    → (t : State) × (outcome w ≡ Ok t) × StandsFor core t
 leads_on w s core begins h = (h.0, ap (λ (base : Result State Damage). replay_from base w.commands) begins ∙ h.1, h.2)
 
-pub fails_on : (w : Written) (s : State) (core : Core) (why : AcceptedFault) → base_of w ≡ Ok s → Replays s w.commands core (Err why) → FailsTo w why
+pub fails_on : (w : Written) (s : State) (core : Core) (why : AcceptedFault) → base_of w ≡ Ok s
+    → Replays s w.commands core (Err why) → FailsTo w why
 fails_on w s core DiskFault begins h = tt
-fails_on w s core (Damaged damage) begins h = ap (λ (base : Result State Damage). replay_from base w.commands) begins ∙ h
+fails_on w s core (Damaged damage) begins h = ap (λ (base : Result State Damage). replay_from base w.commands)
+    begins ∙ h
 fails_on w s core NoMemory begins h = tt
 
 -- no fault is counted where no device was asked
-pub uncounted : (why : AcceptedFault) (before after : ℕ) → (why ≡ DiskFault → ⊥) → after ≡ before → CountsFault why before after
+pub uncounted : (why : AcceptedFault) (before after : ℕ) → (why ≡ DiskFault → ⊥) → after ≡ before
+    → CountsFault why before after
 uncounted DiskFault before after none same = absurd (none refl)
 uncounted (Damaged damage) before after none same = same
 uncounted NoMemory before after none same = same
@@ -46,7 +50,8 @@ uncounted NoMemory before after none same = same
 -- ---- its bytes
 
 -- what is told before is told after
-pub told_too : (old new : Option (List ℕ)) → (IsSome new ↔ IsSome old) → (held : List ℕ) → old ≡ Some held → (after : List ℕ) × (new ≡ Some after)
+pub told_too : (old new : Option (List ℕ)) → (IsSome new ↔ IsSome old) → (held : List ℕ) → old ≡ Some held
+    → (after : List ℕ) × (new ≡ Some after)
 told_too old None telling held told =
     let some : IsSome old = subst (λ (o : Option (List ℕ)). IsSome o) (sym told) (some_is held) in
     absurd (none_is (telling.1 some))
@@ -62,7 +67,8 @@ pub some_same : (a b : List ℕ) (o : Option (List ℕ)) → o ≡ Some a → o 
 some_same a b o first second = let both : Some a ≡ Some b = sym first ∙ second in cc
 
 -- what an opening left is the journal that it found
-pub record OpenedAs (odd : Bool) (held after : List ℕ) (generation limit start count : ℕ) (checkpoint : List ℕ) : Type 0 where
+pub record OpenedAs (odd : Bool) (held after : List ℕ) (generation limit start count : ℕ) (checkpoint : List ℕ) :
+    Type 0 where
   pub written : Written
   pub found : found_on odd held ≡ Open written
   pub stands : Stands odd after written
@@ -72,14 +78,20 @@ pub record OpenedAs (odd : Bool) (held after : List ℕ) (generation limit start
   pub count_is : length written.commands ≡ count
   pub checkpoint_is : written.checkpoint ≡ checkpoint
 
-pub opened_as : (old new : Option (List ℕ)) (odd : Bool) (generation limit start count : ℕ) (checkpoint : List ℕ) → (IsSome new ↔ IsSome old) → is_generation odd generation ≡ true
+pub opened_as : (old new : Option (List ℕ)) (odd : Bool) (generation limit start count : ℕ) (checkpoint : List ℕ)
+    → (IsSome new ↔ IsSome old) → is_generation odd generation ≡ true
     → IfSome old (λ held. IsOpened odd held generation limit start count checkpoint)
-    → ((held : List ℕ) (w : Written) → old ≡ Some held → found_on odd held ≡ Open w → IfSome new (λ after. Stands odd after w))
-    → (held : List ℕ) → old ≡ Some held → (after : List ℕ) × (new ≡ Some after) × OpenedAs odd held after generation limit start count checkpoint
+    → ((held : List ℕ) (w : Written) → old ≡ Some held → found_on odd held ≡ Open w
+    → IfSome new (λ after. Stands odd after w))
+    → (held : List ℕ) → old ≡ Some held → (after : List ℕ) × (new ≡ Some after)
+    × OpenedAs odd held after generation limit start count checkpoint
 opened_as old new odd generation limit start count checkpoint telling may opened stands held told =
     let here = told_too old new telling held told in
-    let is : IsOpened odd held generation limit start count checkpoint = subst (λ (o : Option (List ℕ)). IfSome o (λ l. IsOpened odd l generation limit start count checkpoint)) told opened in
-    let left : Stands odd here.0 is.written = subst (λ (o : Option (List ℕ)). IfSome o (λ l. Stands odd l is.written)) here.1 (stands held is.written told is.found) in (
+    let is : IsOpened odd held generation limit start count checkpoint =
+    subst (λ (o : Option (List ℕ)). IfSome o (λ l. IsOpened odd l generation limit start count checkpoint)) told
+    opened in
+    let left : Stands odd here.0 is.written = subst (λ (o : Option (List ℕ)). IfSome o (λ l. Stands odd l is.written))
+    here.1 (stands held is.written told is.found) in (
       here.0,
       here.1,
       record {
@@ -87,7 +99,8 @@ opened_as old new odd generation limit start count checkpoint telling may opened
         found = is.found;
         stands = left;
         journal = record {
-          found = subst (λ (b : Bool). found_on b here.0 ≡ Open is.written) (sym (parity_of odd generation may)) left.found;
+          found = subst (λ (b : Bool). found_on b here.0 ≡ Open is.written) (sym (parity_of odd generation may))
+              left.found;
           generation_is = is.generation_is;
           start_is = is.start_is;
         };
@@ -98,7 +111,8 @@ opened_as old new odd generation limit start count checkpoint telling may opened
       },
     )
 
-pub found_by : {D : Type 0} (odd : Bool) (held : List ℕ) (w : Written) (journal : JournalOn D) (result : Result (Stood D) (StandFault D)) → found_on odd held ≡ Open w → w.generation ≡ journal.generation
+pub found_by : {D : Type 0} (odd : Bool) (held : List ℕ) (w : Written) (journal : JournalOn D)
+    (result : Result (Stood D) (StandFault D)) → found_on odd held ≡ Open w → w.generation ≡ journal.generation
     → HoldsTo w result → Continues journal result → IsFoundOn odd held result
 found_by odd held w journal (Ok (Nothing disk)) found generation holds continues = absurd holds
 found_by odd held w journal (Ok (Holding now core)) found generation holds continues = record {

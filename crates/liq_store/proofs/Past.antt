@@ -269,7 +269,8 @@ module _ {D : Type 0} (at : D → DiskAt)
             grown_past);
         aside = λ held image told stood.
             subst (λ (side : Side). IsOfRun (other side) l r start later NoFault image) (sym same_side)
-            (grows.images (other old.side) image (past.aside held image (ap (λ (d : D). (at d).seen) (sym aside_there) ∙ told) stood));
+            (grows.images (other old.side) image (past.aside held image (ap (λ (d : D). (at d).seen) (sym aside_there)
+            ∙ told) stood));
       }
         where
           there : (side : Side) → on side new.left new.right ≡ on side old.left old.right
@@ -506,7 +507,8 @@ module _ {D : Type 0} (at : D → DiskAt)
             let same : disk_beside new ≡ disk_beside old =
             ap (λ (s : Side). beside s new.left new.right) side ∙ writes.aside now past.stands is_no in
             subst (λ (s : Side). IsOfRun (other s) l r start longer NoFault image) (sym side)
-            (makes.grows.images (other old.side) image (past.aside held image (ap (λ (d : D). (at d).seen) (sym same) ∙ told) stood))
+            (makes.grows.images (other old.side) image (past.aside held image (ap (λ (d : D). (at d).seen) (sym same)
+            ∙ told) stood))
 
         aside_turned : is_rotate c.call ≡ true → (held image : List ℕ) → (at (disk_beside new)).seen ≡ Some held
             → IsAsItStood held image → IsOfRun (other new.side) l r start longer NoFault image
@@ -518,7 +520,8 @@ module _ {D : Type 0} (at : D → DiskAt)
             ap (λ (s : Side). beside s new.left new.right) side ∙ beside_other old.side new.left new.right
             ∙ writes.taken now past.stands is_yes in
             let bytes : taken_bytes ≡ held =
-            some_same taken_bytes held (at (taken_disk old)).seen taken_told (ap (λ (d : D). (at d).seen) (sym same) ∙ told) in
+            some_same taken_bytes held (at (taken_disk old)).seen taken_told (ap (λ (d : D). (at d).seen) (sym same)
+            ∙ told) in
             let opens : IsOpenFor old.side held now = subst (λ (l : List ℕ). IsOpenFor old.side l now) bytes open_now in
             subst (λ (s : Side). IsOfRun s l r start longer NoFault image)
             (sym (ap other side ∙ other_twice old.side))
@@ -839,7 +842,12 @@ module _ {D : Type 0} (at : D → DiskAt)
     right_since : (held : List ℕ) → (at store.right).seen ≡ Some held
         → LeftSince at store.right (at right).moment held
     right_since held told =
-        let time = right_leaves.goes_on.later in ((at store.right).moment, time, omega arith, stays store.right held told)
+        let time = right_leaves.goes_on.later in (
+          (at store.right).moment,
+          time,
+          omega arith,
+          stays store.right held told,
+        )
 
     opened_aside : (side : Side) → store.side ≡ side → (held image : List ℕ)
         → (at (beside side store.left store.right)).seen ≡ Some held → IsAsItStood held image

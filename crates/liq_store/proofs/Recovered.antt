@@ -23,8 +23,10 @@ unfinished_is_allowed l r s c (side, inr rotated) = rotated.rotation.rotation.al
 accepted_changes : (s : State) (c : Command) → ruling s c ≡ Allowed → image s ≡ image (after s c) → ⊥
 accepted_changes s c allowed same =
     let kept : Client = record { last = c.number; kept = done_of s c.call } in
-    let stays : (client_of s c.client).last ≡ (client_of (after s c) c.client).last = ap (λ (i : Image). (unwrap_or (at i.clients c.client) no_client).last) same in
-    let goes : (client_of (after s c) c.client).last ≡ c.number = ap (λ (o : Option Client). (unwrap_or o no_client).last) (at-put_same (effect s c.call).clients c.client kept) in
+    let stays : (client_of s c.client).last ≡ (client_of (after s c) c.client).last =
+    ap (λ (i : Image). (unwrap_or (at i.clients c.client) no_client).last) same in
+    let goes : (client_of (after s c) c.client).last ≡ c.number =
+    ap (λ (o : Option Client). (unwrap_or o no_client).last) (at-put_same (effect s c.call).clients c.client kept) in
     omega (arith, stays, goes, allowed_number s c allowed)
 
 -- where they still stand for the state, the command that was unfinished was not made
@@ -33,4 +35,5 @@ still_kept l r a b s is (inl kept) = kept
 still_kept l r a b s is (inr more) =
     let stands = more.2.stands in
     let here : stands.state ≡ s = cc (stands.is, is) in
-    absurd (accepted_changes s more.0 (unfinished_is_allowed l r s more.0 more.1) (sym (ap image here) ∙ stands.same.image))
+    absurd (accepted_changes s more.0 (unfinished_is_allowed l r s more.0 more.1) (sym (ap image here)
+    ∙ stands.same.image))

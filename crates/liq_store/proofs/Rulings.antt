@@ -12,15 +12,20 @@ use Rattle.liq_rules.specs.Rules.{call_changes}
 use Rattle.liq_rules.specs.Step.{Ruling, after_ruling, ruling, step}
 use Rattle.liq_store.specs.Telling.{told, told_by, told_of}
 
-pub ruled : (core : Core) (s : State) (c : Command) (request : Request) (r : Ruling) (reply : Reply) → request ≡ Do c → ruling s c ≡ r → StandsFor core (after_ruling s c r).0 → (after_ruling s c r).1 ≡ reply
+pub ruled : (core : Core) (s : State) (c : Command) (request : Request) (r : Ruling) (reply : Reply) → request ≡ Do c
+    → ruling s c ≡ r → StandsFor core (after_ruling s c r).0 → (after_ruling s c r).1 ≡ reply
     → StandsFor core (step s request).0 × ((step s request).1 ≡ reply)
 ruled core s c request r reply is_do is stands said =
     subst (λ (q : Request). StandsFor core (step s q).0 × ((step s q).1 ≡ reply)) (sym is_do)
-    (subst (λ (x : Ruling). StandsFor core (after_ruling s c x).0 × ((after_ruling s c x).1 ≡ reply)) (sym is) (stands, said))
+    (subst (λ (x : Ruling). StandsFor core (after_ruling s c x).0 × ((after_ruling s c x).1 ≡ reply)) (sym is)
+    (stands, said))
 
-pub told_by_ruling : (s : State) (c : Command) (request : Request) (r : Ruling) → request ≡ Do c → ruling s c ≡ r → told_of s request ≡ told_by r (call_changes s c.call)
+pub told_by_ruling : (s : State) (c : Command) (request : Request) (r : Ruling) → request ≡ Do c → ruling s c ≡ r
+    → told_of s request ≡ told_by r (call_changes s c.call)
 told_by_ruling s c request r is_do is = ap (told_of s) is_do ∙ ap (λ (x : Ruling). told_by x (call_changes s c.call)) is
 
 -- where it tells nothing the changes stay
-pub none_told : (s : State) (request : Request) (a : Answer) (before now : List ListChange) → now ≡ before → told s request a ≡ [] → now ≡ before ++ told s request a
-none_told s request a before now same none = same ∙ sym (append-nil before) ∙ ap (λ (more : List ListChange). before ++ more) (sym none)
+pub none_told : (s : State) (request : Request) (a : Answer) (before now : List ListChange) → now ≡ before
+    → told s request a ≡ [] → now ≡ before ++ told s request a
+none_told s request a before now same none = same ∙ sym (append-nil before)
+    ∙ ap (λ (more : List ListChange). before ++ more) (sym none)

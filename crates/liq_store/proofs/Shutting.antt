@@ -11,7 +11,8 @@ use Rattle.liq_store.specs.Standing.{OnlyShuts}
 -- a byte that is written, and has something at its place then, was not written behind the end
 inside_by : (held : List ℕ) (place byte : ℕ) → place < length (overwritten held place (byte ∷ [])) → place ≤ length held
 inside_by held place byte there =
-    let all : length (overwritten held place (byte ∷ [])) ≡ length (take place held ++ byte ∷ []) + length (drop (place + 1) held) =
+    let all : length (overwritten held place (byte ∷ [])) ≡ length (take place held ++ byte ∷ []) + length
+    (drop (place + 1) held) =
     length-append (take place held ++ byte ∷ []) (drop (place + 1) held) in
     let with_byte : length (take place held ++ byte ∷ []) ≡ length (take place held) + 1 =
     length-append (take place held) (byte ∷ []) in
@@ -19,7 +20,8 @@ inside_by held place byte there =
     let rest = length-drop (place + 1) held in
     omega (arith, there, all, with_byte, front, rest)
 
-one_open : (odd : Bool) (held : List ℕ) (v w : Written) → found_on odd held ≡ Open v → found_on odd held ≡ Open w → v ≡ w
+one_open : (odd : Bool) (held : List ℕ) (v w : Written) → found_on odd held ≡ Open v
+    → found_on odd held ≡ Open w → v ≡ w
 one_open odd held v w one other = cc
 
 module _ (odd : Bool) (held after : List ℕ) where
@@ -34,16 +36,19 @@ module _ (odd : Bool) (held after : List ℕ) where
       subst (λ (l : List ℕ). place < length l) has.1
       (subst (λ (n : ℕ). n < length after) (sym place_is) stands.ended.there) in
       let byte_is : has.0 ≡ 0 =
-      sym (byte_there place has.0 held (inside_by held place has.0 there)) ∙ ap (λ (l : List ℕ). get_or l place 0) (sym has.1)
+      sym (byte_there place has.0 held (inside_by held place has.0 there))
+      ∙ ap (λ (l : List ℕ). get_or l place 0) (sym has.1)
       ∙ ap (λ (n : ℕ). get_or after n 0) place_is ∙ stands.ended.is in
       inr (place, inl some, has.1 ∙ ap (λ (byte : ℕ). overwritten held place (byte ∷ [])) byte_is)
 
   -- at place 0, where none is open
-  pub shut_first : found_on odd held ≡ Absent → (IsUnshut after → ⊥) → OpenLeaves odd held after → OnlyShuts odd held after
+  pub shut_first : found_on odd held ≡ Absent → (IsUnshut after → ⊥) → OpenLeaves odd held after
+      → OnlyShuts odd held after
   shut_first absent shut (inl same) = inl same
   shut_first absent shut (inr (place, inl some, has)) = absurd (absent_isnt_open odd held some.0 absent some.1)
   shut_first absent shut (inr (place, inr none, has)) =
-      let is : after ≡ overwritten held 0 (has.0 ∷ []) = has.1 ∙ ap (λ (n : ℕ). overwritten held n (has.0 ∷ [])) none.1 in
+      let is : after ≡ overwritten held 0 (has.0 ∷ []) = has.1
+      ∙ ap (λ (n : ℕ). overwritten held n (has.0 ∷ [])) none.1 in
       inr (place, inr none, has.1 ∙ ap (λ (byte : ℕ). overwritten held place (byte ∷ [])) (by has.0 is))
     where
       by : (byte : ℕ) → after ≡ overwritten held 0 (byte ∷ []) → byte ≡ 0

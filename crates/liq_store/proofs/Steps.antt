@@ -1,4 +1,5 @@
--- What is answered is the reply of the step, and the step is made, also of a command that is planned without its own hint words.
+-- What is answered is the reply of the step, and the step is made, also of a command that is planned without its own
+-- hint words.
 use Rattle.std.proofs.Common.{◌≡◌, ◌∙◌, refl, sym, ap, subst}
 use Rattle.liq_types.specs.declared.replies.Done.{Done}
 use Rattle.liq_types.specs.declared.replies.Reply.{Reply}
@@ -19,17 +20,23 @@ use Rattle.liq_rules.specs.Verbs.{unhinted, unhinted_call}
 use Rattle.liq_rules.proofs.Runs.{hints_idle}
 use Rattle.liq_store.specs.Telling.{told_by, told_of}
 
-pub prepared_allowed : (s : State) (c : Command) (plan : Plan) → (plan.command ≡ unhinted c) × IsPlan s plan → ruling s c ≡ Allowed
+pub prepared_allowed : (s : State) (c : Command) (plan : Plan) → (plan.command ≡ unhinted c) × IsPlan s plan
+    → ruling s c ≡ Allowed
 prepared_allowed s c plan is = sym (ruling_same s c.client c.number c.call) ∙ planned_allowed s (unhinted c) plan is
 
-pub prepared_steps : (done : Core) (s : State) (c : Command) (plan : Plan) → (plan.command ≡ unhinted c) × IsPlan s plan → StandsFor done (step s (Do plan.command)).0 → StandsFor done (after s c)
-prepared_steps done s c plan is stands = subst (StandsFor done) (after_same s c.client c.number c.call) (stepped done s (unhinted c) plan is stands)
+pub prepared_steps : (done : Core) (s : State) (c : Command) (plan : Plan) → (plan.command ≡ unhinted c) × IsPlan s plan
+    → StandsFor done (step s (Do plan.command)).0 → StandsFor done (after s c)
+prepared_steps done s c plan is stands = subst (StandsFor done) (after_same s c.client c.number c.call)
+    (stepped done s (unhinted c) plan is stands)
 
-pub replied : (done : Core) (s : State) (c : Command) (plan : Plan) (request : Request) (reply : Done) → request ≡ Do c → plan.command ≡ unhinted c → StandsFor done (step s (Do plan.command)).0 → (step s (Do plan.command)).1 ≡ Said reply
+pub replied : (done : Core) (s : State) (c : Command) (plan : Plan) (request : Request) (reply : Done) → request ≡ Do c
+    → plan.command ≡ unhinted c → StandsFor done (step s (Do plan.command)).0 → (step s (Do plan.command)).1
+    ≡ Said reply
     → StandsFor done (step s request).0 × ((step s request).1 ≡ Said reply)
 replied done s c plan request reply is_do is stands said =
     subst (λ (q : Request). StandsFor done (step s q).0 × ((step s q).1 ≡ Said reply)) (sym is_do)
-    (subst (λ (r : State × Reply). StandsFor done r.0 × (r.1 ≡ Said reply)) (ap (λ (k : Command). step s (Do k)) is ∙ sym (hints_idle s c)) (stands, said))
+    (subst (λ (r : State × Reply). StandsFor done r.0 × (r.1 ≡ Said reply)) (ap (λ (k : Command). step s (Do k)) is
+    ∙ sym (hints_idle s c)) (stands, said))
 
 -- what it changes in the ordered list
 changes_same : (s : State) (call : Call) → call_changes s (unhinted_call call) ≡ call_changes s call
@@ -39,7 +46,8 @@ changes_same s (GainToTrove account hint) = refl
 changes_same s (Redeem account lusd bound hint) = refl
 changes_same s _ = refl
 
-pub prepared_told : (s : State) (c : Command) (plan : Plan) (request : Request) → request ≡ Do c → (plan.command ≡ unhinted c) × IsPlan s plan → plan.changes ≡ told_of s request
+pub prepared_told : (s : State) (c : Command) (plan : Plan) (request : Request) → request ≡ Do c
+    → (plan.command ≡ unhinted c) × IsPlan s plan → plan.changes ≡ told_of s request
 prepared_told s c plan request is_do is =
     is.1.changes ∙ ap (λ (k : Command). call_changes s k.call) is.0 ∙ changes_same s c.call
     ∙ ap (λ (r : Ruling). told_by r (call_changes s c.call)) (sym (prepared_allowed s c plan is))
@@ -47,5 +55,9 @@ prepared_told s c plan request is_do is =
 
 -- a rotation has no hint words
 pub unhinted_rotation : (c : Command) → c.call ≡ Rotate → unhinted c ≡ c
-unhinted_rotation c rotates = ap (λ (call : Call). record { client = c.client; number = c.number; call = unhinted_call call }) rotates
+unhinted_rotation c rotates = ap (λ (call : Call). record {
+  client = c.client;
+  number = c.number;
+  call = unhinted_call call;
+}) rotates
     ∙ ap (λ (call : Call). record { client = c.client; number = c.number; call = call }) (sym rotates)

@@ -6,7 +6,8 @@ use Rattle.liq_journal.specs.Crash.{IsBodyOf}
 use Rattle.liq_journal.specs.Written.{is_rotate}
 
 -- a body's command is no rotation
-pub body_stays : (body : List ℕ) (of read : Command) → IsBodyOf body of → command_of body ≡ Ok read → is_rotate read.call ≡ false
+pub body_stays : (body : List ℕ) (of read : Command) → IsBodyOf body of → command_of body ≡ Ok read
+    → is_rotate read.call ≡ false
 body_stays body of read is came =
     let same : of ≡ read = (let spelled = is.spelled in cc (spelled, came)) in
     subst (λ (c : Command). is_rotate c.call ≡ false) same is.no_rotation

@@ -12,17 +12,18 @@ use Rattle.liq_records.specs.declared.answers.AcceptedFault.{AcceptedFault}
 use Rattle.liq_records.specs.declared.answers.AcceptedFault.TheVariants as accepted
 use Rattle.liq_rules.specs.Memory.{IsAccepted, TakesMemory}
 
--- A request in this state, and the protocol after it, of a store that was not stopped: the step's reply; or no memory,
--- where it may be asked for; or a disk's fault, where an accepted command was to be written. Without a reply there was
--- no step.
+-- A request in this state, and the protocol after it, of a store that was not stopped: the step's
+-- reply; or no memory, where it may be asked for; or a disk's fault, where an accepted command was
+-- to be written. Without a reply there was no step.
 abbrev pub Answers : State → Request → Answer → Core → Type 0
-Answers s request (answer.Reply reply) core = StandsFor core (step s request).0 × ((step s request).1 ≡ reply)
+Answers s request (answer.Reply reply) core = StandsFor core (step s request).0
+    × ((step s request).1 ≡ reply)
 Answers s request answer.NoMemory core = StandsFor core s × TakesMemory s request
 Answers s request answer.DiskFault core = StandsFor core s × IsAccepted s request
 Answers s request _ core = ⊥
 
--- A record that was read is no record: its number is among those of the accepted commands, and its bytes, where the
--- journal has it, have another digest than the one behind them, or are no command.
+-- A record that was read is no record: its number is among those of the accepted commands, and its
+-- bytes, where the journal has it, have another digest than the one behind them, or are no command.
 abbrev pub IsUnreadable : (generation start count : ℕ) → AcceptedFault → Type 0
 IsUnreadable generation start count accepted.DiskFault = Unit {0}
 IsUnreadable generation start count (accepted.Damaged damage) =

@@ -60,8 +60,8 @@ pub record StandsStill {D : Type 0} (at : D → DiskAt)
       → (at now_left).seen ≡ Some a → (at now_right).seen ≡ Some b
       → state_on a b ≡ state_on l r
 
--- Why no store begins: a fault was met at the first generation, or there is no memory for what others follow from
--- nothing.
+-- Why no store begins: a fault was met at the first generation, or there is no memory for what
+-- others follow from nothing.
 abbrev pub IsUnbegunBy : {D : Type 0} → (D → DiskAt)
     → (left right : D) → StoreFault D → StoreWhy → Type 0
 IsUnbegunBy at left right e why.DiskFault = Counted (at left).faults (at e.left).faults

@@ -18,16 +18,17 @@ use Rattle.liq_rules.specs.Memory.{IsAccepted}
 use Rattle.liq_store.specs.Rotating.{is_rotation, rotation_of, side_after, start_after}
 use Rattle.liq_store.specs.Stored.{Stored, disk_beside, taken_disk}
 
--- An accepted command that is answered, and is no rotation, makes the device calls of one record, on the disk that is
--- taken.
-abbrev pub AppendsOnce : {D : Type 0} → (D → DiskAt) → Stored D → Request → Answer → Stored D → Type 0
+-- An accepted command that is answered, and is no rotation, makes the device calls of one record,
+-- on the disk that is taken.
+abbrev pub AppendsOnce : {D : Type 0} → (D → DiskAt) → Stored D → Request → Answer → Stored D
+    → Type 0
 AppendsOnce at old request (Reply reply) new =
     (s : State) → StandsFor old.core s → IsAccepted s request → is_rotation s request ≡ false
     → IsLater at 4 (taken_disk old) (taken_disk new)
 AppendsOnce at old request _ new = Unit {0}
 
--- Only an accepted command is written: a rotation on the disk that was beside, which is taken after the reply, and any
--- other on the one that was taken.
+-- Only an accepted command is written: a rotation on the disk that was beside, which is taken after
+-- the reply, and any other on the one that was taken.
 pub record WritesOn {D : Type 0} (at : D → DiskAt) (old : Stored D) (request : Request)
     (answer : Answer) (new : Stored D) : Type 0 where
   pub side : (s : State) → StandsFor old.core s → new.side ≡ side_after answer s request old.side

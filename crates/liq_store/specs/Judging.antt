@@ -42,7 +42,8 @@ IsFine (Err met) = ⊥
 abbrev pub IsJudged : {D : Type 0}
     → Result (Stood D) (StandFault D) → Result (Stood D) (StandFault D) → StoreWhy → Type 0
 IsJudged left right why.DiskFault = MetFault left ⊎ MetFault right
-IsJudged left right (why.Damaged Left damage) = IsDamagedBy damage left × IsFaultless left × IsFaultless right
+IsJudged left right (why.Damaged Left damage) = IsDamagedBy damage left × IsFaultless left
+    × IsFaultless right
 IsJudged left right (why.Damaged Right damage) =
     IsFine left × IsDamagedBy damage right × IsFaultless left × IsFaultless right
 IsJudged left right why.NoMemory = IsFaultless left × IsFaultless right

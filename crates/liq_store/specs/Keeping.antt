@@ -19,8 +19,8 @@ abbrev pub IsKeptNear : State → List ℕ → List ℕ → Type 0
 IsKeptNear s left right =
     IsKept left right s ⊎ ((c : Command) × (ruling s c ≡ Allowed) × IsKept left right (after s c))
 
--- All that a crash may have left of the one disk since it was `left`, beside all that one may have left of the other
--- since it was `right`, has P.
+-- All that a crash may have left of the one disk since it was `left`, beside all that one may have
+-- left of the other since it was `right`, has P.
 abbrev pub LeavesPairs : {D : Type 0} → (D → DiskAt) → D → D → D → D
     → (List ℕ → List ℕ → Type 0) → Type 0
 LeavesPairs at left right now_left now_right P =
@@ -41,8 +41,8 @@ module _ {D : Type 0} (at : D → DiskAt) where
         (l r : List ℕ) → (at store.left).seen ≡ Some l → (at store.right).seen ≡ Some r
         → (s : State) → StandsFor store.core s → IsSettledFor store.side l r s
 
-  -- What both disks tell, and all that a crash now may leave of the one beside all of the other, is kept for the
-  -- protocol's state or for it with one command more.
+  -- What both disks tell, and all that a crash now may leave of the one beside all of the other, is
+  -- kept for the protocol's state or for it with one command more.
   pub record IsHalted (store : Stored D) : Type 0 where
     pub read :
         (l r : List ℕ) → (at store.left).seen ≡ Some l → (at store.right).seen ≡ Some r

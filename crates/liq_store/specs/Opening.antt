@@ -32,8 +32,9 @@ pub record HoldsCommands (odd : Bool) (bytes : List ℕ) (start : ℕ)
   pub begins : start_of written ≡ start
   pub are : written.commands ≡ commands
 
--- The state for which the disks stand is the store's, and the disk that is taken holds the commands that lead there.
--- Nothing met a fault, and the store goes on. The disks stand for what they stood for.
+-- The state for which the disks stand is the store's, and the disk that is taken holds the commands
+-- that lead there. Nothing met a fault, and the store goes on. The disks stand for what they stood
+-- for.
 pub record OpensOn {D : Type 0} (at : D → DiskAt) (left right : D) (store : Stored D) : Type 0 where
   pub state :
       (l r : List ℕ) → (at left).seen ≡ Some l → (at right).seen ≡ Some r
@@ -56,9 +57,9 @@ IsWhyOf left right why.DiskFault = Unit {0}
 IsWhyOf left right (why.Damaged side damage) = state_on left right ≡ Err (side, damage)
 IsWhyOf left right why.NoMemory = Unit {0}
 
--- Why no store was opened: a damage is the first of the disks, and a disk's fault has its count. But for such a fault
--- they stand for what they stood for, or are damaged as they were; after one they are kept for what they were kept for,
--- or for it after the command that they held unfinished.
+-- Why no store was opened: a damage is the first of the disks, and a disk's fault has its count.
+-- But for such a fault they stand for what they stood for, or are damaged as they were; after one
+-- they are kept for what they were kept for, or for it after the command that they held unfinished.
 pub record IsNotOpened {D : Type 0} (at : D → DiskAt)
     (left right : D) (fault : StoreFault D) : Type 0 where
   pub cause : CausesWhy fault.why (counts_of at left right) (counts_of at fault.left fault.right)

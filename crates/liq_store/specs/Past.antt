@@ -11,9 +11,10 @@ use Rattle.liq_pairs.specs.Past.{IsAsItStood, IsOfRun, LeavesPast, NoFault}
 use Rattle.liq_pairs.specs.Sides.{on, other}
 use Rattle.liq_store.specs.Stored.{Stored, disk_beside}
 
--- The store answered these requests and met no fault, and both its disks tell their bytes. It began with l and r on
--- them, kept for the state `start`; since these moments each image of either disk is one of the run. So is what is on
--- the disk beside, and so it is with another byte at place 0, where no shut gate is.
+-- The store answered these requests and met no fault, and both its disks tell their bytes. It began
+-- with l and r on them, kept for the state `start`; since these moments each image of either disk
+-- is one of the run. So is what is on the disk beside, and so it is with another byte at place 0,
+-- where no shut gate is.
 pub record Past {D : Type 0} (at : D → DiskAt) (since : Side → ℕ) (l r : List ℕ) (start : State)
     (requests : List Request) (store : Stored D) : Type 0 where
   pub kept : IsKept l r start

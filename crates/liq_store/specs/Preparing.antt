@@ -13,17 +13,20 @@ use Rattle.liq_rules.specs.Memory.{TakesMemory}
 use Rattle.liq_store.specs.declared.preparing.Prepared.{Prepared}
 use Rattle.liq_store.specs.declared.preparing.Prepared.TheVariants.{Ready, Again, No, NoMemory}
 
--- It is planned without its own hint words; or it comes again, or is refused; or memory was asked for.
+-- It is planned without its own hint words; or it comes again, or is refused; or memory was asked
+-- for.
 abbrev pub IsPrepared : State → Command → Prepared → Type 0
 IsPrepared s c (Ready plan exact) = (plan.command ≡ unhinted c) × IsPlan s plan
 IsPrepared s c (Again kept) = ruling s c ≡ Repeated kept
 IsPrepared s c (No refusal) = ruling s c ≡ Refused refusal
 IsPrepared s c NoMemory = TakesMemory s (Do c)
 
--- for what is planned there is room, and in the journal for one record more, unless it is a rotation
+-- for what is planned there is room, and in the journal for one record more, unless it is a
+-- rotation
 abbrev pub IsReady : Command → Core → Prepared → Type 0
 IsReady c core (Ready plan exact) =
-    (plan.command ≡ unhinted c) × HasRoom core plan × (is_rotate c.call ≡ false → core.records < RECORDS_MOST)
+    (plan.command ≡ unhinted c) × HasRoom core plan × (is_rotate c.call ≡ false
+    → core.records < RECORDS_MOST)
 IsReady c core _ = Unit {0}
 
 -- behind so many changes there is room for those of what is planned

@@ -19,7 +19,8 @@ abbrev pub is_rotation : State → Request → Bool
 is_rotation s (Do c) = is_rotate c.call && is_allowed (ruling s c)
 is_rotation s (Ask query) = false
 
--- the journal that it begins: of the next generation, with the image of the state after it as its checkpoint
+-- the journal that it begins: of the next generation, with the image of the state after it as its
+-- checkpoint
 abbrev pub rotation_of : State → Command → Written
 rotation_of s c = beginning (s.generation + 1) (spelling (image (after s c)))
 
@@ -30,5 +31,6 @@ side_after _ s request side = side
 
 -- where its records begin
 abbrev pub start_after : Answer → State → Request → ℕ → ℕ
-start_after (answer.Reply reply) s (Do c) start = if is_rotation s (Do c) then start_of (rotation_of s c) else start
+start_after (answer.Reply reply) s (Do c) start = if is_rotation s (Do c)
+    then start_of (rotation_of s c) else start
 start_after _ s request start = start

@@ -69,7 +69,8 @@ OnlyShuts odd held bytes =
 -- a disk on which no gate other than 0 is at place 0, or whole records and a 0 behind them
 abbrev pub IsLeftOn : {D : Type 0} → List ℕ → Result (Stood D) (StandFault D) → Type 0
 IsLeftOn after (Ok (Nothing disk)) = IsUnshut after → ⊥
-IsLeftOn after (Ok (Holding journal core)) = IsSettled journal.generation journal.start journal.count after
+IsLeftOn after (Ok (Holding journal core)) =
+    IsSettled journal.generation journal.start journal.count after
 IsLeftOn after (Err met) = Unit {0}
 
 -- the protocol has the journal's generation, and as many records

@@ -16,7 +16,8 @@ pub record Stored (D : Type 0) : Type 0 where
   pub core : Core
   -- the sum of both counts of faults after the first call that met one
   pub stopped : Option ℕ
-  -- what the calls did to the ordered list since the changes were last cleared, behind what the opening told
+  -- what the calls did to the ordered list since the changes were last cleared, behind what the
+  -- opening told
   pub changes : List ListChange
 
 -- the disk on which the journal goes on

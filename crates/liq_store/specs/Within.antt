@@ -32,8 +32,8 @@ pub record HasRecords (generation start count : ℕ) (bytes : List ℕ) : Type 0
   pub journal : IsJournalOf generation start bytes written
   pub within : count ≤ length written.commands
 
--- The journal has the protocol's generation, and as many records as it counts; while the store is not stopped no more,
--- and a 0 behind them.
+-- The journal has the protocol's generation, and as many records as it counts; while the store is
+-- not stopped no more, and a 0 behind them.
 pub record IsWithin {D : Type 0} (at : D → DiskAt) (side : Side) (taken : JournalOn D) (beside : D)
     (core : Core) (stopped : Option ℕ) (changes : List ListChange) : Type 0 where
   pub order : IsInOrder at (stored side taken beside core stopped changes)

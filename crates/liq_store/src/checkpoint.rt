@@ -1,4 +1,5 @@
-// What a journal begins with: the first one with the opening under its limit, each later one with its checkpoint.
+// What a journal begins with: the first one with the opening under its limit, each later one with
+// its checkpoint.
 ghost use Rattle.std.specs.Prelude.{◌≡◌, ◌≢◌, ◌+◌, ◌<◌, ◌^◌, Ok, Err, IfOk};
 ghost use Rattle.liq_types.specs.Image.{IsLimit};
 ghost use Rattle.liq_types.specs.Soundness.{HasTables};
@@ -16,10 +17,14 @@ use liq_records::{AcceptedFault, is_of};
 use liq_types::Image;
 use std::alloc::Global;
 
-// The checkpoint of a journal of this limit is damaged: what begins at this place of it, behind the header, fits nothing.
+// The checkpoint of a journal of this limit is damaged: what begins at this place of it, behind the
+// header, fits nothing.
 fn misshapen(limit: u64, place: u64) -> AcceptedFault
     requires { place < 2 ^ 63 }
-    ensures { result ≡ AcceptedFault.Damaged (record { index = 0; what = What.Form (header_size (layout_with limit) + place) }) }
+    ensures { result ≡ AcceptedFault.Damaged (record {
+      index = 0;
+      what = What.Form (header_size (layout_with limit) + place);
+    }) }
 {
     let what = What::Form {
         place: header_size(limit) + place,
@@ -27,7 +32,8 @@ fn misshapen(limit: u64, place: u64) -> AcceptedFault
     AcceptedFault::Damaged(Damage { index: 0, what })
 }
 
-// The protocol with which a journal of this generation and this limit begins. The first one has no checkpoint.
+// The protocol with which a journal of this generation and this limit begins. The first one has no
+// checkpoint.
 pub fn base(
     alloc: Global,
     generation: u64,
@@ -35,7 +41,8 @@ pub fn base(
     checkpoint: &[u8],
 ) -> Result<Guided, AcceptedFault>
     requires { IsLimit limit }
-    ensures begins { (w : Written) → w.generation ≡ generation → w.limit ≡ limit → w.checkpoint ≡ checkpoint.now
+    ensures begins { (w : Written) → w.generation ≡ generation → w.limit ≡ limit
+        → w.checkpoint ≡ checkpoint.now
         → BeginsTo (base_of w) result }
     ensures generation { IfOk result (λ core. core.image.generation ≡ generation) }
     ensures records { IfOk result (λ core. core.records ≡ 0) }

@@ -1,5 +1,6 @@
-//! The protocol over two disks: each command that is accepted is on a disk before it is answered, and a stop at any moment leaves
-//! two disks from which the state before the call or after it is opened again.
+//! The protocol over two disks: each command that is accepted is on a disk before it is answered,
+//! and a stop at any moment leaves two disks from which the state before the call or after it is
+//! opened again.
 #![tactic(auto)]
 
 mod answers;

@@ -17,8 +17,8 @@ use std::sync::ledger::{Blank, Ledger};
 // What comes of a command before anything is written.
 #[derive(Drop)]
 pub enum Prepared {
-    // It is planned, and there is room for it. The guide says between whom the account will stand that
-    // it puts last, if it puts any.
+    // It is planned, and there is room for it. The guide says between whom the account will stand
+    // that it puts last, if it puts any.
     Ready(Planned, Option<Hint>),
     // It comes again, and makes no step.
     Again(Done),
@@ -27,8 +27,9 @@ pub enum Prepared {
     NoMemory,
 }
 
-// Plans a command without its own hint words, which change nothing but how far the list is walked, and makes room for it, also
-// behind the changes that others follow. What is seen of these and of the protocol stays.
+// Plans a command without its own hint words, which change nothing but how far the list is walked,
+// and makes room for it, also behind the changes that others follow. What is seen of these and of
+// the protocol stays.
 pub fn prepare(protocol: &mut Guided, changes: &mut Vec<ListChange>, command: &Command) -> Prepared
     ensures same { SameContent protocol.old protocol.new }
     ensures changes { changes.new.items ≡ changes.old.items }
@@ -44,7 +45,8 @@ pub fn prepare(protocol: &mut Guided, changes: &mut Vec<ListChange>, command: &C
         Err(PlanFault::No(refusal)) => return Prepared::No(refusal),
         Err(PlanFault::NoMemory) => return Prepared::NoMemory,
     };
-    // Before the protocol's room: there the guide follows what is planned, and nothing may be refused behind it.
+    // Before the protocol's room: there the guide follows what is planned, and nothing may be
+    // refused behind it.
     let Ok(()) = changes.try_reserve(planned.list_changes().len()) else {
         return Prepared::NoMemory;
     };
@@ -55,19 +57,16 @@ pub fn prepare(protocol: &mut Guided, changes: &mut Vec<ListChange>, command: &C
 }
 
 // Makes the step of a planned command. Its steps are counted on a ledger of their own.
-pub fn make<L: Ledger>(
-    protocol: &mut Guided,
-    planned: Planned,
-    hints: &Hints,
-    blank: Blank,
-) -> Done
+pub fn make<L: Ledger>(protocol: &mut Guided, planned: Planned, hints: &Hints, blank: Blank) -> Done
     requires name { blank.name ≡ L.name }
     requires parts { blank.parts ≡ L.parts }
     requires one { L.parts ≡ 1 }
     requires planned { IsPlannedOn protocol.old planned }
     requires room { HasRoom protocol.old planned }
-    ensures state { (s : State) → StandsFor protocol.old s → StandsFor protocol.new (step s (Do planned.command)).0 }
-    ensures reply { (s : State) → StandsFor protocol.old s → (step s (Do planned.command)).1 ≡ Said result }
+    ensures state { (s : State) → StandsFor protocol.old s
+        → StandsFor protocol.new (step s (Do planned.command)).0 }
+    ensures reply { (s : State) → StandsFor protocol.old s → (step s (Do planned.command)).1
+        ≡ Said result }
 {
     let mut steps = Steps::<L>::new(blank);
     protocol.apply(planned, hints, &mut steps)

@@ -27,7 +27,8 @@ pub fn checkpoint_after(
     ensures rotation { IfOk result (λ bytes. (s : State) → StandsFor protocol.now s
         → IsRotationOf s (beginning (s.generation + 1) bytes.items) planned.now.command) }
     ensures generation { protocol.now.image.generation + 1 ≤ GENERATIONS_MOST }
-    ensures size { IfOk result (λ bytes. is_size (protocol.now.image.generation + 1) (length bytes.items) ≡ true) }
+    ensures size { IfOk result (λ bytes. is_size (protocol.now.image.generation + 1)
+        (length bytes.items) ≡ true) }
 {
     protocols_are_sound(protocol);
     protocols_stand(protocol);

@@ -60,9 +60,9 @@ fn sum_of_faults<D: Disk>(taken: &Journal<D>, beside: &D) -> u64
     taken.faults().saturating_add(beside.faults())
 }
 
-/// The protocol over two disks. A contract sees the disks, the side on which the journal goes on and where its records begin, the
-/// protocol, the changes of the ordered list that nobody has followed yet, and, once a call met a disk's fault, the sum of both
-/// counts of faults then.
+/// The protocol over two disks. A contract sees the disks, the side on which the journal goes on
+/// and where its records begin, the protocol, the changes of the ordered list that nobody has
+/// followed yet, and, once a call met a disk's fault, the sum of both counts of faults then.
 pub struct Store<D: Disk> {
     alloc: Global,
     taken: Journal<D>,
@@ -97,26 +97,31 @@ impl<D: Disk> Model for Store<D> {
 
     ghost view = { λ s. stored s.side s.taken s.beside s.protocol s.stopped s.changes.items };
 
-    ghost invariant = { λ s. IsWithin D.at s.side s.taken s.beside s.protocol s.stopped s.changes.items };
+    ghost invariant = { λ s. IsWithin D.at s.side s.taken s.beside s.protocol s.stopped
+        s.changes.items };
 }
 
 impl<D: Disk> Store<D> {
     ghost use Rattle.liq_store.specs.Opening.{IsNotOpened, OpensOn, left_after, right_after};
 
-    /// Opens the store of two disks. Each begins with a sync and is tested whole, and the byte behind the records of an open one is
-    /// shut; then the records of the one that is taken are replayed. Where neither is open, generation 1 is created on the left one.
+    /// Opens the store of two disks. Each begins with a sync and is tested whole, and the byte
+    /// behind the records of an open one is shut; then the records of the one that is taken are
+    /// replayed. Where neither is open, generation 1 is created on the left one.
     ///
-    /// A journal of version 1 goes on in its own layout and under its own limit, until a rotation begins the next generation
-    /// under the greater one.
+    /// A journal of version 1 goes on in its own layout and under its own limit, until a rotation
+    /// begins the next generation under the greater one.
     ///
-    /// `DiskFault` comes exactly where a disk's count rose. `Damaged` has the first damage, the left disk's coming first: nothing is
-    /// opened then, and the damage stays. The changes then tell the list to whoever has seen nothing.
+    /// `DiskFault` comes exactly where a disk's count rose. `Damaged` has the first damage, the
+    /// left disk's coming first: nothing is opened then, and the damage stays. The changes then
+    /// tell the list to whoever has seen nothing.
     pub fn open(alloc: Global, left: D, right: D) -> Result<Store<D>, StoreFault<D>>
-        // The state is the one for which the disks stand; where there is none, nothing is opened. Either way the counts tell the cause.
+        // The state is the one for which the disks stand; where there is none, nothing is opened.
+        // Either way the counts tell the cause.
         ensures opened { IfOk result (OpensOn D.at left right) }
         ensures not_opened { IfErr result (IsNotOpened D.at left right) }
         ensures order { IfOk result (IsInOrder D.at) }
-        // The words of which keys are made, and then each trove in the list's order: who follows them from nothing has the list.
+        // The words of which keys are made, and then each trove in the list's order: who follows
+        // them from nothing has the list.
         ensures told { IfOk result (λ store. store.changes
             ≡ told_whole store.core.image store.core.list) }
         ensures followed { IfOk result (λ store. (s : State) → StandsFor store.core s
@@ -125,20 +130,21 @@ impl<D: Disk> Store<D> {
         ensures shut { IfOk result (λ store. IfSome (D.at (disk_beside store)).seen
             (λ now. found_on (has_odd (other store.side)) now ≡ Absent → IsUnshut now → ⊥)) }
 
-        // Where nothing is opened and no disk met a fault nothing is pending: both disks are synced before either is judged.
+        // Where nothing is opened and no disk met a fault nothing is pending: both disks are synced
+        // before either is judged.
         ensures rests { IfErr result (λ e. (e.why ≢ StoreWhy.DiskFault)
             → IsAtRest D.at e.left × IsAtRest D.at e.right) }
 
-        // Where one of them was damaged, and no disk met a fault, both tell their bytes as they were, or with a 0 at the one
-        // place that an opening shuts.
+        // Where one of them was damaged, and no disk met a fault, both tell their bytes as they
+        // were, or with a 0 at the one place that an opening shuts.
         ensures damaged { IfErr result (λ e. (e.why ≢ StoreWhy.DiskFault)
             → (l r a b : List ℕ) (first : Side × Damage)
             → (D.at left).seen ≡ Some l → (D.at right).seen ≡ Some r → state_on l r ≡ Err first
             → (D.at e.left).seen ≡ Some a → (D.at e.right).seen ≡ Some b
             → OnlyShuts true l a × OnlyShuts false r b) }
 
-        // Of two disks that are kept for a state a stop leaves two that are kept for it, or for it after the command that they held
-        // unfinished; and so does a fault, whatever was pending.
+        // Of two disks that are kept for a state a stop leaves two that are kept for it, or for it
+        // after the command that they held unfinished; and so does a fault, whatever was pending.
         ensures recovers { (l r : List ℕ) (s : State) → (D.at left).seen ≡ Some l
             → (D.at right).seen ≡ Some r → Only l (LeftNow D.at left) → Only r (LeftNow D.at right)
             → IsKept l r s
@@ -169,12 +175,13 @@ impl<D: Disk> Store<D> {
         }
     }
 
-    /// Answers a request: the protocol's reply, once the record of an accepted command is on the disk that is taken, or
-    /// the next generation that an accepted rotation begins is on the other one, which is then taken.
+    /// Answers a request: the protocol's reply, once the record of an accepted command is on the
+    /// disk that is taken, or the next generation that an accepted rotation begins is on the other
+    /// one, which is then taken.
     ///
-    /// After `DiskFault` the store is stopped: every later call is answered `Stopped`, with the sum of both counts after
-    /// that one. After `NoMemory` all is as before. The store has a guide of its list, whose hint counts
-    /// before the command's own words and before the given one.
+    /// After `DiskFault` the store is stopped: every later call is answered `Stopped`, with the sum
+    /// of both counts after that one. After `NoMemory` all is as before. The store has a guide of
+    /// its list, whose hint counts before the command's own words and before the given one.
     pub fn call(&mut self, request: &Request, hint: &Hint) -> Answer
         // A store that is stopped answers that, to queries too, and stays as it is.
         ensures stopped { (sum : ℕ) → self.old.stopped ≡ Some sum → (result ≡ Answer.Stopped sum)
@@ -194,8 +201,8 @@ impl<D: Disk> Store<D> {
             (record { left = (D.at self.old.left).faults; right = (D.at self.old.right).faults })
             (record { left = (D.at self.new.left).faults; right = (D.at self.new.right).faults }) }
 
-        // Only an accepted command is written. A stop leaves two disks that are kept for the state before the call or
-        // after it; after a reply, by `order`, for that after it.
+        // Only an accepted command is written. A stop leaves two disks that are kept for the state
+        // before the call or after it; after a reply, by `order`, for that after it.
         ensures disks { WritesOn D.at self.old request.now result self.new }
         ensures appended { AppendsOnce D.at self.old request.now result self.new }
         ensures order { IsInOrder D.at self.new }
@@ -209,8 +216,8 @@ impl<D: Disk> Store<D> {
         self.carry_out(request, hint)
     }
 
-    // The same of a command, where the store isn't stopped: apart, so that what its plan takes is neither cleared nor
-    // moved for a query.
+    // The same of a command, where the store isn't stopped: apart, so that what its plan takes is
+    // neither cleared nor moved for a query.
     fn carry_out(&mut self, request: &Request, hint: &Hint) -> Answer
         requires going { self.old.stopped ≡ None }
         requires command { (query : Query) → request.now ≢ Ask query }
@@ -292,9 +299,11 @@ impl<D: Disk> Store<D> {
         self.protocol.protocol()
     }
 
-    /// The commands that were accepted in this generation, in order. It reads the disk that is taken.
+    /// The commands that were accepted in this generation, in order. It reads the disk that is
+    /// taken.
     ///
-    /// After `DiskFault` the store is stopped. `Damaged` never comes where the disk tells its content.
+    /// After `DiskFault` the store is stopped. `Damaged` never comes where the disk tells its
+    /// content.
     pub fn accepted(&mut self) -> Result<Vec<Command>, AcceptedFault>
         ensures commands { IfOk result (λ list. (held : List ℕ) (w : Written)
             → (D.at (taken_disk self.old)).seen ≡ Some held
@@ -335,8 +344,8 @@ impl<D: Disk> Store<D> {
         }
     }
 
-    /// The changes of the ordered list by the calls since they were last cleared, in order, behind those that told the list at the
-    /// opening, if they were not cleared since.
+    /// The changes of the ordered list by the calls since they were last cleared, in order, behind
+    /// those that told the list at the opening, if they were not cleared since.
     pub fn changes(&self) -> &[ListChange]
         ensures { result.now ≡ self.now.changes }
     {
@@ -390,7 +399,8 @@ impl<D: Disk> Store<D> {
     }
 }
 
-// The store of two disks with which nothing is wrong, and its list as others follow it from nothing.
+// The store of two disks with which nothing is wrong, and its list as others follow it from
+// nothing.
 fn begin_told<D: Disk>(
     alloc: Global,
     left: Stood<D>,
@@ -418,7 +428,8 @@ fn begin_told<D: Disk>(
     }
 }
 
-// The store, with its list as others follow it from nothing. Where there is no memory for that, its disks.
+// The store, with its list as others follow it from nothing. Where there is no memory for that, its
+// disks.
 fn with_list<D: Disk>(store: Store<D>) -> Result<Store<D>, StoreFault<D>>
     ensures store { IfOk result (λ listed. listed ≡ record store { changes = listed.changes }) }
     ensures order { IfOk result (IsInOrder D.at) }
@@ -443,8 +454,8 @@ fn with_list<D: Disk>(store: Store<D>) -> Result<Store<D>, StoreFault<D>>
     }
 }
 
-// The store of two disks with which nothing is wrong. Of two journals the one of the greater generation
-// is taken; where there is none, the first is created on the left disk.
+// The store of two disks with which nothing is wrong. Of two journals the one of the greater
+// generation is taken; where there is none, the first is created on the left disk.
 fn begin<D: Disk>(alloc: Global, left: Stood<D>, right: Stood<D>) -> Result<Store<D>, StoreFault<D>>
     requires left { IsStoodOn D.at true left }
     requires right { IsStoodOn D.at false right }

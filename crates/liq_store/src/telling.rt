@@ -4,7 +4,8 @@ ghost use Rattle.std.specs.Prelude.{◌≡◌, ◌≤◌, ◌+◌, ◌++◌, [],
 use liq_types::ListChange;
 use std::alloc::Global;
 
-// Room for so many changes is kept from call to call. Few calls make more, and an opening tells the whole list.
+// Room for so many changes is kept from call to call. Few calls make more, and an opening tells the
+// whole list.
 const KEPT: usize = 64;
 
 // Notes what a command changes, for which there is room.

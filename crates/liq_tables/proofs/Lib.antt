@@ -1,5 +1,5 @@
 pub mod Filling
-pub mod Listed
-pub mod Numbers
-pub mod Pages
-pub mod Room
+mod Listed
+mod Numbers
+mod Pages
+mod Room

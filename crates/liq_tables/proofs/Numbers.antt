@@ -46,7 +46,8 @@ module _ (pages : List (List ℕ)) (i : ℕ) (page : List ℕ) where
   was key same = ap (λ j. get_or (get_or pages j []) (key % KEYS) NONE) same
 
   -- a page whose numbers stay
-  pub place-kept : i < length pages → ((n : ℕ) → get_or page n NONE ≡ get_or (get_or pages i []) n NONE) → (key : ℕ) → place (set pages i page) key ≡ place pages key
+  pub place-kept : i < length pages → ((n : ℕ) → get_or page n NONE ≡ get_or (get_or pages i []) n NONE) → (key : ℕ)
+      → place (set pages i page) key ≡ place pages key
   place-kept there kept key = by (cases_eq (key / KEYS) i) where
     by : ((key / KEYS ≡ i) ⊎ (key / KEYS ≢ i)) → place (set pages i page) key ≡ place pages key
     by (inl same) = here there key same ∙ kept (key % KEYS) ∙ sym (was key same)
@@ -56,12 +57,14 @@ module _ (pages : List (List ℕ)) (i : ℕ) (page : List ℕ) where
 abbrev pub numbered : List (List ℕ) → ℕ → ℕ → List (List ℕ)
 numbered pages key number = set pages (key / KEYS) (set (get_or pages (key / KEYS) []) (key % KEYS) number)
 
-pub place-written : (pages : List (List ℕ)) (key number : ℕ) → HasPage pages key → place (numbered pages key number) key ≡ number
+pub place-written : (pages : List (List ℕ)) (key number : ℕ) → HasPage pages key → place (numbered pages key number) key
+    ≡ number
 place-written pages key number has =
     here pages (key / KEYS) (set (get_or pages (key / KEYS) []) (key % KEYS) number) (page_there pages key has) key refl
     ∙ get_or-set_same (get_or pages (key / KEYS) []) (key % KEYS) number NONE has
 
-pub place-other : (pages : List (List ℕ)) (key number : ℕ) → HasPage pages key → (k : ℕ) → k ≢ key → place (numbered pages key number) k ≡ place pages k
+pub place-other : (pages : List (List ℕ)) (key number : ℕ) → HasPage pages key → (k : ℕ) → k ≢ key
+    → place (numbered pages key number) k ≡ place pages k
 place-other pages key number has k apart = by (cases_eq (k / KEYS) (key / KEYS)) where
   old : List ℕ
   old = get_or pages (key / KEYS) []
@@ -76,7 +79,8 @@ place-other pages key number has k apart = by (cases_eq (k / KEYS) (key / KEYS))
       ∙ sym (was pages (key / KEYS) new k same)
   by (inr other) = elsewhere pages (key / KEYS) new k other
 
-map_set : {V : Type 0} (f : V → List ℕ) (pages : List V) (i : ℕ) (p : V) → map f (set pages i p) ≡ set (map f pages) i (f p)
+map_set : {V : Type 0} (f : V → List ℕ) (pages : List V) (i : ℕ) (p : V)
+    → map f (set pages i p) ≡ set (map f pages) i (f p)
 map_set f [] i p = refl
 map_set f (q ∷ qs) zero p = refl
 map_set f (q ∷ qs) (suc i) p = ap (λ l. f q ∷ l) (map_set f qs i p)
@@ -97,9 +101,14 @@ module _ {V : Type 0} (f : V → List ℕ) (pages : List V) where
   pub place-past : (key : ℕ) → length pages ≤ key / KEYS → place (map f pages) key ≡ NONE
   unfolding place
   place-past key past =
-      ap (λ p. get_or p (key % KEYS) NONE) (get_or_past (map f pages) (key / KEYS) [] (omega (arith, past, length-map pages f)))
+      ap (λ p. get_or p (key % KEYS) NONE) (get_or_past (map f pages) (key / KEYS) [] (omega (
+        arith,
+        past,
+        length-map pages f,
+      )))
 
-  pub place-in : (key : ℕ) (p : V) → key / KEYS < length pages → p ≡ get_or pages (key / KEYS) p → place (map f pages) key ≡ get_or (f p) (key % KEYS) NONE
+  pub place-in : (key : ℕ) (p : V) → key / KEYS < length pages → p ≡ get_or pages (key / KEYS) p
+      → place (map f pages) key ≡ get_or (f p) (key % KEYS) NONE
   unfolding place
   place-in key p less read =
       ap (λ l. get_or l (key % KEYS) NONE) (get_or-map f pages (key / KEYS) p [] less ∙ ap f (sym read))
@@ -108,19 +117,25 @@ module _ {V : Type 0} (f : V → List ℕ) (pages : List V) where
   place-pushed p none key =
       ap (λ l. place l key) (map_push f pages p ∙ ap (λ l. map f pages ++ l ∷ []) none) ∙ place-added (map f pages) key
 
-  pub numbered-through : (key number : ℕ) (p q : V) → key / KEYS < length pages → p ≡ get_or pages (key / KEYS) p → f q ≡ set (f p) (key % KEYS) number → map f (set pages (key / KEYS) q) ≡ numbered (map f pages) key number
+  pub numbered-through : (key number : ℕ) (p q : V) → key / KEYS < length pages → p ≡ get_or pages (key / KEYS) p
+      → f q ≡ set (f p) (key % KEYS) number → map f (set pages (key / KEYS) q) ≡ numbered (map f pages) key number
   numbered-through key number p q less read e =
       map_set f pages (key / KEYS) q
-      ∙ ap (λ l. set (map f pages) (key / KEYS) l) (e ∙ ap (λ l. set l (key % KEYS) number) (ap f read ∙ sym (get_or-map f pages (key / KEYS) p [] less)))
+      ∙ ap (λ l. set (map f pages) (key / KEYS) l) (e ∙ ap (λ l. set l (key % KEYS) number) (ap f read
+      ∙ sym (get_or-map f pages (key / KEYS) p [] less)))
 
-  pub place-filled : (i : ℕ) (p q : V) → i < length pages → p ≡ get_or pages i p → ((n : ℕ) → get_or (f q) n NONE ≡ get_or (f p) n NONE) → (key : ℕ) → place (map f (set pages i q)) key ≡ place (map f pages) key
+  pub place-filled : (i : ℕ) (p q : V) → i < length pages → p ≡ get_or pages i p
+      → ((n : ℕ) → get_or (f q) n NONE ≡ get_or (f p) n NONE) → (key : ℕ) → place (map f (set pages i q)) key
+      ≡ place (map f pages) key
   place-filled i p q less read kept key =
       ap (λ l. place l key) (map_set f pages i q)
       ∙ place-kept (map f pages) i (f q) (omega (arith, less, length-map pages f))
       (λ n. kept n ∙ ap (λ l. get_or l n NONE) (ap f read ∙ sym (get_or-map f pages i p [] less))) key
 
-  pub page-filled : (key : ℕ) (q : V) → key / KEYS < length pages → KEYS ≤ length (f q) → HasPage (map f (set pages (key / KEYS) q)) key
+  pub page-filled : (key : ℕ) (q : V) → key / KEYS < length pages → KEYS ≤ length (f q)
+      → HasPage (map f (set pages (key / KEYS) q)) key
   page-filled key q less long =
       let page : get_or (map f (set pages (key / KEYS) q)) (key / KEYS) [] ≡ f q =
-      ap (λ l. get_or l (key / KEYS) []) (map_set f pages (key / KEYS) q) ∙ get_or-set_same (map f pages) (key / KEYS) (f q) [] (omega (arith, less, length-map pages f)) in
+      ap (λ l. get_or l (key / KEYS) []) (map_set f pages (key / KEYS) q) ∙ get_or-set_same (map f pages) (key / KEYS)
+      (f q) [] (omega (arith, less, length-map pages f)) in
       subst (λ (l : List ℕ). key % KEYS < length l) (sym page) (omega (arith, long, mod_below key KEYS (omega arith)))

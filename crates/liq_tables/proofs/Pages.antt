@@ -41,7 +41,8 @@ module _ {X : Type 0} where
   get-push_other (y ∷ ys) (suc n) x apart = get-push_other ys n x (λ e. apart (ap suc e))
 
   -- what a look-up by number gives
-  found_by : {B : Type 0} (f : B → X) (o : Option B) (xs : List X) (n : ℕ) → is_some o ≡ ltb n (length xs) → IfSome o (λ x. f x ≡ get_or xs n (f x)) → option_map f o ≡ slice_get xs n
+  found_by : {B : Type 0} (f : B → X) (o : Option B) (xs : List X) (n : ℕ) → is_some o ≡ ltb n (length xs)
+      → IfSome o (λ x. f x ≡ get_or xs n (f x)) → option_map f o ≡ slice_get xs n
   found_by f None xs n is v = sym (slice_get_past xs n (grind (arith, nat_tests, is)))
   found_by f (Some x) xs n is v = sym (slice_get_read xs (length xs) n (f x) refl (grind (arith, nat_tests, is)) v)
 
@@ -60,19 +61,24 @@ no_index = record { few = omega arith; known = λ key. inr refl; apart = λ j k 
 unpaged : (pages : List (List ℕ)) (key : ℕ) → KEYS * length pages ≤ key → place pages key ≡ NONE
 unfolding place
 unpaged pages key past =
-    ap (λ page. get_or page (key % KEYS) NONE) (get_or_past pages (key / KEYS) [] (le-div (length pages) key KEYS (omega arith) (omega (arith, past))))
+    ap (λ page. get_or page (key % KEYS) NONE) (get_or_past pages (key / KEYS) [] (le-div (length pages) key KEYS
+    (omega arith) (omega (arith, past))))
 
 module _ {X : Type 0} where
-  pub at-entries : (pages : List (List ℕ)) (rows : List X) → length rows ≤ NONE → (key : ℕ) → at (entries pages rows) key ≡ row_at pages rows key
+  pub at-entries : (pages : List (List ℕ)) (rows : List X) → length rows ≤ NONE → (key : ℕ)
+      → at (entries pages rows) key ≡ row_at pages rows key
   at-entries pages rows few key = by (cases_lt key (KEYS * length pages)) where
-    by : ((key < KEYS * length pages) ⊎ (KEYS * length pages ≤ key)) → at (entries pages rows) key ≡ row_at pages rows key
+    by : ((key < KEYS * length pages) ⊎ (KEYS * length pages ≤ key)) → at (entries pages rows) key
+        ≡ row_at pages rows key
     by (inl within) = at_listed (row_at pages rows) key 0 (KEYS * length pages) (omega arith) (omega (arith, within))
     by (inr past) =
         at_behind (row_at pages rows) key 0 (KEYS * length pages) (omega (arith, past))
         ∙ sym (ap (λ n. slice_get rows n) (unpaged pages key past) ∙ slice_get_past rows NONE few)
 
   -- what a look-up by number gives is the row at the key
-  pub at-index : {B : Type 0} (f : B → X) (o : Option B) (xs : List X) (table : Table X) (pages : List (List ℕ)) (rows : List X) (n key : ℕ) → xs ≡ rows → entries pages rows ≡ table → length rows ≤ NONE → n ≡ place pages key → is_some o ≡ ltb n (length xs) → IfSome o (λ x. f x ≡ get_or xs n (f x)) → option_map f o ≡ at table key
+  pub at-index : {B : Type 0} (f : B → X) (o : Option B) (xs : List X) (table : Table X) (pages : List (List ℕ))
+      (rows : List X) (n key : ℕ) → xs ≡ rows → entries pages rows ≡ table → length rows ≤ NONE → n ≡ place pages key
+      → is_some o ≡ ltb n (length xs) → IfSome o (λ x. f x ≡ get_or xs n (f x)) → option_map f o ≡ at table key
   at-index f o xs table pages rows n key same view few number is read =
       found_by f o xs n is read
       ∙ ap (λ (l : List X). slice_get l n) same
@@ -84,14 +90,16 @@ module _ {X : Type 0} where
   ascends-entries pages rows = ascends_listed (row_at pages rows) 0 (KEYS * length pages)
 
   -- the same numbers lead to the same rows
-  pub entries-same : (new old : List (List ℕ)) (rows : List X) → length rows ≤ NONE → ((k : ℕ) → place new k ≡ place old k) → entries new rows ≡ entries old rows
+  pub entries-same : (new old : List (List ℕ)) (rows : List X) → length rows ≤ NONE
+      → ((k : ℕ) → place new k ≡ place old k) → entries new rows ≡ entries old rows
   entries-same new old rows few same =
       same_rows (entries new rows) (entries old rows) (ascends-entries new rows) (ascends-entries old rows)
       (λ key. at-entries new rows few key ∙ ap (λ n. slice_get rows n) (same key) ∙ sym (at-entries old rows few key))
 
   -- ---- another row at a key
 
-  pub index-set : (pages : List (List ℕ)) (rows : List X) (n : ℕ) (x : X) → IsIndex pages rows → IsIndex pages (set rows n x)
+  pub index-set : (pages : List (List ℕ)) (rows : List X) (n : ℕ) (x : X) → IsIndex pages rows
+      → IsIndex pages (set rows n x)
   index-set pages rows n x h =
       let long : length rows ≡ length (set rows n x) = sym (length-set rows n x) in
       record {
@@ -100,18 +108,23 @@ module _ {X : Type 0} where
         apart = λ j k less e. h.apart j k (subst (λ l. place pages j < l) (sym long) less) e;
       }
 
-  pub entries-set : (pages : List (List ℕ)) (rows : List X) (key : ℕ) (x : X) → IsIndex pages rows → place pages key < length rows → entries pages (set rows (place pages key) x) ≡ put (entries pages rows) key x
+  pub entries-set : (pages : List (List ℕ)) (rows : List X) (key : ℕ) (x : X) → IsIndex pages rows
+      → place pages key < length rows → entries pages (set rows (place pages key) x) ≡ put (entries pages rows) key x
   entries-set pages rows key x h less =
-      same_rows (entries pages (set rows (place pages key) x)) (put (entries pages rows) key x) (ascends-entries pages (set rows (place pages key) x))
+      same_rows (entries pages (set rows (place pages key) x)) (put (entries pages rows) key x) (ascends-entries pages
+      (set rows (place pages key) x))
       (put-ascends (entries pages rows) key x (ascends-entries pages rows)) each where
-        found : (q : ℕ) → at (entries pages (set rows (place pages key) x)) q ≡ row_at pages (set rows (place pages key) x) q
+        found : (q : ℕ) → at (entries pages (set rows (place pages key) x)) q
+            ≡ row_at pages (set rows (place pages key) x) q
         found q = at-entries pages (set rows (place pages key) x) (index-set pages rows (place pages key) x h).few q
 
         each : (q : ℕ) → at (entries pages (set rows (place pages key) x)) q ≡ at (put (entries pages rows) key x) q
         each q = by (key == q) refl where
-          by : (b : Bool) → (key == q) ≡ b → at (entries pages (set rows (place pages key) x)) q ≡ at (put (entries pages rows) key x) q
+          by : (b : Bool) → (key == q) ≡ b → at (entries pages (set rows (place pages key) x)) q
+              ≡ at (put (entries pages rows) key x) q
           by true e =
-              subst (λ k. at (entries pages (set rows (place pages key) x)) k ≡ at (put (entries pages rows) key x) k) (eqb-true key q e)
+              subst (λ k. at (entries pages (set rows (place pages key) x)) k ≡ at (put (entries pages rows) key x) k)
+              (eqb-true key q e)
               (found key ∙ get-set_same rows (place pages key) x less ∙ sym (at-put_same (entries pages rows) key x))
           by false e =
               let other : key ≢ q = grind (arith, nat_tests, e) in
@@ -121,7 +134,8 @@ module _ {X : Type 0} where
 
   -- ---- one more row
 
-  module _ (new old : List (List ℕ)) (rows : List X) (key : ℕ) (x : X) (h : IsIndex old rows) (room : length rows < NONE) (here : place new key ≡ length rows) (others : (k : ℕ) → k ≢ key → place new k ≡ place old k) where
+  module _ (new old : List (List ℕ)) (rows : List X) (key : ℕ) (x : X) (h : IsIndex old rows) (room : length rows
+      < NONE) (here : place new key ≡ length rows) (others : (k : ℕ) → k ≢ key → place new k ≡ place old k) where
     long : length (rows ++ x ∷ []) ≡ length rows + 1
     long = length_push rows x
 
@@ -134,7 +148,8 @@ module _ {X : Type 0} where
 
     known : (k : ℕ) → (place new k < length (rows ++ x ∷ [])) ⊎ (place new k ≡ NONE)
     known k = by (cases_eq k key) (h.known k) where
-      by : ((k ≡ key) ⊎ (k ≢ key)) → ((place old k < length rows) ⊎ (place old k ≡ NONE)) → (place new k < length (rows ++ x ∷ [])) ⊎ (place new k ≡ NONE)
+      by : ((k ≡ key) ⊎ (k ≢ key)) → ((place old k < length rows) ⊎ (place old k ≡ NONE))
+          → (place new k < length (rows ++ x ∷ [])) ⊎ (place new k ≡ NONE)
       by (inl same) w = inl (omega (arith, long, ap (λ k. place new k) same, here))
       by (inr apart) (inl less) = inl (omega (arith, long, less, others k apart))
       by (inr apart) (inr none) = inr (others k apart ∙ none)
@@ -147,7 +162,8 @@ module _ {X : Type 0} where
       by (inr a) (inl b) = absurd (unused j a (e ∙ ap (λ k. place new k) b ∙ here))
       by (inr a) (inr b) =
           let other = unused j a in
-          h.apart j k (subst (λ n. n < length rows) (others j a) (omega (arith, long, less, other))) (sym (others j a) ∙ e ∙ others k b)
+          h.apart j k (subst (λ n. n < length rows) (others j a) (omega (arith, long, less, other))) (sym (others j a)
+          ∙ e ∙ others k b)
 
     pub index-push : IsIndex new (rows ++ x ∷ [])
     index-push = record { few = omega (arith, long, room); known = known; apart = apart }
@@ -163,8 +179,10 @@ module _ {X : Type 0} where
           each q = by (key == q) refl where
             by : (b : Bool) → (key == q) ≡ b → at (entries new (rows ++ x ∷ [])) q ≡ at (put (entries old rows) key x) q
             by true e =
-                subst (λ k. at (entries new (rows ++ x ∷ [])) k ≡ at (put (entries old rows) key x) k) (eqb-true key q e)
-                (found key ∙ ap (λ n. slice_get (rows ++ x ∷ []) n) here ∙ get-push_last rows x ∙ sym (at-put_same (entries old rows) key x))
+                subst (λ k. at (entries new (rows ++ x ∷ [])) k ≡ at (put (entries old rows) key x) k)
+                (eqb-true key q e)
+                (found key ∙ ap (λ n. slice_get (rows ++ x ∷ []) n) here ∙ get-push_last rows x
+                ∙ sym (at-put_same (entries old rows) key x))
             by false e =
                 let other : q ≢ key = grind (arith, nat_tests, e) in
                 found q

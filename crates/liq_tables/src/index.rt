@@ -58,7 +58,8 @@ impl<X: Copy> Index<X> {
     /// Another row at a key that has one, which is given. Where there is none, nothing changes.
     pub(crate) fn replace(&mut self, key: u32, row: X) -> Option<X>
         ensures before { result ≡ at self.old key }
-        ensures rows { self.new ≡ (if is_some (at self.old key) then put self.old key row else self.old) }
+        ensures rows { self.new ≡ (if is_some (at self.old key) then put self.old key row
+            else self.old) }
         ensures ascend { Ascends self.old }
     {
         let place = self.rows.get_mut(self.places.read(key) as usize)?;

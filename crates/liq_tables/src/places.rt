@@ -16,7 +16,8 @@ pub(crate) const KEYS: u32 = 1_024;
 /// The most pages that there are: each key has one.
 pub(crate) const PAGES: usize = 4_194_304;
 
-/// A number for each key, in pages of [`KEYS`] keys. A page is made where the first of its keys gets a number.
+/// A number for each key, in pages of [`KEYS`] keys. A page is made where the first of its keys
+/// gets a number.
 #[derive(Drop)]
 pub(crate) struct Places {
     pages: Vec<Vec<u32>>,

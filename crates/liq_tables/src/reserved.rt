@@ -11,8 +11,8 @@ use liq_types::NoMemory;
 use std::alloc::Global;
 use std::marker::Model;
 
-/// Rows by their account or client. Contracts see the used rows, in ascending keys, and the keys that have room. Only
-/// [`Reserved::reserve`] takes memory.
+/// Rows by their account or client. Contracts see the used rows, in ascending keys, and the keys
+/// that have room. Only [`Reserved::reserve`] takes memory.
 pub struct Reserved<X: Row> {
     index: Index<X>,
 }
@@ -91,8 +91,8 @@ impl<X: Row> Reserved<X> {
         if row.is_used() { Some(row) } else { None }
     }
 
-    /// Makes room for a row at a key. The rows stay, and so does all room that there was. Where there is no memory nothing
-    /// changes; where there was room none is wanted.
+    /// Makes room for a row at a key. The rows stay, and so does all room that there was. Where
+    /// there is no memory nothing changes; where there was room none is wanted.
     pub fn reserve(&mut self, key: u32) -> Result<(), NoMemory>
         ensures rows { self.new.rows ≡ self.old.rows }
         ensures room { OnOk result (HasRoom self.new key) }
@@ -109,8 +109,8 @@ impl<X: Row> Reserved<X> {
         Ok(())
     }
 
-    /// Writes a row at a key, and gives the row that was there. One that is used needs room, and one that is not used takes the
-    /// key's row out. The room stays.
+    /// Writes a row at a key, and gives the row that was there. One that is used needs room, and
+    /// one that is not used takes the key's row out. The room stays.
     pub fn write(&mut self, key: u32, row: X) -> Option<X>
         requires { X.used row ≡ true → HasRoom self.old key }
         ensures before { result ≡ at self.old.rows key }

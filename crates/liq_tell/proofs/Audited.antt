@@ -27,27 +27,34 @@ use Rattle.liq_ends.proofs.Opened.{is_some_of, some_of}
 
 module _ (limit : ℕ) (commands : List Command) where
   reviewed_after : (s : State) → replay 1 (opening_with limit) commands ≡ Ok s
-      → reviewed limit commands ≡ unless_above (number_above (events (opening_with limit) commands)) (shown (rows_of s (events (opening_with limit) commands)))
+      → reviewed limit commands ≡ unless_above (number_above (events (opening_with limit) commands))
+      (shown (rows_of s (events (opening_with limit) commands)))
   reviewed_after s is = ap (review_of (events (opening_with limit) commands)) is
 
-  unrefused : (above : Option ℕ) (text : List ℕ) (index code : ℕ) → unless_above above text ≡ Err (review.Refused index code) → ⊥
+  unrefused : (above : Option ℕ) (text : List ℕ) (index code : ℕ)
+      → unless_above above text ≡ Err (review.Refused index code) → ⊥
   unrefused None text index code is = absurd cc
   unrefused (Some number) text index code is = absurd cc
 
   -- none of them is refused
-  not_refused : (s : State) (index code : ℕ) → replay 1 (opening_with limit) commands ≡ Ok s → reviewed limit commands ≡ Err (review.Refused index code) → ⊥
+  not_refused : (s : State) (index code : ℕ) → replay 1 (opening_with limit) commands ≡ Ok s
+      → reviewed limit commands ≡ Err (review.Refused index code) → ⊥
   not_refused s index code is refused = unrefused _ _ index code (sym (reviewed_after s is) ∙ refused)
 
-  within : (above : Option ℕ) (text : List ℕ) (number : ℕ) → above ≡ None → unless_above above text ≡ Err (review.Limit number) → ⊥
+  within : (above : Option ℕ) (text : List ℕ) (number : ℕ) → above ≡ None
+      → unless_above above text ≡ Err (review.Limit number) → ⊥
   within None text number none is = absurd cc
   within (Some n) text number none is = absurd cc
 
   -- where no limit is passed, none is told
-  pub no_limit : (s : State) (number : ℕ) → replay 1 (opening_with limit) commands ≡ Ok s → number_above (events (opening_with limit) commands) ≡ None → reviewed limit commands ≡ Err (review.Limit number) → ⊥
+  pub no_limit : (s : State) (number : ℕ) → replay 1 (opening_with limit) commands ≡ Ok s
+      → number_above (events (opening_with limit) commands) ≡ None → reviewed limit commands
+      ≡ Err (review.Limit number) → ⊥
   no_limit s number is none passed = within _ _ number none (sym (reviewed_after s is) ∙ passed)
 
   -- why there is no review of them
-  pub not_reviewed : (s : State) (side : Side) (why : ReviewFault) (held : Option (List ℕ)) → replay 1 (opening_with limit) commands ≡ Ok s → (why ≡ review.NoMemory) ⊎ (reviewed limit commands ≡ Err why)
+  pub not_reviewed : (s : State) (side : Side) (why : ReviewFault) (held : Option (List ℕ))
+      → replay 1 (opening_with limit) commands ≡ Ok s → (why ≡ review.NoMemory) ⊎ (reviewed limit commands ≡ Err why)
       → WritesText (reviewed limit commands) (Err (halt_on side why)) held held
   not_reviewed s side (review.Refused index code) held is (inl none) = absurd cc
   not_reviewed s side (review.Refused index code) held is (inr so) = absurd (not_refused s index code is so)
@@ -61,12 +68,14 @@ no_fault side (review.Refused index code) = ((λ e. cc), (λ e. cc))
 no_fault side (review.Limit number) = ((λ e. cc), (λ e. cc))
 no_fault side review.NoMemory = ((λ e. cc), (λ e. cc))
 
-pub no_cause : (side : Side) (why : ReviewFault) (count : ℕ) → (let end : Result (Unit {0}) Halt = Err (halt_on side why) in WriteCause end count count)
+pub no_cause : (side : Side) (why : ReviewFault) (count : ℕ)
+    → (let end : Result (Unit {0}) Halt = Err (halt_on side why) in WriteCause end count count)
 no_cause side (review.Refused index code) count = refl
 no_cause side (review.Limit number) count = refl
 no_cause side review.NoMemory count = refl
 
-pub audit_holds : (end : Result (Unit {0}) Halt) (s : State) (commands : List Command) → AuditHolds (Ok tt) s commands → AuditHolds end s commands
+pub audit_holds : (end : Result (Unit {0}) Halt) (s : State) (commands : List Command) → AuditHolds (Ok tt) s commands
+    → AuditHolds end s commands
 audit_holds (Ok done) s commands h = h
 audit_holds (Err halt) s commands h = tt
 
@@ -75,7 +84,8 @@ audit_holds (Err halt) s commands h = tt
 module _ {D : Type 0} (at : D → DiskAt) where
   pub stand_too : (l r : List ℕ) (start : State) (ol or nl nr : D) → (at nl).seen ≡ (at ol).seen
       → (at nr).seen ≡ (at or).seen → DisksStay at (Ok tt) l r start ol or → DisksStay at (Ok tt) l r start nl nr
-  stand_too l r start ol or nl nr left right stand a b told_a told_b = stand a b (sym left ∙ told_a) (sym right ∙ told_b)
+  stand_too l r start ol or nl nr left right stand a b told_a told_b = stand a b (sym left ∙ told_a) (sym right
+      ∙ told_b)
 
   on_tells : (side : Side) (l r : D) → IsSome (at l).seen → IsSome (at r).seen → IsSome (at (on side l r)).seen
   on_tells Left l r left right = left

@@ -24,8 +24,13 @@ module _ {D : Type 0} (at : D → DiskAt) where
       → state_on l r ≡ Ok start
       → WritesTold what start commands (Err (halt_of why_is)) held held
       × DisksStay at (Err (halt_of why_is)) l r start fl fr
-  not_told what commands why.DiskFault fl fr left right h l r held told_l told_r start is = ((nothing_told what start commands held).0, λ kept a b told_a told_b. h.reads l r a b start told_l told_r kept told_a told_b)
-  not_told what commands (why.Damaged side damage) fl fr left right h l r held told_l told_r start is = absurd (cc (h.is_why l r told_l told_r, is))
+  not_told what commands why.DiskFault fl fr left right h l r held told_l told_r start is = (
+    (nothing_told what start commands held).0,
+    λ kept a b told_a told_b. h.reads l r a b start told_l told_r kept
+        told_a told_b,
+  )
+  not_told what commands (why.Damaged side damage) fl fr left right h l r held told_l told_r start is =
+      absurd (cc (h.is_why l r told_l told_r, is))
   not_told what commands why.NoMemory fl fr left right h l r held told_l told_r start is = (
     (nothing_told what start commands held).1,
     unopened at left right

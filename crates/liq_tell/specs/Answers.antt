@@ -20,8 +20,9 @@ abbrev pub AreFew : Asked → Type 0
 AreFew (Stakes lines) = length lines.items ≤ CHANGES_MOST
 AreFew (Tags lines) = Unit {0}
 
--- Lines are answered beside the commands that lead to this state, and that ends so: all is told of a state of the
--- first generation, unless the sink meets a fault; of a later generation's state nothing is.
+-- Lines are answered beside the commands that lead to this state, and that ends so: all is told of
+-- a state of the first generation, unless the sink meets a fault; of a later generation's state
+-- nothing is.
 abbrev pub IsAnswerOf : State → Result (Unit {0}) Halt → Type 0
 IsAnswerOf s (Ok done) = s.generation ≡ 1
 IsAnswerOf s (Err WriteFault) = s.generation ≡ 1

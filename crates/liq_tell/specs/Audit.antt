@@ -11,17 +11,22 @@ use Rattle.liq_review.specs.declared.fault.ReviewFault.TheVariants as review
 use Rattle.liq_ends.specs.declared.halts.Halt.{Halt}
 use Rattle.liq_ends.specs.declared.halts.Halt.TheVariants.{DiskFault, Limit, NoMemory, Rotated, WriteFault}
 
--- An audit of the commands that lead to this state of the first generation, from the opening under its limit, ends so,
--- and its text is that of the review. At its end each row encloses the exact share of its account, and what the
--- protocol gives that is within its row. Or the review passes the limit by this number. Of a later generation's state
--- there is none.
+-- An audit of the commands that lead to this state of the first generation, from the opening under
+-- its limit, ends so, and its text is that of the review. At its end each row encloses the exact
+-- share of its account, and what the protocol gives that is within its row. Or the review passes
+-- the limit by this number. Of a later generation's state there is none.
 abbrev pub IsAuditOf : State → List Command → Result (Unit {0}) Halt → List ℕ → Type 0
 IsAuditOf s commands (Ok done) text =
-    let made = events (opening_with s.limit) commands in let rows = rows_of s made in (s.generation ≡ 1)
-    × (reviewed s.limit commands ≡ Ok text) × All (EnclosesShare made) rows × (count_by is_within rows ≡ length rows)
-IsAuditOf s commands (Err WriteFault) text = (s.generation ≡ 1) × (reviewed s.limit commands ≡ Ok text)
-IsAuditOf s commands (Err (Limit n)) text = (s.generation ≡ 1) × (reviewed s.limit commands ≡ Err (review.Limit n))
-IsAuditOf s commands (Err (Rotated generation)) text = (1 < s.generation) × (generation ≡ s.generation)
+    let made = events (opening_with s.limit) commands in let rows = rows_of s made
+    in (s.generation ≡ 1)
+    × (reviewed s.limit commands ≡ Ok text) × All (EnclosesShare made) rows
+    × (count_by is_within rows ≡ length rows)
+IsAuditOf s commands (Err WriteFault) text = (s.generation ≡ 1) × (reviewed s.limit commands
+    ≡ Ok text)
+IsAuditOf s commands (Err (Limit n)) text = (s.generation ≡ 1) × (reviewed s.limit commands
+    ≡ Err (review.Limit n))
+IsAuditOf s commands (Err (Rotated generation)) text = (1 < s.generation)
+    × (generation ≡ s.generation)
 -- a disk met a fault, or there was no memory
 IsAuditOf s commands (Err DiskFault) text = Unit {0}
 IsAuditOf s commands (Err NoMemory) text = Unit {0}

@@ -16,15 +16,18 @@ use Rattle.liq_tell.specs.Writing.{WritesAudit, WritesAnswers, WritesText}
 
 -- what is written of a state and of the commands that lead to it, before the last line
 abbrev pub WritesTold :
-    Told → State → List Command → Result (Unit {0}) Halt → Option (List ℕ) → Option (List ℕ) → Type 0
+    Told → State → List Command → Result (Unit {0}) Halt → Option (List ℕ) → Option (List ℕ)
+    → Type 0
 WritesTold which.State s commands end before now = WritesText (Ok (standing s)) end before now
 WritesTold which.Report s commands end before now = WritesText (Ok (reported s)) end before now
 WritesTold which.Audit s commands end before now = WritesAudit s commands end before now
-WritesTold (which.Answers asked) s commands end before now = WritesAnswers s commands asked end before now
+WritesTold (which.Answers asked) s commands end before now =
+    WritesAnswers s commands asked end before now
 
 -- the word has come to one of its ends, and the text is told, or the last line says why not
 abbrev pub EndsTelling :
-    Told → State → List Command → Result (Unit {0}) Halt → Type 0 → Option (List ℕ) → Option (List ℕ) → Type 0
+    Told → State → List Command → Result (Unit {0}) Halt → Type 0 → Option (List ℕ)
+    → Option (List ℕ) → Type 0
 EndsTelling which.State s commands end fault before now =
     Contains (0 ∷ 4 ∷ 5 ∷ 7 ∷ []) (status_of end) × TellsAll (standing s) end fault before now
 EndsTelling which.Report s commands end fault before now =
@@ -34,7 +37,8 @@ EndsTelling which.Audit s commands end fault before now =
 EndsTelling (which.Answers asked) s commands end fault before now =
     IsAnswerOf s end × TellsAll (asked_text asked s.limit commands) end fault before now
 
--- It ends for nothing that comes in; and what stands is told whatever the limits and the journal's generation are.
+-- It ends for nothing that comes in; and what stands is told whatever the limits and the journal's
+-- generation are.
 pub record MayEnd (what : Told) (end : Result (Unit {0}) Halt) : Type 0 where
   pub no_source : end ≢ Err ReadFault
   pub no_line : (number : ℕ) → end ≢ Err (BadLine number)

@@ -15,8 +15,9 @@ use Rattle.liq_ends.specs.declared.halts.Halt.{Halt}
 use Rattle.liq_ends.specs.declared.halts.Halt.TheVariants.{DiskFault, NoMemory, Rotated}
 use Rattle.liq_tell.specs.declared.journal.Whole.{Whole}
 
--- Where the disk that a store took tells its journal, and the commands of a first generation lead from the opening to
--- the state for which the store stands, this holds of that state and of the journal's commands.
+-- Where the disk that a store took tells its journal, and the commands of a first generation lead
+-- from the opening to the state for which the store stands, this holds of that state and of the
+-- journal's commands.
 abbrev pub OfJournal :
     {D : Type 0} → (D → DiskAt) → Stored D → (State → List Command → Type 0) → Type 0
 OfJournal at store P =
@@ -24,15 +25,16 @@ OfJournal at store P =
     → found_on (has_odd store.side) held ≡ Open w → StandsFor store.core s → 1 ≤ s.generation
     → (s.generation ≡ 1 → replay 1 (opening_with s.limit) w.commands ≡ Ok s) → P s w.commands
 
--- The disks of a store are only looked at, and one of their counts rose exactly where the answer is a disk's fault.
+-- The disks of a store are only looked at, and one of their counts rose exactly where the answer is
+-- a disk's fault.
 pub record OnlyLooks
     {D T : Type 0} (at : D → DiskAt) (old new : Stored D) (result : Result T Halt) : Type 0 where
   pub left : Looked at old.left new.left
   pub right : Looked at old.right new.right
   pub count : DiskCause result (counts_of at old.left old.right) (counts_of at new.left new.right)
 
--- They are found of a state of the first generation, which has kept them; or a disk met a fault, or there was no
--- memory.
+-- They are found of a state of the first generation, which has kept them; or a disk met a fault, or
+-- there was no memory.
 abbrev pub FindsWhole : State → List Command → Result Whole Halt → Type 0
 FindsWhole s commands (Ok whole) =
     (s.generation ≡ 1) × (whole.limit ≡ s.limit) × (whole.commands.items ≡ commands)

@@ -16,19 +16,22 @@ use Rattle.liq_ends.specs.declared.halts.Halt.TheVariants.{WriteFault, DiskFault
 use Rattle.liq_tell.specs.declared.answers.Asked.{Asked}
 use Rattle.liq_tell.specs.Answers.{asked_text}
 
--- The text was written, or the sink met a fault within it. Or nothing was: a limit is passed, there was no memory, or a
--- disk met a fault.
+-- The text was written, or the sink met a fault within it. Or nothing was: a limit is passed, there
+-- was no memory, or a disk met a fault.
 abbrev pub WritesText :
-    Result (List ℕ) ReviewFault → Result (Unit {0}) Halt → Option (List ℕ) → Option (List ℕ) → Type 0
+    Result (List ℕ) ReviewFault → Result (Unit {0}) Halt → Option (List ℕ) → Option (List ℕ)
+    → Type 0
 WritesText told (Ok done) before now = (text : List ℕ) × (told ≡ Ok text) × Writes before text now
-WritesText told (Err WriteFault) before now = (text : List ℕ) × (told ≡ Ok text) × WritesPart before text now
-WritesText told (Err (Limit number)) before now = (told ≡ Err (review.Limit number)) × (now ≡ before)
+WritesText told (Err WriteFault) before now = (text : List ℕ) × (told ≡ Ok text)
+    × WritesPart before text now
+WritesText told (Err (Limit number)) before now = (told ≡ Err (review.Limit number))
+    × (now ≡ before)
 WritesText told (Err NoMemory) before now = now ≡ before
 WritesText told (Err DiskFault) before now = now ≡ before
 WritesText told (Err _) before now = ⊥
 
--- each row of a review from the opening under this limit encloses the exact share of its account, and what the protocol
--- gives that is within its row
+-- each row of a review from the opening under this limit encloses the exact share of its account,
+-- and what the protocol gives that is within its row
 abbrev pub AuditAlong : ℕ → State → List Command → Type 0
 AuditAlong limit s commands =
     let made = events (opening_with limit) commands in
@@ -40,8 +43,9 @@ abbrev pub AuditHolds : Result (Unit {0}) Halt → State → List Command → Ty
 AuditHolds (Ok done) s commands = AuditAlong s.limit s commands
 AuditHolds (Err halt) s commands = Unit {0}
 
--- The audit of a state to which these commands lead is their review, or the state is of a later generation than the
--- first, and nothing was written. Where a disk met a fault, or there was no memory, nothing shows which it is.
+-- The audit of a state to which these commands lead is their review, or the state is of a later
+-- generation than the first, and nothing was written. Where a disk met a fault, or there was no
+-- memory, nothing shows which it is.
 abbrev pub WritesAudit :
     State → List Command → Result (Unit {0}) Halt → Option (List ℕ) → Option (List ℕ) → Type 0
 WritesAudit s commands (Err (Rotated generation)) before now =
@@ -49,12 +53,15 @@ WritesAudit s commands (Err (Rotated generation)) before now =
 WritesAudit s commands (Err NoMemory) before now = now ≡ before
 WritesAudit s commands (Err DiskFault) before now = now ≡ before
 WritesAudit s commands end before now =
-    WritesText (reviewed s.limit commands) end before now × (s.generation ≡ 1) × AuditHolds end s commands
+    WritesText (reviewed s.limit commands) end before now × (s.generation ≡ 1)
+    × AuditHolds end s commands
 
--- Lines are answered beside the commands that lead to a state, or the state is of a later generation than the first,
--- and nothing was written. Where a disk met a fault, or there was no memory, nothing shows which it is.
+-- Lines are answered beside the commands that lead to a state, or the state is of a later
+-- generation than the first, and nothing was written. Where a disk met a fault, or there was no
+-- memory, nothing shows which it is.
 abbrev pub WritesAnswers :
-    State → List Command → Asked → Result (Unit {0}) Halt → Option (List ℕ) → Option (List ℕ) → Type 0
+    State → List Command → Asked → Result (Unit {0}) Halt → Option (List ℕ) → Option (List ℕ)
+    → Type 0
 WritesAnswers s commands asked (Err (Rotated generation)) before now =
     (now ≡ before) × (1 < s.generation) × (generation ≡ s.generation)
 WritesAnswers s commands asked (Err NoMemory) before now = now ≡ before

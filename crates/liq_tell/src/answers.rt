@@ -1,4 +1,5 @@
-//! Lines that are answered beside the commands on two disks: those of stakers, and those that name front ends.
+//! Lines that are answered beside the commands on two disks: those of stakers, and those that name
+//! front ends.
 
 ghost use Rattle.std.specs.Prelude.{◌≡◌, ◌≢◌, All, ℕ, None, Ok, Err, false, IfOk, OnOk};
 ghost use Rattle.liq_types.specs.declared.requests.Command.{Command};
@@ -33,8 +34,9 @@ pub enum Asked {
     Tags(Vec<TagLine>),
 }
 
-/// Writes what is answered to lines beside the commands of a store. They are all commands since the opening, and a
-/// generation above the first has not kept those before its checkpoint: there it stops.
+/// Writes what is answered to lines beside the commands of a store. They are all commands since the
+/// opening, and a generation above the first has not kept those before its checkpoint: there it
+/// stops.
 pub fn write_answers<K: Sink, D: Disk>(
     alloc: Global,
     store: &mut Store<D>,
@@ -54,8 +56,8 @@ pub fn write_answers<K: Sink, D: Disk>(
     write_answered(alloc, whole.limit, &whole.commands, asked, whole.side, out)
 }
 
-/// Writes what is answered to lines beside commands that stand on the disk of this side, from the opening under this
-/// limit on.
+/// Writes what is answered to lines beside commands that stand on the disk of this side, from the
+/// opening under this limit on.
 fn write_answered<K: Sink>(
     alloc: Global,
     limit: u64,

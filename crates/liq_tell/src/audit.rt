@@ -20,8 +20,8 @@ use liq_store::{Side, Store};
 use liq_types::Command;
 use std::alloc::Global;
 
-/// Writes the audit of a store. It is of all commands since the opening, and a generation above the first has not kept
-/// those before its checkpoint: there it stops.
+/// Writes the audit of a store. It is of all commands since the opening, and a generation above the
+/// first has not kept those before its checkpoint: there it stops.
 pub fn write_audit<K: Sink, D: Disk>(
     alloc: Global,
     store: &mut Store<D>,
@@ -39,7 +39,8 @@ pub fn write_audit<K: Sink, D: Disk>(
     write_review(alloc, whole.limit, &whole.commands, whole.side, out)
 }
 
-/// Writes the review of commands that stand on the disk of this side, from the opening under this limit on.
+/// Writes the review of commands that stand on the disk of this side, from the opening under this
+/// limit on.
 fn write_review<K: Sink>(
     alloc: Global,
     limit: u64,
@@ -64,8 +65,8 @@ fn write_review<K: Sink>(
     }
 }
 
-/// Why commands that stand on the disk of this side have no review. Where one of them is refused, its record is
-/// damaged.
+/// Why commands that stand on the disk of this side have no review. Where one of them is refused,
+/// its record is damaged.
 fn halt_on(side: Side, fault: ReviewFault) -> Halt
     ensures { result ≡ halt_on side fault }
 {

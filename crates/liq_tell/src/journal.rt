@@ -24,8 +24,8 @@ pub(crate) struct Whole {
     pub(crate) commands: Vec<Command>,
 }
 
-/// All commands of a store since the opening. A generation above the first has not kept those before its checkpoint:
-/// there it stops.
+/// All commands of a store since the opening. A generation above the first has not kept those
+/// before its checkpoint: there it stops.
 pub(crate) fn whole_journal<D: Disk>(store: &mut Store<D>) -> Result<Whole, Halt>
     requires going { store.old.stopped ≡ None }
     ensures found { OfJournal D.at store.old (λ s commands. FindsWhole s commands result) }

@@ -1,6 +1,6 @@
-//! The words `state`, `report`, `audit`, `staking` and `rewards`: what stands on two disks, what their commands give
-//! each depositor, and what stakers have of their fees and depositors of the rewards, told. And what stands in a
-//! protocol, told.
+//! The words `state`, `report`, `audit`, `staking` and `rewards`: what stands on two disks, what
+//! their commands give each depositor, and what stakers have of their fees and depositors of the
+//! rewards, told. And what stands in a protocol, told.
 #![tactic(auto)]
 
 mod answers;

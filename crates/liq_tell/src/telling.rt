@@ -1,4 +1,5 @@
-//! The words `state`, `report`, `audit`, `staking` and `rewards`: a text of what is on two disks, told.
+//! The words `state`, `report`, `audit`, `staking` and `rewards`: a text of what is on two disks,
+//! told.
 
 ghost use Rattle.std.specs.Prelude.{◌≡◌, [], None, Ok, Err};
 ghost use Rattle.liq_outside.specs.Faults.{Rose};
@@ -22,20 +23,22 @@ use std::alloc::Global;
 /// Which text is told.
 #[derive(Drop)]
 pub enum Told {
-    /// What stands on the disks: the replies to `system` and `pools`, the words of the Stability Pool, and the
-    /// journal's generation with its records.
+    /// What stands on the disks: the replies to `system` and `pools`, the words of the Stability
+    /// Pool, and the journal's generation with its records.
     State,
-    /// Each trove and deposit as it stands, with the totals and the Stability Pool's words, as one text in JSON.
+    /// Each trove and deposit as it stands, with the totals and the Stability Pool's words, as one
+    /// text in JSON.
     Report,
-    /// What the protocol gives each depositor beside its exact share, once the disks' commands are replayed from the
-    /// opening. It is told of the first generation alone.
+    /// What the protocol gives each depositor beside its exact share, once the disks' commands are
+    /// replayed from the opening. It is told of the first generation alone.
     Audit,
-    /// What is answered to lines, once the disks' commands are replayed from the opening. It is told of the first
-    /// generation alone.
+    /// What is answered to lines, once the disks' commands are replayed from the opening. It is
+    /// told of the first generation alone.
     Answers(Asked),
 }
 
-/// Tells a text of two disks, and writes the last line where that stops. All of the text is made before it is written.
+/// Tells a text of two disks, and writes the last line where that stops. All of the text is made
+/// before it is written.
 pub fn tell_on<K: Sink, D: Disk>(
     alloc: Global,
     what: Told,
@@ -44,8 +47,8 @@ pub fn tell_on<K: Sink, D: Disk>(
     right: D,
 ) -> Ending<D>
     requires { HasFewLines what }
-    // Of the state for which the disks stand, and of the commands that lead to it, the text is told. They stand for it
-    // then.
+    // Of the state for which the disks stand, and of the commands that lead to it, the text is
+    // told. They stand for it then.
     ensures told { OfState D.at left right
         (λ l r start. EndsTelling what start (commands_on l r) result.end
         (Rose (K.at out.old).faults (K.at out.new).faults) (K.at out.old).held (K.at out.new).held

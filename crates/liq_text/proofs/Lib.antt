@@ -1,11 +1,11 @@
-pub mod Named
+mod Named
 pub mod PieceLaws
 pub mod ReadingLaws
 pub mod SpellingLaws
-pub mod RequestLaws
-pub mod QueryLaws
+mod RequestLaws
+mod QueryLaws
 pub mod LineLaws
-pub mod FormLaws
+mod FormLaws
 pub mod LineLengths
 pub mod WritingLaws
-pub mod ReplyLaws
+mod ReplyLaws

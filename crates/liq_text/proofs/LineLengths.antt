@@ -33,20 +33,25 @@ word_short : (piece : List ℕ) (word : Word) → Spell piece word → length pi
 word_short piece (text t) h = omega (arith, ap length h)
 word_short piece (account a) h = omega (arith, ap length h.1, account_short a h.0)
 word_short piece (number n) h =
-    let one : length (decimal n) ≤ 20 = length-decimal-le_wide 20 n (lit< tt) (omega (arith, h.0)) (omega (arith, h.0)) in
+    let one : length (decimal n) ≤ 20 = length-decimal-le_wide 20 n (lit< tt) (omega (arith, h.0)) (omega (
+      arith,
+      h.0,
+    )) in
     omega (arith, ap length h.1, one)
 word_short piece (hint None) (inl h) = omega (arith, ap length h)
 word_short piece (hint None) (inr h) = omega (arith, ap length h, account_short 4294967295 (lit< tt))
 word_short piece (hint (Some a)) h = omega (arith, ap length h.1, account_short a (omega (arith, h.0)))
 
-spaced_short : (pieces : List (List ℕ)) (words : List Word) → SpellEach pieces words → length (spaced pieces) ≤ all_most words
+spaced_short : (pieces : List (List ℕ)) (words : List Word) → SpellEach pieces words
+    → length (spaced pieces) ≤ all_most words
 spaced_short [] [] h = omega arith
 spaced_short [] (word ∷ words) h = absurd h
 spaced_short (piece ∷ pieces) [] h = absurd h
 spaced_short (piece ∷ pieces) (word ∷ words) h =
     omega (arith, word_short piece word h.0, spaced_short pieces words h.1, length-append piece (spaced pieces))
 
-line_short : (pieces : List (List ℕ)) (words : List Word) → SpellEach pieces words → length (join_with_byte 32 pieces) ≤ all_most words
+line_short : (pieces : List (List ℕ)) (words : List Word) → SpellEach pieces words → length (join_with_byte 32 pieces)
+    ≤ all_most words
 line_short [] words h = omega arith
 line_short (piece ∷ pieces) [] h = absurd h
 line_short (piece ∷ pieces) (word ∷ words) h =
@@ -89,5 +94,9 @@ is_short line words few h = omega (arith, few, ap (λ (x : List ℕ). length x) 
 pub request_short : (line : List ℕ) (request : Request) → Spells line request → length line ≤ LINE_BYTES
 request_short line request h = is_short line (request_words request) (omega (arith, request_most request)) h
 
-pub session_request_short : (line : List ℕ) (session : ℕ) (request : Request) → SpellsInSession line session request → length line ≤ LINE_BYTES
-session_request_short line session request h = is_short line (number session ∷ request_words request) (omega (arith, request_most request)) h.2
+pub session_request_short : (line : List ℕ) (session : ℕ) (request : Request) → SpellsInSession line session request
+    → length line ≤ LINE_BYTES
+session_request_short line session request h = is_short line (number session ∷ request_words request) (omega (
+  arith,
+  request_most request,
+)) h.2

@@ -33,7 +33,8 @@ number_of-decimal piece n lt e =
 pub number_of-some : (piece : List ℕ) (n : ℕ) → number_of piece ≡ Some n → (n < 2 ^ 64) × (piece ≡ decimal n)
 unfolding number_of
 number_of-some piece n e =
-    let g = cond_some (ltb (digits_value 10 piece) (2 ^ 64) && bytes_eq piece (decimal (digits_value 10 piece))) (digits_value 10 piece) n e in
+    let g = cond_some (ltb (digits_value 10 piece) (2 ^ 64) && bytes_eq piece (decimal (digits_value 10 piece)))
+    (digits_value 10 piece) n e in
     let both = and_parts _ _ g.0 in
     let small : digits_value 10 piece < 2 ^ 64 = ltb-true _ _ both.0 in
     (rw (← g.1) small, (bytes_eq-Decides piece (decimal (digits_value 10 piece))).0 both.1 ∙ ap decimal g.1)
@@ -48,7 +49,12 @@ pub number_of-leading_zero : (word : List ℕ) → 1 < length word → get_or wo
 number_of-leading_zero word long lead = no_number word by where
   by : (n : ℕ) → n < 2 ^ 64 → word ≡ decimal n → ⊥
   by zero small is = omega (arith, long, ap length (is ∙ decimal_digit 0 (omega arith)))
-  by (suc n) small is = omega (arith, lead, first_decimal (suc n) (omega arith) small, ap (λ (w : List ℕ). get_or w 0 0) is)
+  by (suc n) small is = omega (
+    arith,
+    lead,
+    first_decimal (suc n) (omega arith) small,
+    ap (λ (w : List ℕ). get_or w 0 0) is,
+  )
 
 digit_in : (ds : List ℕ) (i : ℕ) → AllDigits 10 ds → i < length ds → digit_value (get_or ds i 0) < 10
 digit_in [] i all within = absurd (omega (arith, within))
@@ -56,14 +62,19 @@ digit_in (d ∷ ds) zero all within = all.0
 digit_in (d ∷ ds) (suc i) all within = digit_in ds i all.1 (omega (arith, within))
 
 -- a byte that is no digit, or one with which the number is too great
-pub number_of-broken : (word : List ℕ) (i : ℕ) → i < length word → (digit_value (get_or word i 0) < 10 → 2 ^ 64 ≤ digits_value 10 (take i word) * 10 + digit_value (get_or word i 0)) → None ≡ number_of word
+pub number_of-broken : (word : List ℕ) (i : ℕ) → i < length word → (digit_value (get_or word i 0) < 10
+    → 2 ^ 64 ≤ digits_value 10 (take i word) * 10 + digit_value (get_or word i 0)) → None ≡ number_of word
 number_of-broken word i within breaks = no_number word (λ n small is.
     let numeral = decimal_is_IsNumeral n small in
-    let digit : digit_value (get_or word i 0) < 10 = digit_in word i (subst (AllDigits 10) (sym is) numeral.0.1) within in
+    let digit : digit_value (get_or word i 0) < 10 = digit_in word i (subst (AllDigits 10) (sym is) numeral.0.1) within
+    in
     let value : digits_value 10 word ≡ n = ap (digits_value 10) is ∙ numeral.1 in
-    let front : digits_value 10 (take (i + 1) word) ≤ digits_value 10 word = digits_value-take-le 10 word (i + 1) (omega arith) in
+    let front : digits_value 10 (take (i + 1) word) ≤ digits_value 10 word =
+    digits_value-take-le 10 word (i + 1) (omega arith) in
     omega (arith, small, value, front, breaks digit, digits_value_more 10 word i within))
 
-pub number_of-digits : (word : List ℕ) → 0 < length word → (get_or word 0 0 ≡ 48 → length word ≡ 1) → AllDigits 10 word → digits_value 10 word < 2 ^ 64 → Some (digits_value 10 word) ≡ number_of word
+pub number_of-digits : (word : List ℕ) → 0 < length word → (get_or word 0 0 ≡ 48 → length word ≡ 1) → AllDigits 10 word
+    → digits_value 10 word < 2 ^ 64 → Some (digits_value 10 word) ≡ number_of word
 number_of-digits word some lead all small =
-    sym (number_of-decimal word (digits_value 10 word) small (sym (decimal-digits_value (numerals_by_value _ tells_digits) word all some lead small)))
+    sym (number_of-decimal word (digits_value 10 word) small
+    (sym (decimal-digits_value (numerals_by_value _ tells_digits) word all some lead small)))

@@ -16,7 +16,8 @@ use Rattle.liq_text.specs.Writing.{spaced}
 use Rattle.liq_text.proofs.WritingLaws.{join_spaced}
 
 -- numbers of at most k digits
-spaced_short : (k limit : ℕ) → 0 < k → limit ≤ 10 ^ k → limit ≤ 10 ^ 64 → (numbers : List ℕ) → AllByRecursion (λ n. n < limit) numbers → length (spaced (map decimal numbers)) ≤ length numbers * (k + 1)
+spaced_short : (k limit : ℕ) → 0 < k → limit ≤ 10 ^ k → limit ≤ 10 ^ 64 → (numbers : List ℕ)
+    → AllByRecursion (λ n. n < limit) numbers → length (spaced (map decimal numbers)) ≤ length numbers * (k + 1)
 spaced_short k limit some digits wide [] h = omega arith
 spaced_short k limit some digits wide (n ∷ ns) h =
     let one : length (decimal n) ≤ k = length-decimal-le_wide k n some (omega (arith, h.0)) (omega (arith, h.0)) in
@@ -25,17 +26,22 @@ spaced_short k limit some digits wide (n ∷ ns) h =
     let times : length (n ∷ ns) * (k + 1) ≡ length ns * (k + 1) + (k + 1) = grind arith in
     omega (arith, one, rest, both, times)
 
-behind_short : (k limit : ℕ) → 0 < k → limit ≤ 10 ^ k → limit ≤ 10 ^ 64 → (word : List ℕ) (numbers : List ℕ) → AllByRecursion (λ n. n < limit) numbers
+behind_short : (k limit : ℕ) → 0 < k → limit ≤ 10 ^ k → limit ≤ 10 ^ 64 → (word : List ℕ) (numbers : List ℕ)
+    → AllByRecursion (λ n. n < limit) numbers
     → length (join_with_byte 32 (word ∷ map decimal numbers)) ≤ length word + length numbers * (k + 1)
 behind_short k limit some digits wide word numbers h =
     let rest = spaced_short k limit some digits wide numbers h in
-    let whole = ap (λ (x : List ℕ). length x) (join_spaced word (map decimal numbers)) ∙ length-append word (spaced (map decimal numbers)) in
+    let whole = ap (λ (x : List ℕ). length x) (join_spaced word (map decimal numbers))
+    ∙ length-append word (spaced (map decimal numbers)) in
     omega (arith, rest, whole)
 
 list_short : (numbers : List ℕ) → AreAmounts numbers → length (join_with_byte 32 (map decimal numbers)) ≤ 255
 list_short [] h = lit≤ tt
 list_short (n ∷ ns) h =
-    let one : length (decimal n) ≤ 20 = length-decimal-le_wide 20 n (lit< tt) (omega (arith, h.1.0)) (omega (arith, h.1.0)) in
+    let one : length (decimal n) ≤ 20 = length-decimal-le_wide 20 n (lit< tt) (omega (arith, h.1.0)) (omega (
+      arith,
+      h.1.0,
+    )) in
     let rest = behind_short 20 (2 ^ 64) (lit< tt) (lit≤ tt) (lit≤ tt) (decimal n) ns h.1.1 in
     omega (arith, one, rest, h.0)
 
@@ -83,7 +89,8 @@ few_numbers (refusals.OutOfTurn expected) = lit≤ tt
 few_numbers (refusals.JournalFull records) = lit≤ tt
 
 -- a part of numbers in a range is in it
-taken_fits : (limit k : ℕ) (numbers : List ℕ) → AllByRecursion (λ n. n < limit) numbers → AllByRecursion (λ n. n < limit) (take k numbers)
+taken_fits : (limit k : ℕ) (numbers : List ℕ) → AllByRecursion (λ n. n < limit) numbers
+    → AllByRecursion (λ n. n < limit) (take k numbers)
 taken_fits limit zero numbers h = tt
 taken_fits limit (suc k) [] h = tt
 taken_fits limit (suc k) (n ∷ ns) h = (h.0, taken_fits limit k ns h.1)
@@ -94,12 +101,32 @@ each_below most (x ∷ xs) h zero = leb-true x most h.0
 each_below most (x ∷ xs) h (suc k) = each_below most xs h.1 k
 
 few_values : (kind : ℕ) → slice_index value_counts kind ≤ 6
-few_values kind = each_below 6 value_counts (refl, (refl, (refl, (refl, (refl, (refl, (refl, (refl, (refl, (refl, (refl, (refl, (refl, (refl, (refl, (refl, (refl, tt))))))))))))))))) kind
+few_values kind = each_below 6 value_counts (
+  refl,
+  (
+    refl,
+    (
+      refl,
+      (
+        refl,
+        (
+          refl,
+          (refl, (refl, (refl, (refl, (refl, (refl, (refl, (refl, (refl, (refl, (refl, (refl, tt)))))))))))),
+        ),
+      ),
+    ),
+  ),
+) kind
 
 pub text_short : (reply : Reply) → FitsTypes reply → length (text reply) ≤ 255
 text_short (Said d) h =
-    let few : length (shown_values d) ≤ 6 = omega (arith, length-take (slice_index value_counts d.kind) d.values, few_values d.kind) in
-    let rest = behind_short 20 (2 ^ 64) (lit< tt) (lit≤ tt) (lit≤ tt) (codes "ok") (shown_values d) (taken_fits (2 ^ 64) (slice_index value_counts d.kind) d.values h) in
+    let few : length (shown_values d) ≤ 6 = omega (
+      arith,
+      length-take (slice_index value_counts d.kind) d.values,
+      few_values d.kind,
+    ) in
+    let rest = behind_short 20 (2 ^ 64) (lit< tt) (lit≤ tt) (lit≤ tt) (codes "ok") (shown_values d) (taken_fits (2 ^ 64)
+    (slice_index value_counts d.kind) d.values h) in
     omega (arith, few, rest)
 text_short (Told info) h = info_short info h
 text_short (No refusal) h =

@@ -15,12 +15,14 @@ use Rattle.liq_text.specs.Reading.{◌>>=◌, number_of, account_of, hint_of, Ki
 use Rattle.liq_text.proofs.ReadingLaws.{number_of-decimal, number_of-some, yes}
 
 -- the value of a step that did not fail
-pub bind_some : {A B : Type 0} (o : Option A) (f : A → Option B) (y : B) → (o >>= f) ≡ Some y → (x : A) × (o ≡ Some x) × (f x ≡ Some y)
+pub bind_some : {A B : Type 0} (o : Option A) (f : A → Option B) (y : B) → (o >>= f) ≡ Some y → (x : A) × (o ≡ Some x)
+    × (f x ≡ Some y)
 bind_some None f y e = absurd cc
 bind_some (Some x) f y e = (x, refl, e)
 
 -- a test that chose the other way
-pub either_some : {A : Type 0} (b : Bool) (x y : Option A) (z : A) → cond b x y ≡ Some z → ((b ≡ true) × (x ≡ Some z)) ⊎ ((b ≡ false) × (y ≡ Some z))
+pub either_some : {A : Type 0} (b : Bool) (x y : Option A) (z : A) → cond b x y ≡ Some z → ((b ≡ true) × (x ≡ Some z))
+    ⊎ ((b ≡ false) × (y ≡ Some z))
 either_some true x y z e = inl (refl, e)
 either_some false x y z e = inr (refl, e)
 
@@ -40,18 +42,21 @@ unfolding account_of
 account_again piece a small e =
     let lt : a < 2 ^ 64 = omega arith in
     let n = number_of-decimal piece a lt e in
-    ap (λ (o : Option ℕ). o >>= λ n. cond (ltb n (2 ^ 32)) (Some n) None) n ∙ yes (ltb a (2 ^ 32)) _ _ (lt-ltb _ _ small)
+    ap (λ (o : Option ℕ). o >>= λ n. cond (ltb n (2 ^ 32)) (Some n) None) n
+    ∙ yes (ltb a (2 ^ 32)) _ _ (lt-ltb _ _ small)
 
 -- an account word as a hint
 abbrev as_hint : ℕ → Option ℕ
 as_hint a = cond (eqb a 4294967295) None (Some a)
 
-account_hint : (piece : List ℕ) (h : Option ℕ) → (account_of piece >>= λ a. cond (eqb a 4294967295) (Some None) (Some (Some a))) ≡ Some h → Spell piece (hint h)
+account_hint : (piece : List ℕ) (h : Option ℕ)
+    → (account_of piece >>= λ a. cond (eqb a 4294967295) (Some None) (Some (Some a))) ≡ Some h → Spell piece (hint h)
 account_hint piece h e =
     let b = bind_some (account_of piece) (λ a. cond (eqb a 4294967295) (Some None) (Some (Some a))) h e in
     let t = account_takes piece b.0 b.1 in
     elim (either_some (eqb b.0 4294967295) (Some None) (Some (Some b.0)) h b.2) [
-      | inl g ↦ subst (λ (x : Option ℕ). Spell piece (hint x)) (same_Some None h g.1) (inr (t.1 ∙ ap decimal (eqb-true _ _ g.0)))
+      | inl g ↦ subst (λ (x : Option ℕ). Spell piece (hint x)) (same_Some None h g.1) (inr (t.1
+          ∙ ap decimal (eqb-true _ _ g.0)))
       | inr g ↦
           let other : b.0 ≡ 4294967295 → ⊥ = eqb-false _ _ g.0 in
           let below : b.0 < 2 ^ 32 = t.0 in
@@ -61,16 +66,20 @@ account_hint piece h e =
 hint_takes : (piece : List ℕ) (h : Option ℕ) → hint_of piece ≡ Some h → Spell piece (hint h)
 unfolding hint_of
 hint_takes piece h e =
-    elim (either_some (bytes_eq piece (codes "-")) (Some None) (account_of piece >>= λ a. cond (eqb a 4294967295) (Some None) (Some (Some a))) h e) [
-      | inl g ↦ subst (λ (x : Option ℕ). Spell piece (hint x)) (same_Some None h g.1) (inl ((bytes_eq-Decides piece (codes "-")).0 g.0))
+    elim (either_some (bytes_eq piece (codes "-")) (Some None) (account_of piece >>= λ a. cond (eqb a 4294967295)
+    (Some None) (Some (Some a))) h e) [
+      | inl g ↦ subst (λ (x : Option ℕ). Spell piece (hint x)) (same_Some None h g.1)
+          (inl ((bytes_eq-Decides piece (codes "-")).0 g.0))
       | inr g ↦ account_hint piece h g.1
     ]
 
 no_dash : (a : ℕ) → a < 2 ^ 64 → codes "-" ≡ decimal a → ⊥
-no_dash a lt e = let d : IsNumeral 10 (codes "-") = subst (λ (ds : List ℕ). IsNumeral 10 ds) (sym e) (decimal_is_IsNumeral a lt).0 in let far : digit_value 45 < 10 = d.1.0 in omega (arith, far)
+no_dash a lt e = let d : IsNumeral 10 (codes "-") = subst (λ (ds : List ℕ). IsNumeral 10 ds) (sym e)
+    (decimal_is_IsNumeral a lt).0 in let far : digit_value 45 < 10 = d.1.0 in omega (arith, far)
 
 pub dashless : (piece : List ℕ) (a : ℕ) → a < 2 ^ 32 → piece ≡ decimal a → bytes_eq piece (codes "-") ≡ false
-dashless piece a small e = false_from_ne_true (bytes_eq piece (codes "-")) (λ t. no_dash a (omega arith) (sym ((bytes_eq-Decides piece (codes "-")).0 t) ∙ e))
+dashless piece a small e = false_from_ne_true (bytes_eq piece (codes "-")) (λ t. no_dash a (omega arith)
+    (sym ((bytes_eq-Decides piece (codes "-")).0 t) ∙ e))
 
 hint_again : (piece : List ℕ) (h : Option ℕ) → Spell piece (hint h) → hint_of piece ≡ Some h
 unfolding hint_of
@@ -89,12 +98,14 @@ word_of an_account a = account a
 word_of a_number n = number n
 word_of a_hint h = hint h
 
-value_takes : (kind : Kind) (piece : List ℕ) (v : Value kind) → value_of kind piece ≡ Some v → Spell piece (word_of kind v)
+value_takes : (kind : Kind) (piece : List ℕ) (v : Value kind) → value_of kind piece ≡ Some v
+    → Spell piece (word_of kind v)
 value_takes an_account piece v e = account_takes piece v e
 value_takes a_number piece v e = number_of-some piece v e
 value_takes a_hint piece v e = hint_takes piece v e
 
-value_again : (kind : Kind) (piece : List ℕ) (v : Value kind) → Spell piece (word_of kind v) → value_of kind piece ≡ Some v
+value_again : (kind : Kind) (piece : List ℕ) (v : Value kind) → Spell piece (word_of kind v)
+    → value_of kind piece ≡ Some v
 value_again an_account piece v s = account_again piece v s.0 s.1
 value_again a_number piece v s = number_of-decimal piece v s.0 s.1
 value_again a_hint piece v s = hint_again piece v s
@@ -118,7 +129,9 @@ unfolding is_empty
 empty_takes [] e = refl
 empty_takes (piece ∷ pieces) e = absurd cc
 
-pub fields_take : {A : Type 0} (kinds : List Kind) (make : Makes kinds A) (pieces : List (List ℕ)) (x : A) → fields kinds make pieces ≡ Some x → (vs : Values kinds) × (x ≡ made kinds make vs) × SpellEach pieces (words_of kinds vs)
+pub fields_take : {A : Type 0} (kinds : List Kind) (make : Makes kinds A) (pieces : List (List ℕ)) (x : A)
+    → fields kinds make pieces ≡ Some x → (vs : Values kinds) × (x ≡ made kinds make vs)
+    × SpellEach pieces (words_of kinds vs)
 unfolding first others
 fields_take [] make pieces x e =
     let g = cond_some (is_empty pieces) make x e in
@@ -129,12 +142,15 @@ fields_take (kind ∷ kinds) make (piece ∷ pieces) x e =
     let rest = fields_take kinds (make b.0) pieces x b.2 in
     ((b.0, rest.0), rest.1, (value_takes kind piece b.0 b.1, rest.2))
 
-pub fields_again : {A : Type 0} (kinds : List Kind) (make : Makes kinds A) (pieces : List (List ℕ)) (vs : Values kinds) → SpellEach pieces (words_of kinds vs) → fields kinds make pieces ≡ Some (made kinds make vs)
+pub fields_again : {A : Type 0} (kinds : List Kind) (make : Makes kinds A) (pieces : List (List ℕ)) (vs : Values kinds)
+    → SpellEach pieces (words_of kinds vs) → fields kinds make pieces ≡ Some (made kinds make vs)
 unfolding first others is_empty
 fields_again [] make [] vs s = refl
 fields_again [] make (piece ∷ pieces) vs s = absurd s
 fields_again (kind ∷ kinds) make [] vs s = absurd s
-fields_again (kind ∷ kinds) make (piece ∷ pieces) vs s = ap (λ (o : Option (Value kind)). o >>= λ v. fields kinds (make v) pieces) (value_again kind piece vs.0 s.0) ∙ fields_again kinds (make vs.0) pieces vs.1 s.1
+fields_again (kind ∷ kinds) make (piece ∷ pieces) vs s =
+    ap (λ (o : Option (Value kind)). o >>= λ v. fields kinds (make v) pieces) (value_again kind piece vs.0 s.0)
+    ∙ fields_again kinds (make vs.0) pieces vs.1 s.1
 
 -- ---- no word holds a space
 
@@ -175,7 +191,8 @@ plain_words_of (an_account ∷ kinds) values = (tt, plain_words_of kinds values.
 plain_words_of (a_number ∷ kinds) values = (tt, plain_words_of kinds values.1)
 plain_words_of (a_hint ∷ kinds) values = (tt, plain_words_of kinds values.1)
 
-pub plain_each : (pieces : List (List ℕ)) (words : List Word) → AllByRecursion IsPlainWord words → SpellEach pieces words → AllByRecursion IsPlain pieces
+pub plain_each : (pieces : List (List ℕ)) (words : List Word) → AllByRecursion IsPlainWord words
+    → SpellEach pieces words → AllByRecursion IsPlain pieces
 plain_each [] words p s = tt
 plain_each (piece ∷ pieces) [] p s = absurd s
 plain_each (piece ∷ pieces) (word ∷ words) p s = (plain_spelled piece word p.0 s.0, plain_each pieces words p.1 s.1)

@@ -8,7 +8,8 @@ use Rattle.liq_text.specs.Topics.{Topic, Wallet, Trove, Deposit, Pools, System, 
 -- what a word stands for in a table, by the name and the meaning of each row
 abbrev pub named : {R A : Type 0} → (R → List ℕ) → (R → A) → List R → List ℕ → Option A
 named name meant [] word = None
-named name meant (row ∷ rows) word = if bytes_eq word (name row) then Some (meant row) else named name meant rows word
+named name meant (row ∷ rows) word = if bytes_eq word (name row) then Some (meant row)
+    else named name meant rows word
 
 abbrev pub verb_of : List ℕ → Option Verb
 verb_of word = named (λ row. row.0.now) (λ row. row.1) VERBS word

@@ -77,7 +77,8 @@ Makes (kind ∷ kinds) A = Value kind → Makes kinds A
 -- a value of each kind from the words, of which none is left
 abbrev pub fields : {A : Type 0} (kinds : List Kind) → Makes kinds A → List (List ℕ) → Option A
 fields [] make pieces = if is_empty pieces then Some make else None
-fields (kind ∷ kinds) make pieces = first (value_of kind) pieces >>= λ v. fields kinds (make v) (others pieces)
+fields (kind ∷ kinds) make pieces = first (value_of kind) pieces >>= λ v. fields kinds (make v)
+    (others pieces)
 
 -- what the words behind a verb are
 abbrev pub verb_kinds : Verb → List Kind
@@ -106,18 +107,27 @@ call_with verbs.Fund = calls.Fund
 call_with verbs.Take = calls.Take
 call_with verbs.Send = calls.Send
 call_with verbs.Open =
-    λ owner coll borrow bound prev next. calls.Open owner coll borrow bound (record { prev = prev; next = next })
+    λ owner coll borrow bound prev next. calls.Open owner coll borrow bound (record {
+      prev = prev;
+      next = next;
+    })
 call_with verbs.Adjust =
     λ owner coll_in coll_out borrow repay bound prev next.
     calls.Adjust owner coll_in coll_out borrow repay bound (record { prev = prev; next = next })
 call_with verbs.Close = calls.Close
 call_with verbs.Provide = calls.Provide
 call_with verbs.Withdraw = calls.Withdraw
-call_with verbs.GainToTrove = λ owner prev next. calls.GainToTrove owner (record { prev = prev; next = next })
+call_with verbs.GainToTrove = λ owner prev next. calls.GainToTrove owner (record {
+  prev = prev;
+  next = next;
+})
 call_with verbs.Liquidate = calls.Liquidate
 call_with verbs.LiquidateLowest = calls.LiquidateLowest
 call_with verbs.Redeem =
-    λ owner lusd bound prev next. calls.Redeem owner lusd bound (record { prev = prev; next = next })
+    λ owner lusd bound prev next. calls.Redeem owner lusd bound (record {
+      prev = prev;
+      next = next;
+    })
 call_with verbs.Claim = calls.Claim
 call_with verbs.Rotate = calls.Rotate
 
@@ -155,11 +165,18 @@ unfoldable pub request_of : List (List ℕ) → Option Request
 request_of pieces = first Some pieces >>= λ word. if bytes_eq word (codes "?")
     then (query_of (others pieces) >>= λ query. Some (Ask query))
     else (account_of word >>= λ client. first number_of (others pieces) >>= λ number.
-    call_of (others (others pieces)) >>= λ call. Some (Do (record { client = client; number = number; call = call })))
+    call_of (others (others pieces)) >>= λ call. Some (Do (record {
+      client = client;
+      number = number;
+      call = call;
+    })))
 
 unfoldable pub session_of : List ℕ → Option ℕ
 session_of piece = number_of piece >>= λ n. if nat_le 1 n && nat_le n 8 then Some n else None
 
 unfoldable pub session_request_of : List (List ℕ) → Option (ℕ × Request)
 session_request_of pieces =
-    first session_of pieces >>= λ session. request_of (others pieces) >>= λ request. Some (session, request)
+    first session_of pieces >>= λ session. request_of (others pieces) >>= λ request. Some (
+      session,
+      request,
+    )

@@ -37,7 +37,8 @@ call_words (calls.Price price) = text (codes "price") ∷ number price ∷ []
 call_words (calls.Advance minutes) = text (codes "advance") ∷ number minutes ∷ []
 call_words (calls.Fund owner coll) = text (codes "fund") ∷ account owner ∷ number coll ∷ []
 call_words (calls.Take owner coll) = text (codes "take") ∷ account owner ∷ number coll ∷ []
-call_words (calls.Send from to lusd) = text (codes "send") ∷ account from ∷ account to ∷ number lusd ∷ []
+call_words (calls.Send from to lusd) = text (codes "send") ∷ account from ∷ account to
+    ∷ number lusd ∷ []
 call_words (calls.Open owner coll borrow bound h) =
     text (codes "open") ∷ account owner ∷ number coll ∷ number borrow ∷ number bound
     ∷ hint h.prev ∷ hint h.next ∷ []
@@ -49,11 +50,13 @@ call_words (calls.Provide owner lusd) = text (codes "provide") ∷ account owner
 call_words (calls.Withdraw owner lusd) = text (codes "withdraw") ∷ account owner ∷ number lusd ∷ []
 call_words (calls.GainToTrove owner h) =
     text (codes "gain_to_trove") ∷ account owner ∷ hint h.prev ∷ hint h.next ∷ []
-call_words (calls.Liquidate liquidator owner) = text (codes "liquidate") ∷ account liquidator ∷ account owner ∷ []
+call_words (calls.Liquidate liquidator owner) = text (codes "liquidate") ∷ account liquidator
+    ∷ account owner ∷ []
 call_words (calls.LiquidateLowest liquidator count) =
     text (codes "liquidate_lowest") ∷ account liquidator ∷ number count ∷ []
 call_words (calls.Redeem owner lusd bound h) =
-    text (codes "redeem") ∷ account owner ∷ number lusd ∷ number bound ∷ hint h.prev ∷ hint h.next ∷ []
+    text (codes "redeem") ∷ account owner ∷ number lusd ∷ number bound ∷ hint h.prev
+    ∷ hint h.next ∷ []
 call_words (calls.Claim owner) = text (codes "claim") ∷ account owner ∷ []
 call_words calls.Rotate = text (codes "rotate") ∷ []
 
@@ -72,7 +75,8 @@ request_words (Ask q) = text (codes "?") ∷ query_words q
 
 -- The line is pieces that spell the words, with one space between two.
 abbrev pub IsLineOf : List ℕ → List Word → Type 0
-IsLineOf line words = (pieces : List (List ℕ)) × (line ≡ join_with_byte 32 pieces) × SpellEach pieces words
+IsLineOf line words = (pieces : List (List ℕ)) × (line ≡ join_with_byte 32 pieces)
+    × SpellEach pieces words
 
 abbrev pub Spells : List ℕ → Request → Type 0
 Spells line request = IsLineOf line (request_words request)
@@ -82,7 +86,8 @@ abbrev pub SpellsInSession : List ℕ → ℕ → Request → Type 0
 SpellsInSession line session request =
     (1 ≤ session) × (session ≤ 8) × IsLineOf line (number session ∷ request_words request)
 
--- The greatest account word stands for no hint, so an account of that number cannot be spelled as one.
+-- The greatest account word stands for no hint, so an account of that number cannot be spelled as
+-- one.
 abbrev pub CanBeHint : Word → Type 0
 CanBeHint (hint h) = IfSome h (λ a. a < 4294967295)
 CanBeHint _ = Unit {0}

@@ -34,7 +34,8 @@ hint_words (Some h) = hint h.prev ∷ hint h.next ∷ []
 
 -- the words of a name and of what stands behind it
 abbrev pub words_in : Named → List Word
-words_in named = text named.name.now ∷ (map number (take named.count named.numbers) ++ hint_words named.hint)
+words_in named = text named.name.now ∷ (map number (take named.count named.numbers)
+    ++ hint_words named.hint)
 
 -- a name, numbers and hints, each with a space in front of it
 abbrev pub written : List Word → List ℕ

@@ -8,7 +8,8 @@ use std::alloc::AllocError;
 
 /// Appends a line: a word, and numbers behind it with one space before each.
 pub fn append_line(text: &mut Vec<u8>, word: &[u8], numbers: &[u128]) -> Result<(), AllocError>
-    ensures { OnOk result (text.new.items ≡ text.old.items ++ words_line (word.now ∷ map decimal numbers.now)) }
+    ensures { OnOk result (text.new.items ≡ text.old.items ++ words_line (word.now
+        ∷ map decimal numbers.now)) }
 {
     text.extend_from_slice(word)?;
     append_numbers(text, numbers)?;

@@ -8,9 +8,11 @@ use crate::names::Verb;
 use crate::pieces::Pieces;
 use liq_types::Call;
 
-/// The call that a verb makes of the words behind it: one that counts only where the reader is then done.
+/// The call that a verb makes of the words behind it: one that counts only where the reader is then
+/// done.
 pub(crate) fn arguments(verb: Verb, words: &mut Pieces<'_>) -> Call
-    ensures { finished result words.new.has_failed (pieces_left words.new) ≡ unless words.old.has_failed (arguments_of verb (pieces_left words.old)) }
+    ensures { finished result words.new.has_failed (pieces_left words.new)
+        ≡ unless words.old.has_failed (arguments_of verb (pieces_left words.old)) }
 {
     match verb {
         Verb::Price => Call::Price(words.number()),

@@ -15,13 +15,17 @@ pub fn one_request()
 
 /// A line of several sessions spells at most one session and request.
 pub fn one_session_request()
-    ensures { (line : List ℕ) (m n : ℕ) (a b : Request) → SpellsInSession line m a → SpellsInSession line n b → (m ≡ n) × (a ≡ b) }
+    ensures { (line : List ℕ) (m n : ℕ) (a b : Request) → SpellsInSession line m a
+        → SpellsInSession line n b → (m ≡ n) × (a ≡ b) }
 {}
 
-/// A line that spells a request has at most 200 bytes, so whoever reads lines may give up on a longer one.
+/// A line that spells a request has at most 200 bytes, so whoever reads lines may give up on a
+/// longer one.
 pub fn short_lines()
-    ensures line { (line : List ℕ) (request : Request) → Spells line request → length line ≤ LINE_BYTES }
-    ensures in_session { (line : List ℕ) (session : ℕ) (request : Request) → SpellsInSession line session request → length line ≤ LINE_BYTES }
+    ensures line { (line : List ℕ) (request : Request) → Spells line request
+        → length line ≤ LINE_BYTES }
+    ensures in_session { (line : List ℕ) (session : ℕ) (request : Request)
+        → SpellsInSession line session request → length line ≤ LINE_BYTES }
 {}
 
 /// No text of a reply has more than 255 bytes.

@@ -61,8 +61,8 @@ pub fn read_query(line: &[u8]) -> Option<Query>
     }
 }
 
-/// The request that a line spells, the line end not counted: [`BadLine`] where no request is spelled so, as on every line of
-/// more than 200 bytes.
+/// The request that a line spells, the line end not counted: [`BadLine`] where no request is
+/// spelled so, as on every line of more than 200 bytes.
 pub fn read_line(line: &[u8]) -> Result<Request, BadLine>
     ensures found { IfOk result (λ request. Spells line.now request) }
     // So at most one request is spelled.
@@ -91,13 +91,16 @@ fn session_request_in(line: &[u8]) -> Option<(u8, Request)>
     Some((session, request))
 }
 
-/// The session, from 1 to 8, and the request that a line of several sessions spells: the session's digit and a space stand in
-/// front of a line as [`read_line`] reads it. No such line has more than 200 bytes either.
+/// The session, from 1 to 8, and the request that a line of several sessions spells: the session's
+/// digit and a space stand in front of a line as [`read_line`] reads it. No such line has more than
+/// 200 bytes either.
 pub fn read_session_line(line: &[u8]) -> Result<(u8, Request), BadLine>
     ensures found { IfOk result (λ read. SpellsInSession line.now read.0 read.1) }
     // So at most one session and request are spelled.
-    ensures only { (session : ℕ) (request : Request) → SpellsInSession line.now session request → result ≡ Ok (session, request) }
-    ensures bad { OnErr result ((session : ℕ) (request : Request) → SpellsInSession line.now session request → ⊥) }
+    ensures only { (session : ℕ) (request : Request) → SpellsInSession line.now session request
+        → result ≡ Ok (session, request) }
+    ensures bad { OnErr result ((session : ℕ) (request : Request)
+        → SpellsInSession line.now session request → ⊥) }
 {
     session_request_in(line).ok_or(BadLine)
 }

@@ -51,11 +51,13 @@ impl<'a> Pieces<'a> {
         !self.has_failed && self.rest.is_none()
     }
 
-    /// The account that the next word stands for. Where it stands for none, the reader has failed for good.
+    /// The account that the next word stands for. Where it stands for none, the reader has failed
+    /// for good.
     pub(crate) fn account(&mut self) -> u32
         ensures value { result ≡ value_read an_account (pieces_left self.old) }
         ensures left { pieces_left self.new ≡ others (pieces_left self.old) }
-        ensures failed { self.new.has_failed ≡ fails an_account self.old.has_failed (pieces_left self.old) }
+        ensures failed { self.new.has_failed ≡ fails an_account self.old.has_failed
+            (pieces_left self.old) }
     {
         match values::account(self.next()) {
             Some(account) => account,
@@ -66,11 +68,13 @@ impl<'a> Pieces<'a> {
         }
     }
 
-    /// The number that the next word stands for. Where it stands for none, the reader has failed for good.
+    /// The number that the next word stands for. Where it stands for none, the reader has failed
+    /// for good.
     pub(crate) fn number(&mut self) -> u64
         ensures value { result ≡ value_read a_number (pieces_left self.old) }
         ensures left { pieces_left self.new ≡ others (pieces_left self.old) }
-        ensures failed { self.new.has_failed ≡ fails a_number self.old.has_failed (pieces_left self.old) }
+        ensures failed { self.new.has_failed ≡ fails a_number self.old.has_failed
+            (pieces_left self.old) }
     {
         match values::number(self.next()) {
             Some(number) => number,
@@ -81,11 +85,13 @@ impl<'a> Pieces<'a> {
         }
     }
 
-    /// The hint that the next word stands for. Where it stands for none, the reader has failed for good.
+    /// The hint that the next word stands for. Where it stands for none, the reader has failed for
+    /// good.
     pub(crate) fn hint(&mut self) -> Option<u32>
         ensures value { result ≡ value_read a_hint (pieces_left self.old) }
         ensures left { pieces_left self.new ≡ others (pieces_left self.old) }
-        ensures failed { self.new.has_failed ≡ fails a_hint self.old.has_failed (pieces_left self.old) }
+        ensures failed { self.new.has_failed ≡ fails a_hint self.old.has_failed
+            (pieces_left self.old) }
     {
         match values::hint(self.next()) {
             Some(hint) => hint,
@@ -98,9 +104,13 @@ impl<'a> Pieces<'a> {
 
     /// The next two as hints: the trove before and the one after.
     pub(crate) fn hints(&mut self) -> HintWords
-        ensures value { result ≡ record { prev = value_read a_hint (pieces_left self.old); next = value_read a_hint (others (pieces_left self.old)) } }
+        ensures value { result ≡ record {
+          prev = value_read a_hint (pieces_left self.old);
+          next = value_read a_hint (others (pieces_left self.old));
+        } }
         ensures left { pieces_left self.new ≡ others (others (pieces_left self.old)) }
-        ensures failed { self.new.has_failed ≡ fails a_hint (fails a_hint self.old.has_failed (pieces_left self.old)) (others (pieces_left self.old)) }
+        ensures failed { self.new.has_failed ≡ fails a_hint (fails a_hint self.old.has_failed
+            (pieces_left self.old)) (others (pieces_left self.old)) }
     {
         HintWords {
             prev: self.hint(),
@@ -109,7 +119,8 @@ impl<'a> Pieces<'a> {
     }
 }
 
-/// The words of a line that has four, with one space between two: none exactly where it has fewer or more.
+/// The words of a line that has four, with one space between two: none exactly where it has fewer
+/// or more.
 #[tactic(auto, unfolding(crate::specs::Pieces::rest_pieces))]
 pub fn four_words(line: &[u8]) -> Option<(&[u8], &[u8], &[u8], &[u8])>
     ensures { MatchOption result (length (pieces_of line.now) ≢ 4)

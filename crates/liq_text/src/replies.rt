@@ -13,7 +13,8 @@ use liq_types::{Done, Info, NoMemory, Refusal, Reply};
 
 fn put_refusal(out: &mut Vec<u8>, refusal: &Refusal)
     requires { vec_len out.old + 240 ≤ vec_capacity out.old }
-    ensures items { out.new.items ≡ out.old.items ++ spaced (map decimal (refusal_numbers refusal.now)) }
+    ensures items { out.new.items ≡ out.old.items
+        ++ spaced (map decimal (refusal_numbers refusal.now)) }
     ensures len { vec_len out.new ≤ vec_len out.old + 240 }
     ensures capacity { vec_capacity out.old ≤ vec_capacity out.new }
 {
@@ -66,8 +67,8 @@ fn put_reply(out: &mut Vec<u8>, reply: &Reply)
     }
 }
 
-/// Appends the text of a reply, without a line end. Refused, `out` is as it was. No text has more than 255 bytes, and where
-/// there is room for as many, it is not refused.
+/// Appends the text of a reply, without a line end. Refused, `out` is as it was. No text has more
+/// than 255 bytes, and where there is room for as many, it is not refused.
 pub fn write_reply(reply: &Reply, out: &mut Vec<u8>) -> Result<(), NoMemory>
     ensures ok { OnOk result (out.new.items ≡ out.old.items ++ text reply.now) }
     ensures short { OnOk result (length (text reply.now) ≤ REPLY_BYTES) }

@@ -11,12 +11,13 @@ use crate::writing::{put, put_first, put_number, put_numbers};
 use liq_types::amounts::LINE_BYTES;
 use liq_types::{Call, Command, HintWords, NoMemory, Query, Request};
 
-/// Appends the line that spells the request, without a line end. Refused, `out` is as it was. No line has more than 200 bytes,
-/// and where there is room for as many, it is not refused. A hint that is account 4294967295 is written as that number, which
-/// is read as no hint.
+/// Appends the line that spells the request, without a line end. Refused, `out` is as it was. No
+/// line has more than 200 bytes, and where there is room for as many, it is not refused. A hint
+/// that is account 4294967295 is written as that number, which is read as no hint.
 pub fn write_request(request: &Request, out: &mut Vec<u8>) -> Result<(), NoMemory>
     ensures written { OnOk result (out.new.items ≡ out.old.items ++ line_of request.now) }
-    ensures ok { HasSpelling request.now → OnOk result (AppendsLine out.old.items out.new.items request.now) }
+    ensures ok { HasSpelling request.now
+        → OnOk result (AppendsLine out.old.items out.new.items request.now) }
     ensures err { OnErr result (out.new.items ≡ out.old.items) }
     ensures room { vec_len out.old + LINE_BYTES ≤ vec_capacity out.old → IsOk result }
     ensures capacity { vec_capacity out.old ≤ vec_capacity out.new }
@@ -46,7 +47,8 @@ fn put_request(out: &mut Vec<u8>, request: &Request)
 
 fn put_command(out: &mut Vec<u8>, command: &Command)
     requires { vec_len out.old + 186 ≤ vec_capacity out.old }
-    ensures items { out.new.items ≡ out.old.items ++ join_with_byte 32 (map piece_of (request_words (Do command.now))) }
+    ensures items { out.new.items ≡ out.old.items ++ join_with_byte 32
+        (map piece_of (request_words (Do command.now))) }
     ensures range { AllByRecursion IsInRange (request_words (Do command.now)) }
     ensures len { vec_len out.new ≤ vec_len out.old + 186 }
     ensures capacity { vec_capacity out.old ≤ vec_capacity out.new }
@@ -128,7 +130,8 @@ fn named_query(query: &Query) -> Named
     }
 }
 
-/// A name and what stands behind it: the first `count` of the numbers, and hints where there are any.
+/// A name and what stands behind it: the first `count` of the numbers, and hints where there are
+/// any.
 #[derive(Drop)]
 struct Named {
     name: &'static [u8],
@@ -149,7 +152,12 @@ fn words(name: &'static [u8], numbers: [u64; 6], count: usize) -> Named
 }
 
 fn hinted(name: &'static [u8], numbers: [u64; 6], count: usize, hint: HintWords) -> Named
-    ensures { result ≡ record { name = name.entry; numbers = numbers; count = count; hint = Some hint } }
+    ensures { result ≡ record {
+      name = name.entry;
+      numbers = numbers;
+      count = count;
+      hint = Some hint;
+    } }
 {
     Named {
         name,

@@ -4,8 +4,8 @@ ghost use Rattle.std.specs.Prelude.{ℕ, ◌≡◌, ◌<◌, ◌≤◌, ◌+◌,
 ghost use Rattle.std.specs.Char.{digit_value};
 ghost use Rattle.liq_text.specs.Reading.{number_of, account_of, hint_of};
 
-/// The number that a word stands for: none exactly where the word is not how a number below 2^64 is written, without a sign and
-/// without leading zeros.
+/// The number that a word stands for: none exactly where the word is not how a number below 2^64 is
+/// written, without a sign and without leading zeros.
 pub fn read_number(word: &[u8]) -> Option<u64>
     ensures number { IfSome result (λ n. word.now ≡ decimal n) }
     ensures only { (n : ℕ) → n < 2 ^ 64 → word.now ≡ decimal n → result ≡ Some n }
@@ -14,8 +14,8 @@ pub fn read_number(word: &[u8]) -> Option<u64>
     number(word)
 }
 
-/// The account that a word stands for: none exactly where the word is not how a number below 2^32 is written, without a sign and
-/// without leading zeros.
+/// The account that a word stands for: none exactly where the word is not how a number below 2^32
+/// is written, without a sign and without leading zeros.
 pub fn read_account(word: &[u8]) -> Option<u32>
     ensures account { IfSome result (λ a. word.now ≡ decimal a) }
     ensures only { (a : ℕ) → a < 2 ^ 32 → word.now ≡ decimal a → result ≡ Some a }
@@ -47,7 +47,8 @@ fn has_leading_zero(word: &[u8]) -> bool
 /// The number with one digit more behind it.
 fn with_digit(number: u64, byte: u8) -> Option<u64>
     ensures { MatchOption result ((digit_value byte < 10) → 2 ^ 64 ≤ number * 10 + digit_value byte)
-        (λ more. (digit_value byte < 10) × (more ≡ number * 10 + digit_value byte) × (more < 2 ^ 64)) }
+        (λ more. (digit_value byte < 10) × (more ≡ number * 10 + digit_value byte)
+        × (more < 2 ^ 64)) }
 {
     let digit = char::from(byte).to_digit(10)?;
     number.checked_mul(10)?.checked_add(u64::from(digit))

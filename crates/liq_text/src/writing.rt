@@ -48,7 +48,8 @@ pub(crate) fn put_numbers<I: Integer>(out: &mut Vec<u8>, numbers: &[I])
     }
 }
 
-// The numbers with one space between two. They are written into one place, from the last to the first, and copied once.
+// The numbers with one space between two. They are written into one place, from the last to the
+// first, and copied once.
 pub(crate) fn put_list(out: &mut Vec<u8>, numbers: &[u64])
     requires few { length numbers.now ≤ 10 }
     requires room { vec_len out.old + length numbers.now * 21 ≤ vec_capacity out.old }
@@ -64,7 +65,8 @@ pub(crate) fn put_list(out: &mut Vec<u8>, numbers: &[u64])
 // Ten numbers of 64 bits, and a byte beside each.
 const LIST_BYTES: usize = 210;
 
-// Writes the numbers, with one space between two, so that they end where the text ends. Tells where they start.
+// Writes the numbers, with one space between two, so that they end where the text ends. Tells where
+// they start.
 fn write_list(numbers: &[u64], text: &mut [u8]) -> usize
     requires few { length numbers.now ≤ 10 }
     requires room { length text.old ≡ LIST_BYTES }

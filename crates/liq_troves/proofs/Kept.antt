@@ -1,4 +1,5 @@
--- What holds of the troves at all times: kept where one is set or taken out, where sums rise and where stakes are snapped.
+-- What holds of the troves at all times: kept where one is set or taken out, where sums rise and where stakes are
+-- snapped.
 use Rattle.std.proofs.Common.{◌≡◌, ℕ, ◌+◌, ◌≤◌, Bool, true, false, [], ◌∷◌, refl, sym, ap, ◌∙◌, arith, Some, None, Option, length}
 use Rattle.std.specs.Prelude.{sum_by, option_map, unwrap_or, IfSome, nat_le, ◌&&◌}
 use denote.Ref.{Bor}
@@ -38,62 +39,81 @@ counted {X} (e ∷ es) =
     omega (arith, law, more)
 
 -- a row put in, beside the other rows
-pub sum_beside : {X : Type 0} (f : X → ℕ) (table : Table X) (key : ℕ) (x : X) → Ascends table → sum_by f (values_of (put table key x)) ≡ sum_by f (values_of (without table key)) + f x
+pub sum_beside : {X : Type 0} (f : X → ℕ) (table : Table X) (key : ℕ) (x : X) → Ascends table
+    → sum_by f (values_of (put table key x)) ≡ sum_by f (values_of (without table key)) + f x
 sum_beside f table key x s =
     let with = sum_by-insert_entry f nat_cmp_total table key x s in
     let out = sum_by-remove_entry f (is_at (nat_cmp key)) table in
     omega (arith, with, out)
 
-pub count_beside : {X : Type 0} (table : Table X) (key : ℕ) (x : X) → Ascends table → length (put table key x) ≡ length (without table key) + 1
+pub count_beside : {X : Type 0} (table : Table X) (key : ℕ) (x : X) → Ascends table → length (put table key x)
+    ≡ length (without table key) + 1
 count_beside {X} table key x s =
     let law = sum_beside (λ (y : X). 1) table key x s in
     omega (arith, law, counted (put table key x), counted (without table key))
 
-pub stakes_taken : (troves : Table Trove) (sums : Sums) (count account : ℕ) (t : Trove) → AreKept troves sums count → at troves account ≡ Some t → stakes_in (without troves account) + t.stake ≡ sums.stakes
+pub stakes_taken : (troves : Table Trove) (sums : Sums) (count account : ℕ) (t : Trove) → AreKept troves sums count
+    → at troves account ≡ Some t → stakes_in (without troves account) + t.stake ≡ sums.stakes
 stakes_taken troves sums count account t h there =
     let law = sum_taken (λ (x : Trove). x.stake) troves account t there in
     omega (arith, law, h.stakes)
 
 -- an account without a trove has none to take out
-pub sum_none : {X : Type 0} (f : X → ℕ) (table : Table X) (key : ℕ) → at table key ≡ None → sum_by f (values_of (without table key)) ≡ sum_by f (values_of table)
+pub sum_none : {X : Type 0} (f : X → ℕ) (table : Table X) (key : ℕ) → at table key ≡ None
+    → sum_by f (values_of (without table key)) ≡ sum_by f (values_of table)
 sum_none {X} f table key h =
     let law = sum_by-remove_entry f (is_at (nat_cmp key)) table in
     let none : unwrap_or (option_map f (at table key)) 0 ≡ 0 = ap (λ (o : Option X). unwrap_or (option_map f o) 0) h in
     omega (arith, law, none)
 
-pub count_none : {X : Type 0} (table : Table X) (key : ℕ) → at table key ≡ None → length (without table key) ≡ length table
+pub count_none : {X : Type 0} (table : Table X) (key : ℕ) → at table key ≡ None → length (without table key)
+    ≡ length table
 count_none {X} table key h =
     let law = sum_none (λ (y : X). 1) table key h in
     omega (arith, law, counted table, counted (without table key))
 
 -- ---- bounds
 
-pub stakes_least : (coll debt : ℕ) (troves : Table Trove) → AllByRecursion (λ (row : ℕ × Trove). IsKept coll debt row.1) troves → length troves ≤ stakes_in troves
+pub stakes_least : (coll debt : ℕ) (troves : Table Trove)
+    → AllByRecursion (λ (row : ℕ × Trove). IsKept coll debt row.1) troves → length troves ≤ stakes_in troves
 stakes_least coll debt troves h =
     let less = sums_within (λ (t : Trove). 1) (λ (t : Trove). t.stake) (IsKept coll debt) (λ t k. k.some) troves h in
     omega (arith, less, counted troves)
 
-pub stakes_most : (coll debt : ℕ) (troves : Table Trove) → AllByRecursion (λ (row : ℕ × Trove). IsKept coll debt row.1) troves → stakes_in troves ≤ coll_in troves
-stakes_most coll debt troves h = sums_within (λ (t : Trove). t.stake) (λ (t : Trove). t.coll) (IsKept coll debt) (λ t k. k.within) troves h
+pub stakes_most : (coll debt : ℕ) (troves : Table Trove)
+    → AllByRecursion (λ (row : ℕ × Trove). IsKept coll debt row.1) troves → stakes_in troves ≤ coll_in troves
+stakes_most coll debt troves h = sums_within (λ (t : Trove). t.stake) (λ (t : Trove). t.coll) (IsKept coll debt)
+    (λ t k. k.within) troves h
 
 -- ---- rows that are found and written
 
-pub found_kept : (coll debt : ℕ) (troves : Table Trove) (account : ℕ) (o : Option (Bor Trove)) → option_copied o ≡ at troves account → AllByRecursion (λ (row : ℕ × Trove). IsKept coll debt row.1) troves → IfSome o (λ t. IsKept coll debt t.now)
+pub found_kept : (coll debt : ℕ) (troves : Table Trove) (account : ℕ) (o : Option (Bor Trove))
+    → option_copied o ≡ at troves account → AllByRecursion (λ (row : ℕ × Trove). IsKept coll debt row.1) troves
+    → IfSome o (λ t. IsKept coll debt t.now)
 found_kept coll debt troves account None is h = tt
 found_kept coll debt troves account (Some t) is h = all-at (IsKept coll debt) troves account t.now h (sym is)
 
 pub used_row : (t : Trove) → 1 ≤ t.stake → is_used_trove t ≡ true
 used_row t h = grind (arith, nat_tests)
 
-pub written_row : (troves : Table Trove) (account : ℕ) (t : Trove) → 1 ≤ t.stake → written is_used_trove troves account t ≡ put troves account t
+pub written_row : (troves : Table Trove) (account : ℕ) (t : Trove) → 1 ≤ t.stake
+    → written is_used_trove troves account t ≡ put troves account t
 written_row troves account t h = ap (λ b. if b then put troves account t else without troves account) (used_row t h)
 
 -- ---- kept
 
-pub set_kept : (troves : Table Trove) (sums : Sums) (count account coll debt : ℕ) → AreKept troves sums count → 1 ≤ coll → coll_in (set_in sums troves account coll debt) ≤ LIM → AreKept (set_in sums troves account coll debt) (beside sums (set_in sums troves account coll debt)) (length (set_in sums troves account coll debt))
+pub set_kept : (troves : Table Trove) (sums : Sums) (count account coll debt : ℕ) → AreKept troves sums count → 1 ≤ coll
+    → coll_in (set_in sums troves account coll debt) ≤ LIM
+    → AreKept (set_in sums troves account coll debt) (beside sums (set_in sums troves account coll debt))
+    (length (set_in sums troves account coll debt))
 set_kept troves sums count account coll debt h some limit =
     let stake = stake_within sums.snap_stakes sums.snap_coll coll h.snap some in
-    let row : IsKept sums.coll sums.debt (set_row sums coll debt) = record { some = stake.some; within = stake.within; mark_coll = omega arith; mark_debt = omega arith } in
+    let row : IsKept sums.coll sums.debt (set_row sums coll debt) = record {
+      some = stake.some;
+      within = stake.within;
+      mark_coll = omega arith;
+      mark_debt = omega arith;
+    } in
     record {
       ascend = put-ascends troves account (set_row sums coll debt) h.ascend;
       each = all-put (IsKept sums.coll sums.debt) troves account (set_row sums coll debt) row h.each;
@@ -107,14 +127,18 @@ set_kept troves sums count account coll debt h some limit =
 
 -- what a trove that is set makes of the number and the stakes of the others
 pub record IsSetBeside (troves : Table Trove) (sums : Sums) (account coll debt others stakes : ℕ) : Type 0 where
-  pub kept : AreKept (set_in sums troves account coll debt) (beside sums (set_in sums troves account coll debt)) (length (set_in sums troves account coll debt))
+  pub kept : AreKept (set_in sums troves account coll debt) (beside sums (set_in sums troves account coll debt))
+      (length (set_in sums troves account coll debt))
   pub count_is : others + 1 ≡ length (set_in sums troves account coll debt)
   pub stakes_are : stakes + (set_row sums coll debt).stake ≡ stakes_in (set_in sums troves account coll debt)
   pub count_fits : others + 1 ≤ LIM
   pub stakes_fit : stakes + (set_row sums coll debt).stake ≤ LIM
   pub some : 1 ≤ (set_row sums coll debt).stake
 
-pub set_beside : (troves : Table Trove) (sums : Sums) (count account coll debt others stakes : ℕ) → AreKept troves sums count → 1 ≤ coll → coll_in (set_in sums troves account coll debt) ≤ LIM → others ≡ length (without troves account) → stakes ≡ stakes_in (without troves account) → IsSetBeside troves sums account coll debt others stakes
+pub set_beside : (troves : Table Trove) (sums : Sums) (count account coll debt others stakes : ℕ)
+    → AreKept troves sums count → 1 ≤ coll → coll_in (set_in sums troves account coll debt) ≤ LIM
+    → others ≡ length (without troves account) → stakes ≡ stakes_in (without troves account)
+    → IsSetBeside troves sums account coll debt others stakes
 set_beside troves sums count account coll debt others stakes h some limit others_are stakes_are =
     let kept = set_kept troves sums count account coll debt h some limit in
     let row = set_row sums coll debt in
@@ -131,7 +155,8 @@ set_beside troves sums count account coll debt others stakes h some limit others
       some = (stake_within sums.snap_stakes sums.snap_coll coll h.snap some).some;
     }
 
-pub without_kept : (troves : Table Trove) (sums : Sums) (count account : ℕ) → AreKept troves sums count → AreKept (without troves account) (beside sums (without troves account)) (length (without troves account))
+pub without_kept : (troves : Table Trove) (sums : Sums) (count account : ℕ) → AreKept troves sums count
+    → AreKept (without troves account) (beside sums (without troves account)) (length (without troves account))
 without_kept troves sums count account h =
     let out = sum_by-remove_entry (λ (t : Trove). t.coll) (is_at (nat_cmp account)) troves in
     record {
@@ -146,14 +171,32 @@ without_kept troves sums count account h =
     }
 
 -- the same rows under other sums or another snapshot
-kept_under : (troves : Table Trove) (sums made : Sums) (count : ℕ) → AreKept troves sums count → made.stakes ≡ sums.stakes → AllByRecursion (λ (row : ℕ × Trove). IsKept made.coll made.debt row.1) troves → made.coll ≤ SUM_MOST → made.debt ≤ SUM_MOST → made.snap_stakes ≤ made.snap_coll → AreKept troves made count
+kept_under : (troves : Table Trove) (sums made : Sums) (count : ℕ) → AreKept troves sums count
+    → made.stakes ≡ sums.stakes → AllByRecursion (λ (row : ℕ × Trove). IsKept made.coll made.debt row.1) troves
+    → made.coll ≤ SUM_MOST → made.debt ≤ SUM_MOST → made.snap_stakes ≤ made.snap_coll → AreKept troves made count
 kept_under troves sums made count h same each coll_fits debt_fits snap =
-    record { ascend = h.ascend; each = each; sum_coll = coll_fits; sum_debt = debt_fits; stakes = same ∙ h.stakes; snap = snap; limit = h.limit; counted = h.counted }
+    record {
+      ascend = h.ascend;
+      each = each;
+      sum_coll = coll_fits;
+      sum_debt = debt_fits;
+      stakes = same
+          ∙ h.stakes;
+      snap = snap;
+      limit = h.limit;
+      counted = h.counted;
+    }
 
-pub snapped_kept : (troves : Table Trove) (sums : Sums) (count total : ℕ) → AreKept troves sums count → coll_in troves ≤ total → AreKept troves (sums_snapped sums total) count
+pub snapped_kept : (troves : Table Trove) (sums : Sums) (count total : ℕ) → AreKept troves sums count
+    → coll_in troves ≤ total → AreKept troves (sums_snapped sums total) count
 snapped_kept troves sums count total h enough =
     let less = stakes_most sums.coll sums.debt troves h.each in
-    kept_under troves sums (sums_snapped sums total) count h refl h.each h.sum_coll h.sum_debt (omega (arith, less, h.stakes, enough))
+    kept_under troves sums (sums_snapped sums total) count h refl h.each h.sum_coll h.sum_debt (omega (
+      arith,
+      less,
+      h.stakes,
+      enough,
+    ))
 
 -- ---- made of rows
 
@@ -174,16 +217,21 @@ kept_from_sound coll debt t h = record {
 
   both : (1 ≤ t.stake) × (t.stake ≤ t.coll) × (t.mark_coll ≤ coll) × (t.mark_debt ≤ debt)
   both =
-      let a = split (nat_le 1 t.stake && nat_le t.stake t.coll && nat_le (RESERVE + MIN_NET) t.debt && nat_le t.mark_coll coll) (nat_le t.mark_debt debt) h in
-      let b = split (nat_le 1 t.stake && nat_le t.stake t.coll && nat_le (RESERVE + MIN_NET) t.debt) (nat_le t.mark_coll coll) a.0 in
+      let a = split (nat_le 1 t.stake && nat_le t.stake t.coll && nat_le (RESERVE + MIN_NET) t.debt && nat_le
+      t.mark_coll coll) (nat_le t.mark_debt debt) h in
+      let b = split (nat_le 1 t.stake && nat_le t.stake t.coll && nat_le (RESERVE + MIN_NET) t.debt)
+      (nat_le t.mark_coll coll) a.0 in
       let c = split (nat_le 1 t.stake && nat_le t.stake t.coll) (nat_le (RESERVE + MIN_NET) t.debt) b.0 in
       let d = split (nat_le 1 t.stake) (nat_le t.stake t.coll) c.0 in
       (le 1 t.stake d.0, le t.stake t.coll d.1, le t.mark_coll coll b.1, le t.mark_debt debt a.1)
 
-pub each_from_sound : (troves : Table Trove) (sums : Sums) → AreSoundRows troves sums → AllByRecursion (λ (row : ℕ × Trove). IsKept sums.coll sums.debt row.1) troves
-each_from_sound troves sums h = all-weaken (λ t. is_sound_trove sums.coll sums.debt t ≡ true) (IsKept sums.coll sums.debt) (kept_from_sound sums.coll sums.debt) troves h.each
+pub each_from_sound : (troves : Table Trove) (sums : Sums) → AreSoundRows troves sums
+    → AllByRecursion (λ (row : ℕ × Trove). IsKept sums.coll sums.debt row.1) troves
+each_from_sound troves sums h = all-weaken (λ t. is_sound_trove sums.coll sums.debt t
+    ≡ true) (IsKept sums.coll sums.debt) (kept_from_sound sums.coll sums.debt) troves h.each
 
-pub kept_from_rows : (troves : Table Trove) (sums : Sums) (count : ℕ) → count ≡ length troves → AreSoundRows troves sums → AreKept troves sums count
+pub kept_from_rows : (troves : Table Trove) (sums : Sums) (count : ℕ) → count ≡ length troves → AreSoundRows troves sums
+    → AreKept troves sums count
 kept_from_rows troves sums count counts h = record {
   ascend = h.ascend;
   each = each_from_sound troves sums h;
@@ -196,9 +244,11 @@ kept_from_rows troves sums count counts h = record {
 }
 
 -- each of them is used
-rows_used : (troves : Table Trove) (coll debt : ℕ) → AllByRecursion (λ (row : ℕ × Trove). IsKept coll debt row.1) troves → AllByRecursion (λ (row : ℕ × Trove). is_used_trove row.1 ≡ true) troves
+rows_used : (troves : Table Trove) (coll debt : ℕ) → AllByRecursion (λ (row : ℕ × Trove). IsKept coll debt row.1) troves
+    → AllByRecursion (λ (row : ℕ × Trove). is_used_trove row.1 ≡ true) troves
 rows_used [] coll debt h = tt
 rows_used (e ∷ es) coll debt h = (used_row e.1 h.0.some, rows_used es coll debt h.1)
 
 pub rows_seen : (troves : Table Trove) (sums : Sums) → AreSoundRows troves sums → rows is_used_trove troves ≡ troves
-rows_seen troves sums h = rows_all is_used_trove troves (rows_used troves sums.coll sums.debt (each_from_sound troves sums h))
+rows_seen troves sums h = rows_all is_used_trove troves (rows_used troves sums.coll sums.debt
+    (each_from_sound troves sums h))

@@ -1,5 +1,5 @@
 pub mod Added
 pub mod BooksOf
-pub mod Kept
+mod Kept
 pub mod Parts
 pub mod Standing

@@ -41,7 +41,8 @@ pub record AreKept (troves : Table Trove) (sums : Sums) (count : ℕ) : Type 0 w
 -- rows and sums that some sound image has
 pub record AreSoundRows (troves : Table Trove) (sums : Sums) : Type 0 where
   pub ascend : Ascends troves
-  pub each : AllByRecursion (λ (row : ℕ × Trove). is_sound_trove sums.coll sums.debt row.1 ≡ true) troves
+  pub each : AllByRecursion (λ (row : ℕ × Trove). is_sound_trove sums.coll sums.debt row.1
+      ≡ true) troves
   pub sum_coll : sums.coll ≤ SUM_MOST
   pub sum_debt : sums.debt ≤ SUM_MOST
   pub stakes : sums.stakes ≡ stakes_in troves

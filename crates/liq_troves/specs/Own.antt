@@ -31,7 +31,12 @@ placed s account coll debt =
     record s {
       active_coll = s.active_coll + coll;
       active_debt = s.active_debt + debt;
-      troves = put s.troves account (record { coll = coll; debt = debt; stake = stake_for s coll; mark = After (length s.redistributions) });
+      troves = put s.troves account (record {
+        coll = coll;
+        debt = debt;
+        stake = stake_for s coll;
+        mark = After (length s.redistributions);
+      });
     }
 
 -- an own operation, after which the trove has these amounts
@@ -44,7 +49,11 @@ redistributed s coll debt =
     record s {
       default_coll = s.default_coll + coll;
       default_debt = s.default_debt + debt;
-      redistributions = s.redistributions ++ record { coll = coll; debt = debt; stakes = stakes_of s } ∷ [];
+      redistributions = s.redistributions ++ record {
+        coll = coll;
+        debt = debt;
+        stakes = stakes_of s;
+      } ∷ [];
     }
 
 -- stakes and collateral as they are now, by which later stakes are made

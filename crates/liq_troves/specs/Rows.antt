@@ -1,4 +1,5 @@
--- Troves as they are kept: what a row has by the sums per unit of stake, and what changes rows and sums.
+-- Troves as they are kept: what a row has by the sums per unit of stake, and what changes rows and
+-- sums.
 use Rattle.std.specs.Prelude.{ℕ, ◌+◌, ◌-◌, ◌==◌, max, nat_lt, Option, option_map, List, [], ◌∷◌, sum_by, ℤ, pos, ◌-ℤ◌, if◌then◌else◌}
 use Rattle.std.specs.Map.{values_of}
 use Rattle.liq_num.specs.Quotient.{floor_of}
@@ -17,7 +18,10 @@ pending stake now mark = floor_of stake (now - mark) ONE
 
 -- collateral and debt of a trove: what is recorded and what is pending
 abbrev pub entire_by : Sums → Trove → ℕ × ℕ
-entire_by sums t = (t.coll + pending t.stake sums.coll t.mark_coll, t.debt + pending t.stake sums.debt t.mark_debt)
+entire_by sums t = (
+  t.coll + pending t.stake sums.coll t.mark_coll,
+  t.debt + pending t.stake sums.debt t.mark_debt,
+)
 
 -- of an account that has a trove
 abbrev pub entire_in : Sums → Table Trove → ℕ → Option (ℕ × ℕ)
@@ -25,7 +29,8 @@ entire_in sums troves account = option_map (entire_by sums) (at troves account)
 
 -- ---- keys
 
--- A trove's key stays from one own operation to the next: debt per unit of stake, less what a unit had got before.
+-- A trove's key stays from one own operation to the next: debt per unit of stake, less what a unit
+-- had got before.
 abbrev pub key_by : Trove → ℤ
 key_by t = pos (floor_of t.debt ONE t.stake) -ℤ pos t.mark_debt
 
@@ -33,7 +38,8 @@ key_by t = pos (floor_of t.debt ONE t.stake) -ℤ pos t.mark_debt
 
 -- the stake for collateral: its part of the stakes as of the last liquidation, at least 1
 abbrev pub stake_by : ℕ → ℕ → ℕ → ℕ
-stake_by snap_stakes snap_coll coll = if snap_coll == 0 then coll else max 1 (floor_of coll snap_stakes snap_coll)
+stake_by snap_stakes snap_coll coll = if snap_coll == 0 then coll
+    else max 1 (floor_of coll snap_stakes snap_coll)
 
 -- the row that an own operation writes: these amounts, and nothing pending
 abbrev pub set_row : Sums → ℕ → ℕ → Trove
@@ -67,7 +73,10 @@ sum_after sum amount stakes = sum + growth amount stakes
 
 abbrev pub sums_spread : Sums → ℕ → ℕ → Sums
 sums_spread sums coll debt =
-    record sums { coll = sum_after sums.coll coll sums.stakes; debt = sum_after sums.debt debt sums.stakes }
+    record sums {
+      coll = sum_after sums.coll coll sums.stakes;
+      debt = sum_after sums.debt debt sums.stakes;
+    }
 
 abbrev pub sum_limit : ℕ → Rule
 sum_limit sum = (nat_lt SUM_MOST sum, SumLimit sum)

@@ -1,4 +1,5 @@
--- Sums per unit of stake over the list of redistributions, and the troves of a state as they are kept.
+-- Sums per unit of stake over the list of redistributions, and the troves of a state as they are
+-- kept.
 use Rattle.std.specs.Prelude.{ℕ, ◌+◌, ◌*◌, ◌≤◌, ◌<◌, Option, List, fold, take, length, sum_by, count_by, nat_lt, ℤ}
 pub use Rattle.liq_troves.specs.Rows.{pending}
 use Rattle.liq_types.specs.declared.amounts.TheConstants.{ONE}
@@ -49,7 +50,13 @@ sums_words s =
 abbrev pub trove_row : State → TroveEntry → Trove
 trove_row s t =
     let mark = sums_at s t.mark in
-    record { coll = t.coll; debt = t.debt; stake = t.stake; mark_coll = mark.coll; mark_debt = mark.debt }
+    record {
+      coll = t.coll;
+      debt = t.debt;
+      stake = t.stake;
+      mark_coll = mark.coll;
+      mark_debt = mark.debt;
+    }
 
 abbrev pub trove_rows : State → Table Trove
 trove_rows s = map_rows (trove_row s) s.troves
@@ -75,16 +82,21 @@ key_of s t = key_by (trove_row s t)
 
 -- ---- exactly
 
--- What a stake gets exactly of a list of redistributions, as a fraction; the amount is the collateral or the debt of each.
+-- What a stake gets exactly of a list of redistributions, as a fraction; the amount is the
+-- collateral or the debt of each.
 abbrev pub exact_part : (Redistribution → ℕ) → ℕ → List Redistribution → ℕ × ℕ
 exact_part amount stake rs =
-    fold (λ (part : ℕ × ℕ) (r : Redistribution). (part.0 * r.stakes + amount r * stake * part.1, part.1 * r.stakes)) (0, 1) rs
+    fold (λ (part : ℕ × ℕ) (r : Redistribution). (
+      part.0 * r.stakes + amount r * stake * part.1,
+      part.1 * r.stakes,
+    )) (0, 1) rs
 
 -- how many redistributions there were of more than nothing
 abbrev pub somethings : (Redistribution → ℕ) → List Redistribution → ℕ
 somethings amount rs = count_by (λ (r : Redistribution). nat_lt 0 (amount r)) rs
 
--- what is pending is at most the exact part, and short of it by less than 1 and the stake's ONEth for each redistribution
+-- what is pending is at most the exact part, and short of it by less than 1 and the stake's ONEth
+-- for each redistribution
 pub record IsShortOf (pending stake items : ℕ) (exact : ℕ × ℕ) : Type 0 where
   pub at_most : pending * exact.1 ≤ exact.0
   pub short : exact.0 * ONE < (pending * ONE + ONE + items * stake) * exact.1

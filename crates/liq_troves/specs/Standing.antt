@@ -1,5 +1,5 @@
--- What stands of the troves in every sound state, and what each change makes of them: rows and sums beside the two pools
--- that hold the collateral and the debt of all troves.
+-- What stands of the troves in every sound state, and what each change makes of them: rows and sums
+-- beside the two pools that hold the collateral and the debt of all troves.
 use Rattle.std.specs.Prelude.{◌≡◌, ℕ, ◌+◌, ◌-◌, ◌*◌, ◌≤◌, List, Option, Some, None, sum_by}
 use Rattle.std.specs.List.{AllByRecursion}
 use Rattle.std.specs.Map.{values_of}
@@ -49,7 +49,8 @@ added_up f troves = sum_by f (values_of troves)
 
 pub record TrovesStand (b : Books) : Type 0 where
   pub ascend : Ascends b.troves
-  pub each : AllByRecursion (λ (row : ℕ × Trove). TroveStands b.sums.coll b.sums.debt row.1) b.troves
+  pub each : AllByRecursion (λ (row : ℕ × Trove). TroveStands b.sums.coll b.sums.debt row.1)
+      b.troves
   pub sum_coll : b.sums.coll ≤ SUM_MOST
   pub sum_debt : b.sums.debt ≤ SUM_MOST
   pub stakes : b.sums.stakes ≡ stakes_in b.troves

@@ -10,8 +10,8 @@ use liq_num::mul_div;
 use liq_types::amounts::{ONE, SUM_MOST};
 use liq_types::{Refusal, Trove};
 
-/// The entire collateral (gwei) and the entire debt (micro-LUSD) of a trove: what is recorded and what is pending by the
-/// sums.
+/// The entire collateral (gwei) and the entire debt (micro-LUSD) of a trove: what is recorded and
+/// what is pending by the sums.
 pub fn entire(trove: &Trove, sums: &Sums) -> (u64, u64)
     requires mark_coll { trove.now.mark_coll ≤ sums.now.coll }
     requires mark_debt { trove.now.mark_debt ≤ sums.now.debt }
@@ -35,8 +35,8 @@ fn pending_part(stake: u64, now: u128, mark: u128) -> u64
     mul_div(u128::from(stake), now - mark, u128::from(ONE)) as u64
 }
 
-/// The key of a trove in the ordered list, which stays from one operation of its owner to the next: micro-LUSD per unit of
-/// stake, over 10^18, less what a unit had got before.
+/// The key of a trove in the ordered list, which stays from one operation of its owner to the next:
+/// micro-LUSD per unit of stake, over 10^18, less what a unit had got before.
 pub fn key(trove: &Trove) -> i128
     requires stake { 1 ≤ trove.now.stake }
     requires mark { trove.now.mark_debt ≤ SUM_MOST }
@@ -74,7 +74,8 @@ pub fn grown(sum: u128, amount: u64, stakes: u64) -> u128
 pub fn raised(sum: u128, amount: u64, stakes: u64) -> Result<u128, Refusal>
     requires stakes { 1 ≤ stakes }
     requires sum { sum ≤ SUM_MOST }
-    ensures { result ≡ outcome (first_refusal (sum_limit (sum_after sum amount stakes) ∷ [])) (sum_after sum amount stakes) }
+    ensures { result ≡ outcome (first_refusal (sum_limit (sum_after sum amount stakes) ∷ []))
+        (sum_after sum amount stakes) }
 {
     let sum = grown(sum, amount, stakes);
     if sum > SUM_MOST {

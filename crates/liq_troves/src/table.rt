@@ -16,8 +16,8 @@ use liq_types::{NoMemory, Refusal, Trove, TroveRow, TroveRows};
 use std::alloc::Global;
 use std::marker::Model;
 
-/// The trove of each account that has one, and the sums. Contracts see the rows in ascending accounts, the accounts that
-/// have room for a trove, and the sums; room for a trove is none.
+/// The trove of each account that has one, and the sums. Contracts see the rows in ascending
+/// accounts, the accounts that have room for a trove, and the sums; room for a trove is none.
 #[derive(Drop)]
 pub struct Troves {
     table: Reserved<Trove>,
@@ -39,7 +39,13 @@ impl Troves {
     /// No troves, and sums of nothing.
     pub fn new(alloc: Global) -> Troves
         ensures rows { result.table.rows ≡ [] }
-        ensures sums { result.sums ≡ record { coll = 0; debt = 0; stakes = 0; snap_stakes = 0; snap_coll = 0 } }
+        ensures sums { result.sums ≡ record {
+          coll = 0;
+          debt = 0;
+          stakes = 0;
+          snap_stakes = 0;
+          snap_coll = 0;
+        } }
     {
         Troves {
             table: Reserved::new(alloc),
@@ -54,8 +60,9 @@ impl Troves {
         }
     }
 
-    /// Makes room for a trove of the account, so that [`Troves::set`] takes no memory. Rows and sums stay, also where there
-    /// is no memory, and so does all room that there was; where there was room none is wanted.
+    /// Makes room for a trove of the account, so that [`Troves::set`] takes no memory. Rows and
+    /// sums stay, also where there is no memory, and so does all room that there was; where there
+    /// was room none is wanted.
     pub fn reserve(&mut self, account: u32) -> Result<(), NoMemory>
         ensures rows { self.new.table.rows ≡ self.old.table.rows }
         ensures sums { self.new.sums ≡ self.old.sums }
@@ -66,7 +73,8 @@ impl Troves {
         self.table.reserve(account)
     }
 
-    /// The account's trove, if it has one: by the sums of now, with a stake from 1 to its collateral.
+    /// The account's trove, if it has one: by the sums of now, with a stake from 1 to its
+    /// collateral.
     pub fn get(&self, account: u32) -> Option<&Trove>
         ensures row { option_copied result ≡ at self.now.table.rows account }
         ensures kept { IfSome result (λ t. IsKept self.now.sums.coll self.now.sums.debt t.now) }
@@ -111,16 +119,18 @@ impl Troves {
         &self.sums
     }
 
-    /// An operation of the account's owner: the trove has these amounts, in gwei and micro-LUSD, with nothing pending. Where
-    /// there was none there is one now. Answers its row.
+    /// An operation of the account's owner: the trove has these amounts, in gwei and micro-LUSD,
+    /// with nothing pending. Where there was none there is one now. Answers its row.
     pub fn set(&mut self, account: u32, coll: u64, debt: u64) -> Trove
         requires room { HasRoom self.old.table account }
         requires some { 1 ≤ coll }
-        requires limit { coll_in (set_in self.old.sums self.old.table.rows account coll debt) ≤ LIM }
+        requires limit { coll_in (set_in self.old.sums self.old.table.rows account coll debt)
+            ≤ LIM }
         ensures row { result ≡ set_row self.old.sums coll debt }
         ensures stake { 1 ≤ result.stake }
         ensures mark { result.mark_debt ≤ SUM_MOST }
-        ensures rows { self.new.table.rows ≡ set_in self.old.sums self.old.table.rows account coll debt }
+        ensures rows { self.new.table.rows ≡ set_in self.old.sums self.old.table.rows account
+            coll debt }
         ensures room { self.new.table.room ≡ self.old.table.room }
         ensures sums { self.new.sums ≡ beside self.old.sums self.new.table.rows }
     {
@@ -177,8 +187,8 @@ impl Troves {
         trove
     }
 
-    /// Gives collateral (gwei) and debt (micro-LUSD) to all troves by their stakes: the sums rise. Refused where a sum would
-    /// pass its limit, the collateral's first; then nothing changes.
+    /// Gives collateral (gwei) and debt (micro-LUSD) to all troves by their stakes: the sums rise.
+    /// Refused where a sum would pass its limit, the collateral's first; then nothing changes.
     pub fn redistribute(&mut self, coll: u64, debt: u64) -> Result<(), Refusal>
         requires stakes { 1 ≤ self.old.sums.stakes }
         requires coll { coll ≤ LIM }
@@ -186,7 +196,8 @@ impl Troves {
         ensures answer { MatchResult result
             (λ _. first_refusal (spread_rules self.old.sums coll debt) ≡ None)
             (λ refusal. first_refusal (spread_rules self.old.sums coll debt) ≡ Some refusal) }
-        ensures sums { self.new.sums ≡ (if is_ok result then sums_spread self.old.sums coll debt else self.old.sums) }
+        ensures sums { self.new.sums ≡ (if is_ok result then sums_spread self.old.sums coll debt
+            else self.old.sums) }
         ensures table { self.new.table ≡ self.old.table }
     {
         let stakes = self.sums.stakes;

@@ -1,4 +1,5 @@
-//! The word `run` alone, for a trial without proofs: it is there in half the time of the whole program.
+//! The word `run` alone, for a trial without proofs: it is there in half the time of the whole
+//! program.
 #![tactic(auto)]
 
 use liq_ends::status;

@@ -7,7 +7,8 @@ use Rattle.liq_turns.specs.declared.generation.Generation.{Generation}
 
 -- collateral that comes in is some, and with what is inside it passes no limit
 abbrev pub inflow_rules : Generation → ℕ → ℕ → List Rule
-inflow_rules g brought coll = (coll == 0, AmountZero) ∷ where_above (brought + coll) g.limit AmountLimit ∷ []
+inflow_rules g brought coll = (coll == 0, AmountZero) ∷ where_above (brought + coll) g.limit
+    AmountLimit ∷ []
 
 -- a journal is full until it is rotated
 abbrev pub record_rules : Generation → List Rule

@@ -10,8 +10,8 @@ use Rattle.liq_types.specs.declared.replies.Refusal.TheVariants.{OutOfTurn}
 abbrev pub comes_again : Client → ℕ → Bool
 comes_again row number = number == row.last && not (number == 0)
 
--- The reply that was kept of it; nothing, where the number is the client's next one. Any other number is out of turn,
--- and told beside the next one, as it is printed.
+-- The reply that was kept of it; nothing, where the number is the client's next one. Any other
+-- number is out of turn, and told beside the next one, as it is printed.
 abbrev pub kept_by : Client → ℕ → Result (Option Done) Refusal
 kept_by row number =
     if comes_again row number

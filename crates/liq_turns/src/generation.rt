@@ -12,14 +12,16 @@ use liq_types::amounts::{GENERATIONS_MOST, LIM, RECORDS_MOST};
 pub struct Generation {
     /// Its number, from 1.
     pub number: u64,
-    /// The most collateral that may be inside (gwei), and the most LUSD in circulation (micro-LUSD).
+    /// The most collateral that may be inside (gwei), and the most LUSD in circulation
+    /// (micro-LUSD).
     pub limit: u64,
     /// How many commands were accepted in it.
     pub records: u64,
 }
 
 impl Generation {
-    /// Why collateral may not come in (gwei) beside what is inside: there is none, or it passes the limit.
+    /// Why collateral may not come in (gwei) beside what is inside: there is none, or it passes the
+    /// limit.
     pub fn no_inflow(&self, brought: u64, coll: u64) -> Option<Refusal>
         ensures { result ≡ first_refusal (inflow_rules self.now brought coll) }
     {
@@ -45,7 +47,8 @@ impl Generation {
         None
     }
 
-    /// The generation that a rotation begins: under the greatest limit, and no record is counted yet.
+    /// The generation that a rotation begins: under the greatest limit, and no record is counted
+    /// yet.
     pub fn next(&self) -> Generation
         requires { self.now.number ≤ GENERATIONS_MOST }
         ensures { result ≡ next_generation self.now }

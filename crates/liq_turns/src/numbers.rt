@@ -5,8 +5,8 @@ ghost use Rattle.liq_turns.specs.Numbers.{kept_by};
 
 use liq_types::{Client, Done, Refusal};
 
-/// The reply that was kept of a command that comes again; nothing, where the number is the client's next one. Any other
-/// number is refused.
+/// The reply that was kept of a command that comes again; nothing, where the number is the client's
+/// next one. Any other number is refused.
 pub fn kept(client: &Client, number: u64) -> Result<Option<Done>, Refusal>
     ensures { result ≡ kept_by client.now number }
 {

@@ -68,7 +68,8 @@ from-term a (suc n) f k low high = elim (cases_lt a k) [
 ]
 
 -- one term is another, and the rest as it was
-from-one : (a n : ℕ) (f g : ℕ → ℕ) (k : ℕ) → a ≤ k → k < a + n → ((q : ℕ) → (k == q) ≡ false → g q ≡ f q) → from a n g + f k ≡ from a n f + g k
+from-one : (a n : ℕ) (f g : ℕ → ℕ) (k : ℕ) → a ≤ k → k < a + n → ((q : ℕ) → (k == q) ≡ false → g q ≡ f q)
+    → from a n g + f k ≡ from a n f + g k
 from-one a zero f g k low high h = absurd (omega arith)
 from-one a (suc n) f g k low high h = elim (cases_lt a k) [
   | inl less ↦
@@ -111,7 +112,8 @@ unfolding over_accounts from
 over-term n f k h = from-term 0 n f k (omega arith) (omega arith)
 
 -- the number of one account changed
-pub over-one : (n : ℕ) (f g : ℕ → ℕ) (k : ℕ) → k < n → ((q : ℕ) → (k == q) ≡ false → g q ≡ f q) → over_accounts n g + f k ≡ over_accounts n f + g k
+pub over-one : (n : ℕ) (f g : ℕ → ℕ) (k : ℕ) → k < n → ((q : ℕ) → (k == q) ≡ false → g q ≡ f q)
+    → over_accounts n g + f k ≡ over_accounts n f + g k
 unfolding over_accounts from
 over-one n f g k low h = from-one 0 n f g k (omega arith) (omega arith) h
 
@@ -125,15 +127,21 @@ less_key : (a b : ℕ) → nat_cmp a b ≡ Less → a < b
 less_key a b h = grind (arith, nat_tests, h)
 
 module _ {X : Type 0} (f : ℕ → ℕ) where
-  keys_from : (table : Table X) (a n : ℕ) → Ascends table → AllByRecursion (λ k. a ≤ k) (keys_of table) → AllByRecursion (λ k. k < a + n) (keys_of table) → sum (map f (keys_of table)) ≤ from a n f
+  keys_from : (table : Table X) (a n : ℕ) → Ascends table → AllByRecursion (λ k. a ≤ k) (keys_of table)
+      → AllByRecursion (λ k. k < a + n) (keys_of table) → sum (map f (keys_of table)) ≤ from a n f
   keys_from [] a n s low high = omega arith
   keys_from (e ∷ es) a zero s low high = absurd (omega (arith, low.0, high.0))
   keys_from (e ∷ es) a (suc n) s low high = elim (cases_lt a e.0) [
     | inl less ↦
-        let more = keys_from (e ∷ es) (a + 1) n s (omega arith, above e.0 (a + 1) (keys_of es) (omega arith) (sorted_head nat_cmp e.0 (keys_of es) s)) (within (keys_of (e ∷ es)) high) in
+        let more = keys_from (e ∷ es) (a + 1) n s (
+          omega arith,
+          above e.0 (a + 1) (keys_of es) (omega arith)
+              (sorted_head nat_cmp e.0 (keys_of es) s),
+        ) (within (keys_of (e ∷ es)) high) in
         omega (arith, from-suc a n f, more)
     | inr same ↦
-        let more = keys_from es (a + 1) n (sorted_tail nat_cmp e.0 (keys_of es) s) (above e.0 (a + 1) (keys_of es) (omega (arith, low.0)) (sorted_head nat_cmp e.0 (keys_of es) s)) (within (keys_of es) high.1) in
+        let more = keys_from es (a + 1) n (sorted_tail nat_cmp e.0 (keys_of es) s) (above e.0 (a + 1) (keys_of es)
+        (omega (arith, low.0)) (sorted_head nat_cmp e.0 (keys_of es) s)) (within (keys_of es) high.1) in
         let here : f e.0 ≡ f a = ap f (omega (arith, low.0)) in
         let parts = sum_by-cons (λ (x : ℕ). x) (f e.0) (map f (keys_of es)) in
         omega (arith, from-suc a n f, more, here, parts)
@@ -142,11 +150,13 @@ module _ {X : Type 0} (f : ℕ → ℕ) where
     within [] h = tt
     within (k ∷ ks) h = (omega (arith, h.0), within ks h.1)
 
-    above : (b c : ℕ) (ks : List ℕ) → c ≤ b + 1 → AllByRecursion (λ y. nat_cmp b y ≡ Less) ks → AllByRecursion (λ k. c ≤ k) ks
+    above : (b c : ℕ) (ks : List ℕ) → c ≤ b + 1 → AllByRecursion (λ y. nat_cmp b y ≡ Less) ks
+        → AllByRecursion (λ k. c ≤ k) ks
     above b c [] l h = tt
     above b c (k ∷ ks) l h = (let less = less_key b k h.0 in omega arith, above b c ks l h.1)
 
-  pub keys-within : (n : ℕ) (table : Table X) → Ascends table → AllByRecursion (λ k. k < n) (keys_of table) → sum (map f (keys_of table)) ≤ over_accounts n f
+  pub keys-within : (n : ℕ) (table : Table X) → Ascends table → AllByRecursion (λ k. k < n) (keys_of table)
+      → sum (map f (keys_of table)) ≤ over_accounts n f
   unfolding over_accounts from
   keys-within n table s high = keys_from table 0 n s (all_low (keys_of table)) (all_high (keys_of table) high) where
     all_low : (ks : List ℕ) → AllByRecursion (λ k. 0 ≤ k) ks
@@ -173,7 +183,8 @@ owned_more n m h (event.Offset debt coll total rise ∷ es) k = (tt, owned_more 
 owned_below : (events : List PoolEvent) → AreOwnedBelow (above_all events) events
 unfolding above_all
 owned_below [] = tt
-owned_below (event.Own owner put_in out gain amount ∷ es) = (omega arith, owned_more (above_all es) (owner + 1 + above_all es) (omega arith) es (owned_below es))
+owned_below (event.Own owner put_in out gain amount ∷ es) =
+    (omega arith, owned_more (above_all es) (owner + 1 + above_all es) (omega arith) es (owned_below es))
 owned_below (event.Offset debt coll total rise ∷ es) = (tt, owned_below es)
 
 -- a bound above all of them and one account more
@@ -182,7 +193,8 @@ above_with account events = above_all events + (account + 1)
 
 pub owned_with : (account : ℕ) (events : List PoolEvent) → AreOwnedBelow (above_with account events) events
 unfolding above_with
-owned_with account events = owned_more (above_all events) (above_all events + (account + 1)) (omega arith) events (owned_below events)
+owned_with account events = owned_more (above_all events) (above_all events + (account + 1)) (omega arith) events
+    (owned_below events)
 
 pub under_with : (account : ℕ) (events : List PoolEvent) → account < above_with account events
 unfolding above_with
@@ -190,18 +202,22 @@ under_with account events = omega arith
 
 -- ---- the common denominator
 
-dens_alike : (account : ℕ) (share : Share) (den : ℕ) → share.den ≡ den → (events : List PoolEvent) → (fold (share_after account) share events).den ≡ fold (λ d e. d * total_of e) den events
+dens_alike : (account : ℕ) (share : Share) (den : ℕ) → share.den ≡ den → (events : List PoolEvent)
+    → (fold (share_after account) share events).den ≡ fold (λ d e. d * total_of e) den events
 dens_alike account share den h [] = h
 dens_alike account share den h (event.Own owner put_in out gain amount ∷ es) =
-    dens_alike account (share_after account share (event.Own owner put_in out gain amount)) (den * 1) (either (owner == account) ∙ h ∙ one den) es where
-      either : (b : Bool) → (cond b (record share { bal = share.bal + put_in * share.den - out * share.den }) share).den ≡ share.den
+    dens_alike account (share_after account share (event.Own owner put_in out gain amount)) (den * 1) (either (owner
+    == account) ∙ h ∙ one den) es where
+      either : (b : Bool) → (cond b (record share { bal = share.bal + put_in * share.den - out * share.den }) share).den
+          ≡ share.den
       either true = refl
       either false = refl
 
       one : (n : ℕ) → n ≡ n * 1
       one n = omega arith
 dens_alike account share den h (event.Offset debt coll total rise ∷ es) =
-    dens_alike account (share_after account share (event.Offset debt coll total rise)) (den * total) (ap (λ d. d * total) h) es
+    dens_alike account (share_after account share (event.Offset debt coll total rise)) (den * total)
+    (ap (λ d. d * total) h) es
 
 pub share_den : (account : ℕ) (events : List PoolEvent) → (exact_share account events).den ≡ den_of events
 share_den account events = dens_alike account no_share 1 refl events

@@ -25,19 +25,24 @@ module _ {K X : Type 0} {R : K → K → Ordering} (o : IsTotalOrder R) where
   below_more a b [] l h = tt
   below_more a b (e ∷ es) l h = (o.trans a b e.0 l h.0, below_more a b es l h.1)
 
-  below-insert : (b : K) (table : List (K × X)) (key : K) (x : X) → R b key ≡ Less → IsBelow b table → IsBelow b (insert_entry R table key x)
+  below-insert : (b : K) (table : List (K × X)) (key : K) (x : X) → R b key ≡ Less → IsBelow b table
+      → IsBelow b (insert_entry R table key x)
   below-insert b [] key x l h = (l, tt)
   below-insert b (e ∷ es) key x l h = by (R key e.0) (below-insert b es key x l h.1) where
-    by : (c : Ordering) → IsBelow b (insert_entry R es key x) → IsBelow b (match_ordering c ((key, x) ∷ e ∷ es) ((e.0, x) ∷ es) (e ∷ insert_entry R es key x))
+    by : (c : Ordering) → IsBelow b (insert_entry R es key x)
+        → IsBelow b (match_ordering c ((key, x) ∷ e ∷ es) ((e.0, x) ∷ es) (e ∷ insert_entry R es key x))
     by Less more = (l, h)
     by Equal more = h
     by Greater more = (h.0, more)
 
-  pub insert-ascends : (table : List (K × X)) (key : K) (x : X) → IsStrictlySortedBy R (keys_of table) → IsStrictlySortedBy R (keys_of (insert_entry R table key x))
+  pub insert-ascends : (table : List (K × X)) (key : K) (x : X) → IsStrictlySortedBy R (keys_of table)
+      → IsStrictlySortedBy R (keys_of (insert_entry R table key x))
   unfolding IsStrictlySortedBy
   insert-ascends [] key x h = (tt, tt)
   insert-ascends (e ∷ es) key x h = by (R key e.0) refl (insert-ascends es key x h.1) where
-    by : (c : Ordering) → R key e.0 ≡ c → IsStrictlySortedBy R (keys_of (insert_entry R es key x)) → IsStrictlySortedBy R (keys_of (match_ordering c ((key, x) ∷ e ∷ es) ((e.0, x) ∷ es) (e ∷ insert_entry R es key x)))
+    by : (c : Ordering) → R key e.0 ≡ c → IsStrictlySortedBy R (keys_of (insert_entry R es key x))
+        → IsStrictlySortedBy R (keys_of (match_ordering c ((key, x) ∷ e ∷ es) ((e.0, x) ∷ es) (e
+        ∷ insert_entry R es key x)))
     by Less is more = ((is, below_more key e.0 es is h.0), h)
     by Equal is more = h
     by Greater is more = (below-insert e.0 es key x (o.antisymm e.0 key ∙ ap ordering_reverse is) h.0, more)
@@ -66,15 +71,18 @@ module _ {X : Type 0} where
     by true more = h.1
     by false more = (below-without e.0 es key h.0, more)
 
-  pub either-ascends : (b : Bool) (table : Table X) (key : ℕ) (x : X) → Ascends table → Ascends (cond b (put table key x) (without table key))
+  pub either-ascends : (b : Bool) (table : Table X) (key : ℕ) (x : X) → Ascends table
+      → Ascends (cond b (put table key x) (without table key))
   either-ascends true table key x h = put-ascends table key x h
   either-ascends false table key x h = without-ascends table key h
 
-  pub none-ascends : (b : Bool) (table : Table X) (key : ℕ) (x : X) → Ascends table → Ascends (cond b (without table key) (put table key x))
+  pub none-ascends : (b : Bool) (table : Table X) (key : ℕ) (x : X) → Ascends table
+      → Ascends (cond b (without table key) (put table key x))
   none-ascends true table key x h = without-ascends table key h
   none-ascends false table key x h = put-ascends table key x h
 
-pub wallet-ascends : (table : Table Wallet) (account : ℕ) (w : Wallet) → Ascends table → Ascends (with_wallet table account w)
+pub wallet-ascends : (table : Table Wallet) (account : ℕ) (w : Wallet) → Ascends table
+    → Ascends (with_wallet table account w)
 wallet-ascends table account w h = either-ascends (is_used_wallet w) table account w h
 
 pub surplus-ascends : (table : Table ℕ) (account coll : ℕ) → Ascends table → Ascends (with_surplus table account coll)

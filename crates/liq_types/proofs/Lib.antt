@@ -1,7 +1,7 @@
 pub mod Accounts
 pub mod Ascending
 pub mod FinishedSums
-pub mod Least
+mod Least
 pub mod Lookups
 pub mod MapRows
 pub mod Places

@@ -22,17 +22,20 @@ pub behind_more : (e f : Ranked) (list : List Ranked) → rank_order e f ≡ Les
 behind_more e f [] less h = tt
 behind_more e f (g ∷ gs) less h = (rank_total.trans e f g less h.0, behind_more e f gs less h.1)
 
-pub with_behind : (f : Ranked) (list : List Ranked) (e : Ranked) → rank_order f e ≡ Less → Behind f list → Behind f (with_ranked list e)
+pub with_behind : (f : Ranked) (list : List Ranked) (e : Ranked) → rank_order f e ≡ Less → Behind f list
+    → Behind f (with_ranked list e)
 with_behind f [] e less h = (less, tt)
 with_behind f (g ∷ gs) e less h = by (rank_order e g) (with_behind f gs e less h.1) where
-  by : (o : Ordering) → Behind f (with_ranked gs e) → Behind f (match_ordering o (e ∷ g ∷ gs) (e ∷ g ∷ gs) (g ∷ with_ranked gs e))
+  by : (o : Ordering) → Behind f (with_ranked gs e)
+      → Behind f (match_ordering o (e ∷ g ∷ gs) (e ∷ g ∷ gs) (g ∷ with_ranked gs e))
   by Less more = (less, h)
   by Equal more = (less, h)
   by Greater more = (h.0, more)
 
 -- ---- what a filter keeps
 
-pub all_kept : (P : Ranked → Type 0) (q : Ranked → Bool) (list : List Ranked) → AllByRecursion P list → AllByRecursion P (filter q list)
+pub all_kept : (P : Ranked → Type 0) (q : Ranked → Bool) (list : List Ranked) → AllByRecursion P list
+    → AllByRecursion P (filter q list)
 all_kept P q [] h = tt
 all_kept P q (e ∷ es) h = by (q e) (all_kept P q es h.1) where
   by : (b : Bool) → AllByRecursion P (filter q es) → AllByRecursion P (cond b (e ∷ filter q es) (filter q es))

@@ -29,7 +29,11 @@ pub record TakesAll (w : ScaledProduct) (o : PoolOffset) : Type 0 where
 
 pub leaves_part : (w : ScaledProduct) (o : PoolOffset) → o.debt ≤ o.total → (o.debt == o.total) ≡ false → LeavesPart w o
 leaves_part w o within e =
-    let part : ScaledProduct = record { p = product_after w.p o (rise_of w.p o); scale = w.scale + rise_of w.p o; epoch = w.epoch } in
+    let part : ScaledProduct = record {
+      p = product_after w.p o (rise_of w.p o);
+      scale = w.scale + rise_of w.p o;
+      epoch = w.epoch;
+    } in
     let none : ScaledProduct = record opening_words { epoch = w.epoch + 1 } in
     record {
       less = grind (arith, nat_tests, e, within);
@@ -40,7 +44,11 @@ leaves_part w o within e =
 
 pub takes_all : (w : ScaledProduct) (o : PoolOffset) → (o.debt == o.total) ≡ true → TakesAll w o
 takes_all w o e =
-    let part : ScaledProduct = record { p = product_after w.p o (rise_of w.p o); scale = w.scale + rise_of w.p o; epoch = w.epoch } in
+    let part : ScaledProduct = record {
+      p = product_after w.p o (rise_of w.p o);
+      scale = w.scale + rise_of w.p o;
+      epoch = w.epoch;
+    } in
     let none : ScaledProduct = record opening_words { epoch = w.epoch + 1 } in
     record {
       all = grind (arith, nat_tests, e);
@@ -53,7 +61,10 @@ takes_all w o e =
 
 module _ (most : ℕ) where
   -- a sum and what it gains, where the product stays at its place
-  stays_by : (w : ScaledProduct) (o : PoolOffset) (sum : ℕ) → IsWithinRange w → TakesPartUpTo most o → o.coll ≤ OFFSET_MOST * o.debt → sum + OFFSET_MOST * w.p ≤ OFFSET_MOST * P_OPENING → place_of (after_offset w o) ≡ place_of w → (b : Bool) → (o.debt == o.total) ≡ b → sum + sum_growth w o + OFFSET_MOST * (after_offset w o).p ≤ OFFSET_MOST * P_OPENING
+  stays_by : (w : ScaledProduct) (o : PoolOffset) (sum : ℕ) → IsWithinRange w → TakesPartUpTo most o
+      → o.coll ≤ OFFSET_MOST * o.debt → sum + OFFSET_MOST * w.p ≤ OFFSET_MOST * P_OPENING → place_of (after_offset w o)
+      ≡ place_of w → (b : Bool) → (o.debt == o.total) ≡ b → sum + sum_growth w o + OFFSET_MOST * (after_offset w o).p
+      ≤ OFFSET_MOST * P_OPENING
   stays_by w o sum range h less under stays true e =
       let ends = takes_all w o e in
       let same : (after_offset w o).epoch ≡ w.epoch = ap (λ (q : Place). q.0) stays in
@@ -62,26 +73,39 @@ module _ (most : ℕ) where
       let part = leaves_part w o h.within e in
       let same : (after_offset w o).scale ≡ w.scale = ap (λ (q : Place). q.1) stays in
       let none : rise_of w.p o ≡ 0 = omega (arith, part.scale, same) in
-      let p_is : (after_offset w o).p ≡ product_after w.p o 0 = subst (λ k. (after_offset w o).p ≡ product_after w.p o k) none part.p in
-      let low : product_after w.p o 0 * o.total ≤ w.p * ((o.total - o.debt) * 1) = div-mul-le_self (w.p * ((o.total - o.debt) * 1)) o.total in
-      let low_p : (after_offset w o).p * o.total ≤ w.p * (o.total - o.debt) = subst (λ k. k * o.total ≤ w.p * (o.total - o.debt)) (sym p_is) (omega (arith, low)) in
+      let p_is : (after_offset w o).p ≡ product_after w.p o 0 = subst (λ k. (after_offset w o).p
+      ≡ product_after w.p o k) none part.p in
+      let low : product_after w.p o 0 * o.total ≤ w.p * ((o.total - o.debt) * 1) =
+      div-mul-le_self (w.p * ((o.total - o.debt) * 1)) o.total in
+      let low_p : (after_offset w o).p * o.total ≤ w.p * (o.total - o.debt) =
+      subst (λ k. k * o.total ≤ w.p * (o.total - o.debt)) (sym p_is) (omega (arith, low)) in
       let gained : sum_growth w o * o.total ≤ o.coll * w.p = div-mul-le_self (o.coll * w.p) o.total in
-      le_of_mul-le-mul_right (sum_within sum (sum_growth w o) w.p (after_offset w o).p P_OPENING o.debt (o.total - o.debt) o.total o.coll (omega (arith, part.less)) less gained low_p under) (omega (arith, part.less))
+      le_of_mul-le-mul_right (sum_within sum (sum_growth w o) w.p (after_offset w o).p P_OPENING o.debt
+      (o.total - o.debt) o.total o.coll (omega (arith, part.less)) less gained low_p under) (omega (arith, part.less))
 
-  pub stays_within : (w : ScaledProduct) (o : PoolOffset) (sum : ℕ) → IsWithinRange w → TakesPartUpTo most o → o.coll ≤ OFFSET_MOST * o.debt → sum + OFFSET_MOST * w.p ≤ OFFSET_MOST * P_OPENING → place_of (after_offset w o) ≡ place_of w → sum + sum_growth w o + OFFSET_MOST * (after_offset w o).p ≤ OFFSET_MOST * P_OPENING
+  pub stays_within : (w : ScaledProduct) (o : PoolOffset) (sum : ℕ) → IsWithinRange w → TakesPartUpTo most o
+      → o.coll ≤ OFFSET_MOST * o.debt → sum + OFFSET_MOST * w.p ≤ OFFSET_MOST * P_OPENING → place_of (after_offset w o)
+      ≡ place_of w → sum + sum_growth w o + OFFSET_MOST * (after_offset w o).p ≤ OFFSET_MOST * P_OPENING
   stays_within w o sum range h less under stays = stays_by w o sum range h less under stays (o.debt == o.total) refl
 
-  pub finishes_within : (w : ScaledProduct) (o : PoolOffset) (sum : ℕ) → TakesPartUpTo most o → o.coll ≤ OFFSET_MOST * o.debt → sum + OFFSET_MOST * w.p ≤ OFFSET_MOST * P_OPENING → sum + sum_growth w o ≤ OFFSET_MOST * P_OPENING
+  pub finishes_within : (w : ScaledProduct) (o : PoolOffset) (sum : ℕ) → TakesPartUpTo most o
+      → o.coll ≤ OFFSET_MOST * o.debt → sum + OFFSET_MOST * w.p ≤ OFFSET_MOST * P_OPENING
+      → sum + sum_growth w o ≤ OFFSET_MOST * P_OPENING
   finishes_within w o sum h less under =
       let gained : sum_growth w o * o.total ≤ o.coll * w.p = div-mul-le_self (o.coll * w.p) o.total in
-      le_of_mul-le-mul_right (finished_within sum (sum_growth w o) w.p P_OPENING o.debt o.total o.coll h.within less gained under) (omega (arith, h.some, h.within))
+      le_of_mul-le-mul_right (finished_within sum (sum_growth w o) w.p P_OPENING o.debt o.total o.coll h.within less
+      gained under) (omega (arith, h.some, h.within))
 
-  pub sum_stays : (w : ScaledProduct) (o : PoolOffset) (sum : ℕ) → IsWithinRange w → TakesPartUpTo most o → o.coll ≤ OFFSET_MOST * o.debt → sum ≤ OFFSET_MOST * (P_OPENING - w.p) → place_of (after_offset w o) ≡ place_of w → sum + sum_growth w o ≤ OFFSET_MOST * (P_OPENING - (after_offset w o).p)
+  pub sum_stays : (w : ScaledProduct) (o : PoolOffset) (sum : ℕ) → IsWithinRange w → TakesPartUpTo most o
+      → o.coll ≤ OFFSET_MOST * o.debt → sum ≤ OFFSET_MOST * (P_OPENING - w.p) → place_of (after_offset w o) ≡ place_of w
+      → sum + sum_growth w o ≤ OFFSET_MOST * (P_OPENING - (after_offset w o).p)
   sum_stays w o sum range h less under stays =
       let more = stays_within w o sum range h less (omega (arith, under, range.most)) stays in
       omega (arith, more)
 
-  pub sum_finished : (w : ScaledProduct) (o : PoolOffset) (sum : ℕ) → IsWithinRange w → TakesPartUpTo most o → o.coll ≤ OFFSET_MOST * o.debt → sum ≤ OFFSET_MOST * (P_OPENING - w.p) → sum + sum_growth w o ≤ OFFSET_MOST * P_OPENING
+  pub sum_finished : (w : ScaledProduct) (o : PoolOffset) (sum : ℕ) → IsWithinRange w → TakesPartUpTo most o
+      → o.coll ≤ OFFSET_MOST * o.debt → sum ≤ OFFSET_MOST * (P_OPENING - w.p)
+      → sum + sum_growth w o ≤ OFFSET_MOST * P_OPENING
   sum_finished w o sum range h less under = finishes_within w o sum h less (omega (arith, under, range.most))
 
 -- ---- the sums of all places
@@ -91,19 +115,27 @@ pub record SumsAreWithin (i : Image) (os : List PoolOffset) : Type 0 where
   pub now : sumat i os (last_of i os) + OFFSET_MOST * (prod i os).p ≤ OFFSET_MOST * P_OPENING
   pub all : (q : Place) → sumat i os q ≤ OFFSET_MOST * P_OPENING
 
-module _ (most : ℕ) (i : Image) (os : List PoolOffset) (o : PoolOffset) (f : AreFinished i) (range : IsWithinRange (prod i os)) (next : IsWithinRange (after_offset (prod i os) o)) (h : TakesPartUpTo most o) (less : o.coll ≤ OFFSET_MOST * o.debt) (before : SumsAreWithin i os) where
-  now_after : (b : Bool) → is_place (last_of i os) (place_of (after_offset (prod i os) o)) ≡ b → cond b (sumat i os (last_of i os) + sum_growth (prod i os) o) 0 + OFFSET_MOST * (after_offset (prod i os) o).p ≤ OFFSET_MOST * P_OPENING
-  now_after true e = stays_within most (prod i os) o (sumat i os (last_of i os)) range h less before.now (sym (is_place-same (last_of i os) (place_of (after_offset (prod i os) o)) e))
+module _ (most : ℕ) (i : Image) (os : List PoolOffset) (o : PoolOffset) (f : AreFinished i) (range : IsWithinRange
+    (prod i os)) (next : IsWithinRange (after_offset (prod i os) o)) (h : TakesPartUpTo most o) (less : o.coll
+    ≤ OFFSET_MOST * o.debt) (before : SumsAreWithin i os) where
+  now_after : (b : Bool) → is_place (last_of i os) (place_of (after_offset (prod i os) o)) ≡ b
+      → cond b (sumat i os (last_of i os) + sum_growth (prod i os) o) 0 + OFFSET_MOST * (after_offset (prod i os) o).p
+      ≤ OFFSET_MOST * P_OPENING
+  now_after true e = stays_within most (prod i os) o (sumat i os (last_of i os)) range h less before.now
+      (sym (is_place-same (last_of i os) (place_of (after_offset (prod i os) o)) e))
   now_after false e = omega (arith, next.most)
 
-  all_after : (q : Place) (b : Bool) → is_place (last_of i os) q ≡ b → sumat i os q + cond b (sum_growth (prod i os) o) 0 ≤ OFFSET_MOST * P_OPENING
+  all_after : (q : Place) (b : Bool) → is_place (last_of i os) q ≡ b
+      → sumat i os q + cond b (sum_growth (prod i os) o) 0 ≤ OFFSET_MOST * P_OPENING
   all_after q true e =
-      subst (λ (r : Place). sumat i os r + sum_growth (prod i os) o ≤ OFFSET_MOST * P_OPENING) (is_place-same (last_of i os) q e)
+      subst (λ (r : Place). sumat i os r + sum_growth (prod i os) o ≤ OFFSET_MOST * P_OPENING)
+      (is_place-same (last_of i os) q e)
       (finishes_within most (prod i os) o (sumat i os (last_of i os)) h less before.now)
   all_after q false e = omega (arith, before.all q)
 
   -- without what prod of the longer list is
-  pub now-snoc : sumat i (os ++ o ∷ []) (place_of (after_offset (prod i os) o)) + OFFSET_MOST * (after_offset (prod i os) o).p ≤ OFFSET_MOST * P_OPENING
+  pub now-snoc : sumat i (os ++ o ∷ []) (place_of (after_offset (prod i os) o)) + OFFSET_MOST * (after_offset
+      (prod i os) o).p ≤ OFFSET_MOST * P_OPENING
   unfolding sum_after
   now-snoc =
       let snoc = sum-snoc i os o f in

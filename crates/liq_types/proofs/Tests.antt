@@ -35,10 +35,13 @@ module _ {X : Type 0} where
 
 -- ---- rules
 
-pub all_false : (rules : List Rule) → first_refusal rules ≡ None → AllByRecursion (λ (rule : Rule). rule.0 ≡ false) rules
+pub all_false : (rules : List Rule) → first_refusal rules ≡ None
+    → AllByRecursion (λ (rule : Rule). rule.0 ≡ false) rules
 all_false [] h = tt
 all_false (rule ∷ rules) h = by rule.0 h (all_false rules) where
-  by : (b : Bool) → cond b (Some rule.1) (first_refusal rules) ≡ None → (first_refusal rules ≡ None → AllByRecursion (λ (rule : Rule). rule.0 ≡ false) rules) → (b ≡ false) × AllByRecursion (λ (rule : Rule). rule.0 ≡ false) rules
+  by : (b : Bool) → cond b (Some rule.1) (first_refusal rules) ≡ None → (first_refusal rules ≡ None
+      → AllByRecursion (λ (rule : Rule). rule.0 ≡ false) rules) → (b ≡ false) × AllByRecursion (λ (rule : Rule). rule.0
+      ≡ false) rules
   by true k later = cc
   by false k later = (refl, later k)
 

@@ -7,8 +7,9 @@ use Rattle.liq_types.specs.Image.{Place}
 use Rattle.liq_types.specs.PlainLedger.{own_events_of}
 use Rattle.liq_types.specs.Product.{ScaledProduct, opening_words, after_offset, place_of}
 
--- What an offset may cost an account of which this amount was recorded at this place, in 10^9ths of a unit: the amount as it
--- counts after the scale's rises since then. An epoch that has ended costs nothing more.
+-- What an offset may cost an account of which this amount was recorded at this place, in 10^9ths of
+-- a unit: the amount as it counts after the scale's rises since then. An epoch that has ended costs
+-- nothing more.
 abbrev pub cost_of : ℕ → Place → Place → ℕ
 cost_of amount place now =
     if not (amount == 0) && now.0 == place.0
@@ -24,14 +25,17 @@ costs_from account now amount place (Own owner put paid gain left ∷ es) =
     costs_from account now recorded at es
 costs_from account now amount place (Offset debt coll total rise ∷ es) =
     cost_of amount place (place_of now)
-    + costs_from account (after_offset now (record { debt = debt; coll = coll; total = total })) amount place es
+    + costs_from account (after_offset now (record { debt = debt; coll = coll; total = total }))
+    amount place es
 
 -- from the opening on, where nothing is recorded
 abbrev pub weight_of : ℕ → List PoolEvent → ℕ
 weight_of account events = costs_from account opening_words 0 (0, 0) events
 
 abbrev pub balance_allowance : ℕ → List PoolEvent → ℕ
-balance_allowance account events = ceiling_of (weight_of account events) 1 (10 ^ 9) + own_events_of account events
+balance_allowance account events = ceiling_of (weight_of account events) 1 (10 ^ 9)
+    + own_events_of account events
 
 abbrev pub gain_allowance : ℕ → List PoolEvent → ℕ
-gain_allowance account events = ceiling_of 12 (weight_of account events) (10 ^ 9) + 15 * own_events_of account events
+gain_allowance account events = ceiling_of 12 (weight_of account events) (10 ^ 9)
+    + 15 * own_events_of account events

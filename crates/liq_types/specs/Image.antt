@@ -1,5 +1,6 @@
--- The image: all of a state on which its future rests, but for the count of its records. It is also what the rules begin
--- from, at the opening or at a checkpoint. Tables ascend by their keys and have no empty rows.
+-- The image: all of a state on which its future rests, but for the count of its records. It is also
+-- what the rules begin from, at the opening or at a checkpoint. Tables ascend by their keys and
+-- have no empty rows.
 use Rattle.std.specs.Prelude.{◌≡◌, ℕ, ◌⊎◌, []}
 use Rattle.liq_types.specs.declared.amounts.TheConstants.{LIM, LIM_OF_VERSION_1, PRICE_OPENING, P_OPENING}
 pub use Rattle.liq_types.specs.declared.image.Image.{Image}

@@ -18,7 +18,13 @@ wallet_row r = (r.account, record { coll = r.coll; lusd = r.lusd })
 abbrev pub trove_row : TroveRow → ℕ × Trove
 trove_row r = (
   r.account,
-  record { coll = r.coll; debt = r.debt; stake = r.stake; mark_coll = r.mark_coll; mark_debt = r.mark_debt },
+  record {
+    coll = r.coll;
+    debt = r.debt;
+    stake = r.stake;
+    mark_coll = r.mark_coll;
+    mark_debt = r.mark_debt;
+  },
 )
 
 abbrev pub surplus_row : SurplusRow → ℕ × ℕ
@@ -28,7 +34,25 @@ abbrev pub finished_row : FinishedSum → Place × ℕ
 finished_row f = ((f.epoch, f.scale), f.sum)
 
 abbrev pub deposit_row : DepositRow → ℕ × Deposit
-deposit_row r = (r.account, record { amount = r.amount; p = r.p; sum = r.sum; scale = r.scale; epoch = r.epoch })
+deposit_row r = (
+  r.account,
+  record {
+    amount = r.amount;
+    p = r.p;
+    sum = r.sum;
+    scale = r.scale;
+    epoch = r.epoch;
+  },
+)
 
 abbrev pub client_row : ClientRow → ℕ × Client
-client_row r = (r.client, record { last = r.last; kept = record { kind = r.kind; values = r.values } })
+client_row r = (
+  r.client,
+  record {
+    last = r.last;
+    kept = record {
+      kind = r.kind;
+      values = r.values;
+    };
+  },
+)

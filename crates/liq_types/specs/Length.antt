@@ -1,5 +1,6 @@
--- How many bytes a checkpoint of an image has: its words, a count before each table, and the tables' rows. An account or a
--- client has 4 bytes, a product or a sum 16, a verb's place 1, and every other number 8.
+-- How many bytes a checkpoint of an image has: its words, a count before each table, and the
+-- tables' rows. An account or a client has 4 bytes, a product or a sum 16, a verb's place 1, and
+-- every other number 8.
 use Rattle.std.specs.Prelude.{ℕ, ◌+◌, ◌*◌, length}
 use Rattle.liq_types.specs.declared.lengths.RowCounts.{RowCounts}
 use Rattle.liq_types.specs.Image.{Image}

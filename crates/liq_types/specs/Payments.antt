@@ -20,7 +20,8 @@ charged_in wallets account coll lusd =
 
 -- collateral that an owner may claim
 abbrev pub surplus_added_in : Table ℕ → ℕ → ℕ → Table ℕ
-surplus_added_in surplus account coll = with_surplus surplus account (surplus_in surplus account + coll)
+surplus_added_in surplus account coll =
+    with_surplus surplus account (surplus_in surplus account + coll)
 
 -- all that the owner may claim
 abbrev pub surplus_taken_in : Table ℕ → ℕ → Table ℕ

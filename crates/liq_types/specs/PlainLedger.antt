@@ -1,5 +1,5 @@
--- The plain ledger: each account's exact share of the Stability Pool, as a fraction. All shares have one denominator, and
--- there is no product, sum, epoch or scale.
+-- The plain ledger: each account's exact share of the Stability Pool, as a fraction. All shares
+-- have one denominator, and there is no product, sum, epoch or scale.
 use Rattle.std.specs.Prelude.{ℕ, Bool, false, ◌+◌, ◌-◌, ◌*◌, ◌<◌, ◌==◌, List, fold, sum_by, count_by, if◌then◌else◌}
 use Rattle.std.specs.List.{AllByRecursion, range_with_len}
 use Rattle.liq_types.specs.declared.events.PoolEvent.{PoolEvent}
@@ -17,7 +17,8 @@ no_share = record { den = 1; bal = 0; gain = 0 }
 -- An offset takes the same part of every balance, and gives collateral by the balance before it.
 abbrev pub share_after : ℕ → Share → PoolEvent → Share
 share_after account share (Own owner put paid gain amount) =
-    if owner == account then record share { bal = share.bal + put * share.den - paid * share.den } else share
+    if owner == account then record share { bal = share.bal + put * share.den - paid * share.den }
+    else share
 share_after account share (Offset debt coll total rise) =
     record {
       den = share.den * total;

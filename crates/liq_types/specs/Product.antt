@@ -28,17 +28,21 @@ least_from test k (suc more) =
     let later = least_from test (k + 1) more in
     if test k then k else later
 
--- the product after an offset that leaves a part of the pool, with the scale raised by so many steps of 10^9
+-- the product after an offset that leaves a part of the pool, with the scale raised by so many
+-- steps of 10^9
 abbrev pub product_after : ℕ → PoolOffset → ℕ → ℕ
 product_after p o steps = floor_of p ((o.total - o.debt) * 10 ^ (9 * steps)) o.total
 
--- More steps than any pool needs that has less than 10^270; a product of 0 would find none that suffices.
+-- More steps than any pool needs that has less than 10^270; a product of 0 would find none that
+-- suffices.
 abbrev pub STEPS_TRIED : ℕ
 STEPS_TRIED = 30
 
--- by how many steps an offset raises the scale: the fewest that keep the product from falling below its least
+-- by how many steps an offset raises the scale: the fewest that keep the product from falling below
+-- its least
 abbrev pub rise_of : ℕ → PoolOffset → ℕ
-rise_of p o = if o.debt == o.total then 0 else least_from (λ steps. nat_le P_LEAST (product_after p o steps)) 0 STEPS_TRIED
+rise_of p o = if o.debt == o.total then 0
+    else least_from (λ steps. nat_le P_LEAST (product_after p o steps)) 0 STEPS_TRIED
 
 -- an offset of the whole pool ends the epoch
 abbrev pub after_offset : ScaledProduct → PoolOffset → ScaledProduct
@@ -91,11 +95,13 @@ sum_growth w o = floor_of o.coll w.p o.total
 abbrev pub growth_at : ScaledProduct → List PoolOffset → Place → ℕ
 growth_at w [] place = 0
 growth_at w (o ∷ os) place =
-    (if is_place (place_of w) place then sum_growth w o else 0) + growth_at (after_offset w o) os place
+    (if is_place (place_of w) place then sum_growth w o else 0) + growth_at (after_offset w o)
+    os place
 
 abbrev pub start_sum : Image → Place → ℕ
 start_sum i place =
-    if is_place (i.epoch, i.scale) place then i.sum else unwrap_or (lookup (is_place place) i.finished) 0
+    if is_place (i.epoch, i.scale) place then i.sum
+    else unwrap_or (lookup (is_place place) i.finished) 0
 
 abbrev pub sumat : Image → List PoolOffset → Place → ℕ
 sumat i offsets place = start_sum i place + growth_at (start_words i) offsets place
@@ -116,7 +122,8 @@ with_finished table place sum = if sum == 0 then table else insert_entry place_o
 
 abbrev pub finished_sums : Image → List PoolOffset → List (Place × ℕ)
 finished_sums i offsets =
-    fold (λ table place. with_finished table place (sumat i offsets place)) i.finished (places_left (start_words i) offsets)
+    fold (λ table place. with_finished table place (sumat i offsets place)) i.finished
+    (places_left (start_words i) offsets)
 
 -- ---- marks
 

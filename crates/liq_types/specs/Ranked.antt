@@ -1,4 +1,5 @@
--- The ordered list: troves by key and, where keys are equal, by account. Its last trove counts as that of the lowest ratio.
+-- The ordered list: troves by key and, where keys are equal, by account. Its last trove counts as
+-- that of the lowest ratio.
 use Rattle.std.specs.List.{AllByRecursion}
 use Rattle.std.specs.Prelude.{◌≡◌, ◌≢◌, ℕ, ℤ, not, ◌==◌, List, [], ◌∷◌, ◌++◌, map, fold, filter, find, reverse, Option, Some, None, option_map, if◌then◌else◌}
 use Rattle.std.specs.Ordering.{nat_cmp, int_cmp, ordering_then, match_ordering, is_lt}
@@ -27,7 +28,8 @@ IsAscending (e ∷ es) = AllByRecursion (λ f. rank_order e f ≡ Less) es × Is
 -- a sorted list with one more
 abbrev pub with_ranked : List Ranked → Ranked → List Ranked
 with_ranked [] e = e ∷ []
-with_ranked (f ∷ fs) e = match_ordering (rank_order e f) (e ∷ f ∷ fs) (e ∷ f ∷ fs) (f ∷ with_ranked fs e)
+with_ranked (f ∷ fs) e = match_ordering (rank_order e f) (e ∷ f ∷ fs) (e ∷ f ∷ fs) (f
+    ∷ with_ranked fs e)
 
 -- any way of sorting gives this list, where no two entries are equal
 abbrev pub sorted : List Ranked → List Ranked
@@ -57,7 +59,8 @@ key_in list account = option_map (λ (e : Ranked). e.0) (find (λ (e : Ranked). 
 -- what stands next after an account, in a list of accounts
 abbrev pub after_account : List ℕ → ℕ → Option ℕ
 after_account [] account = None
-after_account (a ∷ more) account = if a == account then first_of more else after_account more account
+after_account (a ∷ more) account = if a == account then first_of more
+    else after_account more account
 
 -- the account next nearer the front
 abbrev pub before_in : List Ranked → ℕ → Option ℕ
@@ -79,11 +82,13 @@ after_entry list e = filter (λ (f : Ranked). is_lt (rank_order e f)) list
 -- the accounts between which an entry stands or would stand, its own account aside
 abbrev pub neighbours : List Ranked → Ranked → Option ℕ × Option ℕ
 neighbours list e =
-    let others = without_ranked list e.1 in
-    (account_of (first_of (reverse (before_entry others e))), account_of (first_of (after_entry others e)))
+    let others = without_ranked list e.1 in (
+      account_of (first_of (reverse (before_entry others e))),
+      account_of (first_of (after_entry others e)),
+    )
 
--- A hint is tight for an entry where it names the neighbours between which the entry belongs. An absent side says that
--- nothing stands there.
+-- A hint is tight for an entry where it names the neighbours between which the entry belongs. An
+-- absent side says that nothing stands there.
 pub record IsTight (list : List Ranked) (e : Ranked) (prev next : Option ℕ) : Type 0 where
   pub before : List Ranked
   pub after : List Ranked

@@ -1,5 +1,5 @@
--- The rules that every image meets, in the order in which they are tested, and the form of its tables. Beside the image
--- stands the count of its records, which a checkpoint has as 0.
+-- The rules that every image meets, in the order in which they are tested, and the form of its
+-- tables. Beside the image stands the count of its records, which a checkpoint has as 0.
 use Rattle.std.specs.Prelude.{◌≡◌, ℕ, ◌+◌, ◌-◌, ◌*◌, ◌≤◌, Bool, true, not, ◌&&◌, ◌||◌, ◌==◌, nat_lt, nat_le, List, [], ◌∷◌, length, sum, sum_by, drop, Option, Some, None, if◌then◌else◌}
 use Rattle.std.specs.List.{list_all, AllByRecursion}
 use Rattle.std.specs.List.Sorted.{IsStrictlySortedBy}
@@ -18,7 +18,8 @@ use Rattle.liq_types.specs.WellFormed.{Ascends}
 
 -- ---- 1: ranges
 
--- the most collateral inside, and the most LUSD: a number of the image, of which the first rule lets two values be
+-- the most collateral inside, and the most LUSD: a number of the image, of which the first rule
+-- lets two values be
 abbrev pub limit_in : Image → ℕ
 limit_in i = i.limit
 
@@ -51,11 +52,13 @@ has_accounts i =
 -- the six homes of collateral
 abbrev pub coll_homes : Image → ℕ
 coll_homes i =
-    sum_by (λ (w : Wallet). w.coll) (values_of i.wallets) + i.active_coll + i.default_coll + i.surplus + i.fee_coll + i.pool_coll
+    sum_by (λ (w : Wallet). w.coll) (values_of i.wallets) + i.active_coll + i.default_coll
+    + i.surplus + i.fee_coll + i.pool_coll
 
 -- the four homes of LUSD
 abbrev pub lusd_homes : Image → ℕ
-lusd_homes i = sum_by (λ (w : Wallet). w.lusd) (values_of i.wallets) + i.total + i.reserve + i.fee_lusd
+lusd_homes i = sum_by (λ (w : Wallet). w.lusd) (values_of i.wallets) + i.total + i.reserve
+    + i.fee_lusd
 
 abbrev pub has_coll_at_home : Image → Bool
 has_coll_at_home i = i.brought == coll_homes i
@@ -108,7 +111,8 @@ due_debt i = sum_by (debt_due i.sum_debt) (values_of i.troves)
 
 -- what is pending is in the default pool
 abbrev pub is_backed : Image → Bool
-is_backed i = nat_le (due_coll i) (i.default_coll * ONE) && nat_le (due_debt i) (i.default_debt * ONE)
+is_backed i = nat_le (due_coll i) (i.default_coll * ONE) && nat_le (due_debt i)
+    (i.default_debt * ONE)
 
 -- ---- 9, 10: the Stability Pool
 
@@ -131,8 +135,10 @@ abbrev pub has_sound_words : Image → ℕ → Bool
 has_sound_words i records =
     is_product i.p
     && is_sum_beside i.sum i.p
-    && nat_le i.scale (places_most i.generation records) && nat_le i.epoch (places_most i.generation records)
-    && list_all (λ (row : Place × ℕ). nat_le row.1 (OFFSET_MOST * P_OPENING) && is_before row.0 (i.epoch, i.scale)) i.finished
+    && nat_le i.scale (places_most i.generation records) && nat_le i.epoch
+    (places_most i.generation records)
+    && list_all (λ (row : Place × ℕ). nat_le row.1 (OFFSET_MOST * P_OPENING) && is_before row.0
+    (i.epoch, i.scale)) i.finished
 
 -- of a deposit, by the place of now and the sum of its own place
 abbrev pub is_sound_deposit : Place → ℕ → Deposit → Bool
@@ -143,7 +149,8 @@ is_sound_deposit now sum d =
 
 abbrev pub has_sound_deposits : Image → Bool
 has_sound_deposits i =
-    list_all (λ (d : Deposit). nat_le d.amount LIM && is_sound_deposit (i.epoch, i.scale) (start_sum i (d.epoch, d.scale)) d) (values_of i.deposits)
+    list_all (λ (d : Deposit). nat_le d.amount LIM && is_sound_deposit (i.epoch, i.scale)
+    (start_sum i (d.epoch, d.scale)) d) (values_of i.deposits)
 
 -- ---- 11: kept replies
 

@@ -1,5 +1,5 @@
--- The rule state: what the rules speak of, whatever the code keeps. What offsets and redistributions have done is not a
--- number here but their list.
+-- The rule state: what the rules speak of, whatever the code keeps. What offsets and
+-- redistributions have done is not a number here but their list.
 use Rattle.std.specs.Prelude.{ℕ, Bool, not, ◌==◌, ◌&&◌, List, [], replicate, unwrap_or, if◌then◌else◌}
 use Rattle.liq_types.specs.declared.amounts.TheConstants.{LIM}
 use Rattle.liq_types.specs.declared.figures.Wallet.{Wallet}
@@ -23,8 +23,8 @@ pub record PoolMark : Type 0 where
   pub scale : ℕ
   pub epoch : ℕ
 
--- The moment of an entry's last own operation: after so many items of its list. An entry without one since the start
--- has what the starting image says.
+-- The moment of an entry's last own operation: after so many items of its list. An entry without
+-- one since the start has what the starting image says.
 pub data Mark (F : Type 0) : Type 0 where
   AtStart : (fields : F) → Mark F
   After : (items : ℕ) → Mark F
@@ -57,7 +57,8 @@ pub record Redistribution : Type 0 where
 
 -- ---- the state
 
--- Collateral is in gwei, debt and LUSD in micro-LUSD. Tables ascend by their keys and have no empty rows.
+-- Collateral is in gwei, debt and LUSD in micro-LUSD. Tables ascend by their keys and have no empty
+-- rows.
 pub record State : Type 0 where
   -- the image from which the lists go on
   pub start : Image
@@ -82,7 +83,8 @@ pub record State : Type 0 where
   pub fee_lusd : ℕ
   pub snap_stakes : ℕ
   pub snap_coll : ℕ
-  -- LUSD put into the Stability Pool since the start, paid back out of it, and collateral paid out of it as gains
+  -- LUSD put into the Stability Pool since the start, paid back out of it, and collateral paid out
+  -- of it as gains
   pub provided : ℕ
   pub withdrawn : ℕ
   pub gains_paid : ℕ
@@ -98,11 +100,24 @@ pub record State : Type 0 where
 
 abbrev pub started_trove : Trove → TroveEntry
 started_trove t =
-    record { coll = t.coll; debt = t.debt; stake = t.stake; mark = AtStart (record { coll = t.mark_coll; debt = t.mark_debt }) }
+    record {
+      coll = t.coll;
+      debt = t.debt;
+      stake = t.stake;
+      mark = AtStart (record { coll = t.mark_coll; debt = t.mark_debt });
+    }
 
 abbrev pub started_deposit : Deposit → DepositEntry
 started_deposit d =
-    record { amount = d.amount; mark = AtStart (record { p = d.p; sum = d.sum; scale = d.scale; epoch = d.epoch }) }
+    record {
+      amount = d.amount;
+      mark = AtStart (record {
+        p = d.p;
+        sum = d.sum;
+        scale = d.scale;
+        epoch = d.epoch;
+      });
+    }
 
 -- the state that begins with an image: nothing has happened since
 abbrev pub started : Image → State

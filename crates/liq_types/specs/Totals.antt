@@ -8,7 +8,8 @@ use Rattle.liq_types.specs.State.{State, TroveEntry, PoolOffset}
 
 -- ---- ratios
 
--- The two sides of the comparison of a ratio with so many percent: the collateral's worth, and what the debt asks for.
+-- The two sides of the comparison of a ratio with so many percent: the collateral's worth, and what
+-- the debt asks for.
 abbrev pub worth : ℕ → ℕ → ℕ
 worth coll price = coll * price * 100
 
@@ -25,7 +26,8 @@ is_at_most_whole coll debt price = nat_le (coll * price) (debt * GWEI_PER_ETH)
 abbrev pub is_ratio_below : ℕ → ℕ → ℕ → ℕ → Bool
 is_ratio_below c1 d1 c2 d2 = nat_lt (c1 * d2) (c2 * d1)
 
--- entire collateral and debt of a trove; an account without one is taken to have nothing, once that is refused
+-- entire collateral and debt of a trove; an account without one is taken to have nothing, once that
+-- is refused
 abbrev pub or_nothing : Option (ℕ × ℕ) → ℕ × ℕ
 or_nothing entire = unwrap_or entire (0, 0)
 
@@ -45,7 +47,8 @@ stakes_of s = sum_by (λ (t : TroveEntry). t.stake) (values_of s.troves)
 
 -- LUSD in the Stability Pool: what was put in, less what was paid out and what offsets took
 abbrev pub pool_total : State → ℕ
-pool_total s = s.start.total + s.provided - s.withdrawn - sum_by (λ (o : PoolOffset). o.debt) s.offsets
+pool_total s = s.start.total + s.provided - s.withdrawn - sum_by (λ (o : PoolOffset). o.debt)
+    s.offsets
 
 -- collateral in the Stability Pool: what offsets brought, less the gains that were paid
 abbrev pub pool_coll : State → ℕ

@@ -16,7 +16,12 @@ pub record View : Type 0 where
 
 -- what a change makes of a view
 abbrev pub followed : View → ListChange → View
-followed v (Put key account) = record v { list = with_ranked (without_ranked v.list account) (key, account) }
+followed v (Put key account) = record v {
+  list = with_ranked (without_ranked v.list account) (
+    key,
+    account,
+  );
+}
 followed v (Gone account) = record v { list = without_ranked v.list account }
 followed v (Words snap_stakes snap_coll sum_debt) =
     record { list = v.list; snap_stakes = snap_stakes; snap_coll = snap_coll; sum_debt = sum_debt }
@@ -26,9 +31,11 @@ all_followed v changes = fold followed v changes
 
 -- ---- where a trove would open
 
--- the stake that a trove of this collateral would have, by the view's words; at least 1 also before any snapshot
+-- the stake that a trove of this collateral would have, by the view's words; at least 1 also before
+-- any snapshot
 abbrev pub stake_seen : View → ℕ → ℕ
-stake_seen v coll = max 1 (if v.snap_coll == 0 then coll else floor_of coll v.snap_stakes v.snap_coll)
+stake_seen v coll = max 1 (if v.snap_coll == 0 then coll
+    else floor_of coll v.snap_stakes v.snap_coll)
 
 -- what would be owed: the borrowing, the fee on it at the least rate, and the reserve
 abbrev pub debt_seen : ℕ → ℕ

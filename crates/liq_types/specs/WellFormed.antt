@@ -1,5 +1,6 @@
--- What holds of every state that the rules reach: marks are moments of their lists, the sums that were finished before the
--- start belong to earlier places than the start's, and what left the Stability Pool had come into it.
+-- What holds of every state that the rules reach: marks are moments of their lists, the sums that
+-- were finished before the start belong to earlier places than the start's, and what left the
+-- Stability Pool had come into it.
 use Rattle.std.specs.Prelude.{◌≡◌, ℕ, ◌+◌, ◌<◌, ◌≤◌, ◌⊎◌, length, sum_by}
 use Rattle.std.specs.List.{AllByRecursion}
 use Rattle.std.specs.List.Sorted.{IsStrictlySortedBy}
@@ -22,10 +23,12 @@ abbrev pub AreFinished : Image → Type 0
 AreFinished i = AllByRecursion (λ (row : Place × ℕ). IsBefore row.0 (i.epoch, i.scale)) i.finished
 
 abbrev pub TrovesAreMarked : ℕ → Table TroveEntry → Type 0
-TrovesAreMarked items troves = AllByRecursion (λ (row : ℕ × TroveEntry). IsMoment items row.1.mark) troves
+TrovesAreMarked items troves =
+    AllByRecursion (λ (row : ℕ × TroveEntry). IsMoment items row.1.mark) troves
 
 abbrev pub DepositsAreMarked : ℕ → Table DepositEntry → Type 0
-DepositsAreMarked items deposits = AllByRecursion (λ (row : ℕ × DepositEntry). IsMoment items row.1.mark) deposits
+DepositsAreMarked items deposits =
+    AllByRecursion (λ (row : ℕ × DepositEntry). IsMoment items row.1.mark) deposits
 
 -- what left the Stability Pool had come into it
 abbrev pub IsPoolCovered : State → Type 0
@@ -49,4 +52,5 @@ abbrev pub Ascends : {X : Type 0} → Table X → Type 0
 Ascends table = IsStrictlySortedBy nat_cmp (keys_of table)
 
 abbrev pub TablesAscend : State → Type 0
-TablesAscend s = Ascends s.wallets × Ascends s.troves × Ascends s.surplus_rows × Ascends s.deposits × Ascends s.clients
+TablesAscend s = Ascends s.wallets × Ascends s.troves × Ascends s.surplus_rows × Ascends s.deposits
+    × Ascends s.clients

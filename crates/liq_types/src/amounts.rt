@@ -3,8 +3,8 @@
 /// One, as a rate: rates are whole numbers over 10^18.
 pub const ONE: u64 = 1_000_000_000_000_000_000;
 
-/// The most collateral that may be inside the system (gwei), and the most LUSD that may be in circulation (micro-LUSD). No
-/// protocol has a greater limit.
+/// The most collateral that may be inside the system (gwei), and the most LUSD that may be in
+/// circulation (micro-LUSD). No protocol has a greater limit.
 pub const LIM: u64 = 10_000_000_000_000_000_000;
 
 /// The limit of a protocol whose journal is of version 1, until a rotation: a tenth of [`LIM`].
@@ -22,13 +22,15 @@ pub const PRICE_OPENING: u64 = 1_000_000_000;
 /// The last minute.
 pub const MINUTE_MOST: u64 = 1_000_000_000_000;
 
-/// The least ratio of a trove's collateral to its debt, in percent: below it the trove may be liquidated.
+/// The least ratio of a trove's collateral to its debt, in percent: below it the trove may be
+/// liquidated.
 pub const MCR: u64 = 110;
 
 /// The critical ratio of all collateral to all debt, in percent: below it Recovery Mode holds.
 pub const CCR: u64 = 150;
 
-/// What a trove's owner borrows beside the rest, in micro-LUSD. It is kept aside and pays whoever liquidates the trove.
+/// What a trove's owner borrows beside the rest, in micro-LUSD. It is kept aside and pays whoever
+/// liquidates the trove.
 pub const RESERVE: u64 = 200_000_000;
 
 /// The least debt of a trove beside its reserve, in micro-LUSD.
@@ -52,11 +54,13 @@ pub const P_OPENING: u128 = 1_000_000_000_000_000_000;
 /// The least product of the Stability Pool, over 10^18.
 pub const P_LEAST: u128 = 1_000_000_000;
 
-/// The most steps of 10^9 by which one offset raises the scale, since no pool has more than [`LIM`].
+/// The most steps of 10^9 by which one offset raises the scale, since no pool has more than
+/// [`LIM`].
 pub const RISES_MOST: u64 = 3;
 
-/// The most gwei that an offset brings for each micro-LUSD that it takes over: what is liquidated for the Stability Pool is
-/// worth at most 110 percent of its debt, and the price is at least [`PRICE_LEAST`].
+/// The most gwei that an offset brings for each micro-LUSD that it takes over: what is liquidated
+/// for the Stability Pool is worth at most 110 percent of its debt, and the price is at least
+/// [`PRICE_LEAST`].
 pub const OFFSET_MOST: u64 = 11;
 
 /// The liquidator of a trove gets its collateral divided by this.
@@ -77,8 +81,8 @@ pub const LOWEST_MOST: u64 = 64;
 /// The most accepted commands between two rotations.
 pub const RECORDS_MOST: u64 = 1_000_000;
 
-/// By how much one accepted command may raise the scale or the epoch of the Stability Pool, at most: 64 liquidations, each by
-/// less than this many 64ths.
+/// By how much one accepted command may raise the scale or the epoch of the Stability Pool, at
+/// most: 64 liquidations, each by less than this many 64ths.
 pub const PLACES_A_RECORD: u64 = 200;
 
 /// The greatest generation of the journal.

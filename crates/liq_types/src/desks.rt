@@ -30,8 +30,9 @@ pub trait Desk {
     /// The last of the seat's own requests that met a fault of a disk.
     ghost faulted: { Self.Seat → Option Request };
 
-    /// Answers a request of the seat's session. Where it is a reply, both join the seat's own, which else stay. Every answer but a
-    /// reply and want of memory needs a seat that has learnt of an end of service.
+    /// Answers a request of the seat's session. Where it is a reply, both join the seat's own,
+    /// which else stay. Every answer but a reply and want of memory needs a seat that has learnt of
+    /// an end of service.
     fn call<W: Wait>(
         &self,
         rt: &W,

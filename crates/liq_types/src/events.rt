@@ -3,7 +3,8 @@
 /// A change of the Stability Pool. LUSD is in micro-LUSD, collateral in gwei.
 #[derive(Clone, Copy)]
 pub enum PoolEvent {
-    /// A depositor's own operation: LUSD put in, LUSD and collateral paid out, and the amount recorded after it.
+    /// A depositor's own operation: LUSD put in, LUSD and collateral paid out, and the amount
+    /// recorded after it.
     Own {
         account: u32,
         put: u64,
@@ -11,8 +12,8 @@ pub enum PoolEvent {
         gain: u64,
         amount: u64,
     },
-    /// Debt that the pool took over for collateral, the pool's total before it, and by how many steps the scale rose. Where
-    /// the debt is the total the epoch ends, and the rise is 0.
+    /// Debt that the pool took over for collateral, the pool's total before it, and by how many
+    /// steps the scale rose. Where the debt is the total the epoch ends, and the rise is 0.
     Offset {
         debt: u64,
         coll: u64,

@@ -9,8 +9,8 @@ pub struct Wallet {
     pub lusd: u64,
 }
 
-/// What is kept for a client, so that a command that comes again acts once: the last number that was accepted, 0 for none,
-/// and the reply to it.
+/// What is kept for a client, so that a command that comes again acts once: the last number that
+/// was accepted, 0 for none, and the reply to it.
 #[derive(Clone, Copy)]
 pub struct Client {
     pub last: u64,
@@ -36,8 +36,8 @@ pub struct Market {
     pub troves: u64,
 }
 
-/// A trove as it is kept: the amounts and the stake as of its owner's last operation, and the sums per stake of that
-/// moment.
+/// A trove as it is kept: the amounts and the stake as of its owner's last operation, and the sums
+/// per stake of that moment.
 #[derive(Clone, Copy)]
 pub struct Trove {
     /// Gwei.
@@ -51,7 +51,8 @@ pub struct Trove {
     pub mark_debt: u128,
 }
 
-/// A deposit as it is kept: the amount as of its owner's last operation, and the Stability Pool's words of that moment.
+/// A deposit as it is kept: the amount as of its owner's last operation, and the Stability Pool's
+/// words of that moment.
 #[derive(Clone, Copy)]
 pub struct Deposit {
     /// Micro-LUSD.

@@ -1,5 +1,6 @@
-//! The image of a state: all on which its future rests, but for the count of its records. Collateral is in gwei, debt and LUSD
-//! in micro-LUSD. Each table is a list of rows, which are pushed in the order of their keys.
+//! The image of a state: all on which its future rests, but for the count of its records.
+//! Collateral is in gwei, debt and LUSD in micro-LUSD. Each table is a list of rows, which are
+//! pushed in the order of their keys.
 
 ghost use Rattle.std.specs.Prelude.{◌≡◌, [], ◌∷◌, ◌++◌, map, OnOk, OnErr};
 ghost use Rattle.liq_types.specs.ImageRows.{wallet_row, trove_row, surplus_row, finished_row, deposit_row, client_row};
@@ -8,7 +9,8 @@ use crate::replies::NoMemory;
 use std::alloc::Global;
 use std::marker::Model;
 
-/// A state's image: where the rules go on from it, they do as from the state. A checkpoint is its spelling.
+/// A state's image: where the rules go on from it, they do as from the state. A checkpoint is its
+/// spelling.
 #[derive(Drop)]
 pub struct Image {
     /// Micro-LUSD per ether.

@@ -3,7 +3,8 @@
 ghost use Rattle.std.specs.Prelude.{◌≡◌};
 ghost use Rattle.liq_types.specs.Length.{length_with};
 
-// A name of eight bytes; 21 numbers, 2 sums per stake, the product and its sum; and a count of each table.
+// A name of eight bytes; 21 numbers, 2 sums per stake, the product and its sum; and a count of each
+// table.
 const WORDS: u128 = 8 + 8 * 21 + 16 * 4 + 8 * 6;
 
 // Collateral and LUSD.

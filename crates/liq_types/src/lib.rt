@@ -1,6 +1,8 @@
-//! The plain data that every crate of liq speaks of: requests, replies, refusals, amounts and their limits.
+//! The plain data that every crate of liq speaks of: requests, replies, refusals, amounts and their
+//! limits.
 //!
-//! Debt and LUSD are in micro-LUSD, collateral in gwei, the price in micro-LUSD per ether, time in whole minutes.
+//! Debt and LUSD are in micro-LUSD, collateral in gwei, the price in micro-LUSD per ether, time in
+//! whole minutes.
 #![tactic(auto)]
 
 pub mod amounts;

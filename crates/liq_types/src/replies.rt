@@ -12,7 +12,8 @@ impl From<AllocError> for NoMemory {
     }
 }
 
-/// An accepted command: its verb's place in the list of verbs, from 1, and the values that its reply shows, unused ones 0.
+/// An accepted command: its verb's place in the list of verbs, from 1, and the values that its
+/// reply shows, unused ones 0.
 #[derive(Clone, Copy, PartialEq, Eq)]
 pub struct Done {
     pub kind: u8,
@@ -32,10 +33,11 @@ pub enum Info {
     Deposit { balance: u64, gain: u64 },
     /// The account has no deposit.
     NoDeposit,
-    /// Active collateral and debt, default collateral and debt, reserve, surplus, fee collateral and LUSD, the Stability
-    /// Pool's LUSD and collateral.
+    /// Active collateral and debt, default collateral and debt, reserve, surplus, fee collateral
+    /// and LUSD, the Stability Pool's LUSD and collateral.
     Pools { pools: [u64; 10] },
-    /// Price, minute, base rate, minute of the last fee, 1 in Recovery Mode, troves, stakes, collateral, debt, records.
+    /// Price, minute, base rate, minute of the last fee, 1 in Recovery Mode, troves, stakes,
+    /// collateral, debt, records.
     System { words: [u64; 10] },
     /// The number of a client's next new command.
     Next { number: u64 },
@@ -55,7 +57,8 @@ pub enum Refusal {
         sum: u128,
         limit: u64,
     },
-    /// 13: an account or a client is not below [`crate::amounts::ACCOUNTS`]; the first one of the line.
+    /// 13: an account or a client is not below [`crate::amounts::ACCOUNTS`]; the first one of the
+    /// line.
     AccountRange {
         value: u32,
     },

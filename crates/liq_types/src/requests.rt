@@ -12,7 +12,8 @@ pub struct Command {
     pub call: Call,
 }
 
-/// A call that may change the protocol. Collateral is in gwei, LUSD in micro-LUSD, fee bounds over 10^18.
+/// A call that may change the protocol. Collateral is in gwei, LUSD in micro-LUSD, fee bounds over
+/// 10^18.
 #[derive(Clone, Copy, PartialEq, Eq)]
 pub enum Call {
     /// Sets the price, in micro-LUSD per ether.
@@ -27,7 +28,8 @@ pub enum Call {
     Send(u32, u32, u64),
     /// Opens a trove: account, collateral, LUSD to borrow, fee bound, hint.
     Open(u32, u64, u64, u64, HintWords),
-    /// Changes a trove: account, collateral in, collateral out, LUSD to borrow, LUSD to repay, fee bound, hint.
+    /// Changes a trove: account, collateral in, collateral out, LUSD to borrow, LUSD to repay, fee
+    /// bound, hint.
     Adjust(u32, u64, u64, u64, u64, u64, HintWords),
     /// Repays an account's trove and closes it.
     Close(u32),

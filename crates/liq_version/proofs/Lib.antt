@@ -1,1 +1,1 @@
-pub mod Neighbours
+mod Neighbours

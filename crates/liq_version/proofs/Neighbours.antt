@@ -32,23 +32,34 @@ sided e f other = by (rank_order f e) refl where
       let clash : false ≡ true = sym after ∙ ap is_lt (rank_total.antisymm e f ∙ ap ordering_reverse is) in cc
 
 -- where none comes before an entry, and none after, none is left but those of its account
-none_left : (list : List Ranked) (e : Ranked) → before_entry (without_ranked list e.1) e ≡ [] → after_entry (without_ranked list e.1) e ≡ [] → without_ranked list e.1 ≡ []
+none_left : (list : List Ranked) (e : Ranked) → before_entry (without_ranked list e.1) e ≡ []
+    → after_entry (without_ranked list e.1) e ≡ [] → without_ranked list e.1 ≡ []
 none_left [] e before after = refl
 none_left (f ∷ fs) e before after = by (f.1 == e.1) refl before after (none_left fs e) where
   rest : List Ranked
   rest = without_ranked fs e.1
 
-  here : (b : Bool) → is_lt (rank_order f e) ≡ b → (c : Bool) → is_lt (rank_order e f) ≡ c → (f.1 == e.1) ≡ false → cond b (f ∷ before_entry rest e) (before_entry rest e) ≡ [] → cond c (f ∷ after_entry rest e) (after_entry rest e) ≡ [] → f ∷ rest ≡ []
+  here : (b : Bool) → is_lt (rank_order f e) ≡ b → (c : Bool) → is_lt (rank_order e f) ≡ c → (f.1 == e.1) ≡ false
+      → cond b (f ∷ before_entry rest e) (before_entry rest e) ≡ []
+      → cond c (f ∷ after_entry rest e) (after_entry rest e) ≡ [] → f ∷ rest ≡ []
   here true x c y other before after = cc
   here false x true y other before after = cc
   here false x false y other before after = absurd (sided e f other x y)
 
-  by : (b : Bool) → (f.1 == e.1) ≡ b → before_entry (cond (not b) (f ∷ rest) rest) e ≡ [] → after_entry (cond (not b) (f ∷ rest) rest) e ≡ [] → (before_entry rest e ≡ [] → after_entry rest e ≡ [] → rest ≡ []) → cond (not b) (f ∷ rest) rest ≡ []
+  by : (b : Bool) → (f.1 == e.1) ≡ b → before_entry (cond (not b) (f ∷ rest) rest) e ≡ []
+      → after_entry (cond (not b) (f ∷ rest) rest) e ≡ [] → (before_entry rest e ≡ [] → after_entry rest e ≡ []
+      → rest ≡ []) → cond (not b) (f ∷ rest) rest ≡ []
   by true is before after more = more before after
   by false is before after more = here (is_lt (rank_order f e)) refl (is_lt (rank_order e f)) refl is before after
 
-pub both_absent : (list : List Ranked) (e : Ranked) → ((neighbours list e).0 ≡ None) × ((neighbours list e).1 ≡ None) ↔ (without_ranked list e.1 ≡ [])
+pub both_absent : (list : List Ranked) (e : Ranked) → ((neighbours list e).0 ≡ None) × ((neighbours list e).1 ≡ None)
+    ↔ (without_ranked list e.1 ≡ [])
 both_absent list e = (
-  (λ absent. none_left list e (nothing_left (before_entry (without_ranked list e.1) e) (nobody (reverse (before_entry (without_ranked list e.1) e)) absent.0)) (nobody (after_entry (without_ranked list e.1) e) absent.1)),
-  (λ empty. (ap (λ (l : List Ranked). account_of (first_of (reverse (before_entry l e)))) empty, ap (λ (l : List Ranked). account_of (first_of (after_entry l e))) empty)),
+  (λ absent. none_left list e (nothing_left (before_entry (without_ranked list e.1) e)
+      (nobody (reverse (before_entry (without_ranked list e.1) e)) absent.0))
+      (nobody (after_entry (without_ranked list e.1) e) absent.1)),
+  (λ empty. (
+    ap (λ (l : List Ranked). account_of (first_of (reverse (before_entry l e)))) empty,
+    ap (λ (l : List Ranked). account_of (first_of (after_entry l e))) empty,
+  )),
 )

@@ -13,7 +13,10 @@ pub record Numbered : Type 0 where
 
 -- an empty list, and words as before any snapshot
 abbrev pub empty_version : Numbered
-empty_version = record { view = record { list = []; snap_stakes = 0; snap_coll = 0; sum_debt = 0 }; number = 0 }
+empty_version = record {
+  view = record { list = []; snap_stakes = 0; snap_coll = 0; sum_debt = 0 };
+  number = 0;
+}
 
 -- the version after changes, under a number of its own
 abbrev pub folded : Numbered → List ListChange → ℕ → Numbered
@@ -27,7 +30,8 @@ asker (At key id) = id
 asker (Open account coll borrow) = account
 asker (Own account) = account
 
--- the key for whose place is asked: the given one, that of a trove which would open, or the asker's own
+-- the key for whose place is asked: the given one, that of a trove which would open, or the asker's
+-- own
 abbrev pub key_asked : View → Ask → ℤ
 key_asked v (At key id) = key
 key_asked v (Open account coll borrow) = key_seen v coll borrow

@@ -5,4 +5,9 @@ use Rattle.liq_types.specs.Views.{View}
 use Rattle.liq_version.specs.declared.words.Words.{Words}
 
 abbrev pub seen : List Ranked → Words → View
-seen list w = record { list = list; snap_stakes = w.snap_stakes; snap_coll = w.snap_coll; sum_debt = w.sum_debt }
+seen list w = record {
+  list = list;
+  snap_stakes = w.snap_stakes;
+  snap_coll = w.snap_coll;
+  sum_debt = w.sum_debt;
+}

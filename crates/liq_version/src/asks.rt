@@ -6,8 +6,8 @@ pub enum Ask {
         key: i128,
         id: u32,
     },
-    /// Where an account would stand that opened a trove with this collateral (gwei) and this borrowing (micro-LUSD), at the
-    /// least fee.
+    /// Where an account would stand that opened a trove with this collateral (gwei) and this
+    /// borrowing (micro-LUSD), at the least fee.
     Open {
         account: u32,
         coll: u64,

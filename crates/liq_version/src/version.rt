@@ -91,7 +91,11 @@ impl Version {
 
     // Between whom a trove would open.
     fn beside_opening(&self, account: u32, coll: u64, borrow: u64) -> (Option<u32>, Option<u32>)
-        ensures { result ≡ neighbours self.now.view.list (key_asked self.now.view (Open account coll borrow), account) }
+        ensures { result ≡ neighbours self.now.view.list (
+          key_asked self.now.view
+              (Open account coll borrow),
+          account,
+        ) }
     {
         match self.words.key(coll, borrow) {
             Some(key) => self.guide.neighbours(key, account),
@@ -101,7 +105,10 @@ impl Version {
 
     // Between whom an account stands.
     fn beside_own(&self, account: u32) -> (Option<u32>, Option<u32>)
-        ensures { result ≡ neighbours self.now.view.list (key_asked self.now.view (Own account), account) }
+        ensures { result ≡ neighbours self.now.view.list (
+          key_asked self.now.view (Own account),
+          account,
+        ) }
     {
         let key = self.guide.key_of(account).unwrap_or(0);
         self.guide.neighbours(key, account)

@@ -26,7 +26,8 @@ impl Words {
 
     // The words after changes.
     pub(crate) fn after(self, changes: &[ListChange]) -> Words
-        ensures { (list : List Ranked) → all_followed (seen list self) changes.now ≡ seen (all_followed (seen list self) changes.now).list result }
+        ensures { (list : List Ranked) → all_followed (seen list self) changes.now
+            ≡ seen (all_followed (seen list self) changes.now).list result }
     {
         let mut words = self;
         for change in changes {
@@ -36,7 +37,8 @@ impl Words {
     }
 
     fn followed(self, change: &ListChange) -> Words
-        ensures { (list : List Ranked) → followed (seen list self) change.now ≡ seen (followed (seen list self) change.now).list result }
+        ensures { (list : List Ranked) → followed (seen list self) change.now
+            ≡ seen (followed (seen list self) change.now).list result }
     {
         match *change {
             ListChange::Words {
@@ -54,14 +56,16 @@ impl Words {
 
     // The key under which a trove would open. None where it lies below all that an i128 can be.
     pub(crate) fn key(&self, coll: u64, borrow: u64) -> Option<i128>
-        ensures { MatchOption result (key_seen (seen [] self.now) coll borrow <ℤ i128.MIN) (λ key. key ≡ key_seen (seen [] self.now) coll borrow) }
+        ensures { MatchOption result (key_seen (seen [] self.now) coll borrow <ℤ i128.MIN)
+            (λ key. key ≡ key_seen (seen [] self.now) coll borrow) }
     {
         difference(self.owed_by_unit(coll, borrow), self.sum_debt)
     }
 
     // What a unit of the trove's stake would owe, over 10^18.
     fn owed_by_unit(&self, coll: u64, borrow: u64) -> u128
-        ensures unit { result ≡ floor_of (debt_seen borrow) one (stake_seen (seen [] self.now) coll) }
+        ensures unit { result ≡ floor_of (debt_seen borrow) one
+            (stake_seen (seen [] self.now) coll) }
         ensures fits { result < 2 ^ 127 }
     {
         mul_div(debt(borrow), u128::from(ONE), self.stake(coll))
@@ -90,10 +94,12 @@ fn debt(borrow: u64) -> u128
     borrow + fee + u128::from(RESERVE)
 }
 
-// What is left of a number below 2^127, or less than nothing. None where it lies below all that an i128 can be.
+// What is left of a number below 2^127, or less than nothing. None where it lies below all that an
+// i128 can be.
 fn difference(from: u128, less: u128) -> Option<i128>
     requires { from < 2 ^ 127 }
-    ensures { MatchOption result ((pos from -ℤ pos less) <ℤ i128.MIN) (λ key. key ≡ pos from -ℤ pos less) }
+    ensures { MatchOption result ((pos from -ℤ pos less) <ℤ i128.MIN) (λ key. key
+        ≡ pos from -ℤ pos less) }
 {
     if less <= from {
         return Some((from - less) as i128);

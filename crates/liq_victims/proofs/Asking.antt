@@ -15,15 +15,18 @@ use Rattle.liq_liquidation.specs.Moment.{IsFaultOf}
 use Rattle.liq_victims.specs.Lowest.{AreLowest, IsNoPlan, lowest_refusal}
 
 -- what is tested of the count is passed
-tests_left : (s : State) (count : ℕ) → 1 ≤ count → count ≤ LOWEST_MOST → lowest_refusal s count ≡ first_refusal (lowest_rules s)
+tests_left : (s : State) (count : ℕ) → 1 ≤ count → count ≤ LOWEST_MOST
+    → lowest_refusal s count ≡ first_refusal (lowest_rules s)
 tests_left s count some most =
     let not_none : (count == 0) ≡ false = grind (arith, nat_tests, some) in
     let few : nat_lt LOWEST_MOST count ≡ false = grind (arith, nat_tests, most) in
-    ap (λ b. cond b (Some AmountZero) (cond (nat_lt LOWEST_MOST count) (Some (AmountLimit count LOWEST_MOST)) (first_refusal (lowest_rules s)))) not_none
+    ap (λ b. cond b (Some AmountZero) (cond (nat_lt LOWEST_MOST count) (Some (AmountLimit count LOWEST_MOST))
+    (first_refusal (lowest_rules s)))) not_none
     ∙ ap (λ b. cond b (Some (AmountLimit count LOWEST_MOST)) (first_refusal (lowest_rules s))) few
 
 module _ (s : State) (count : ℕ) where
-  made : (vs : List Victim) (o : Option Refusal) → outcome o (lowest s count) ≡ Ok vs → (o ≡ None) × (lowest s count ≡ vs)
+  made : (vs : List Victim) (o : Option Refusal) → outcome o (lowest s count) ≡ Ok vs
+      → (o ≡ None) × (lowest s count ≡ vs)
   made vs None e = (refl, cc)
   made vs (Some refusal) e = cc
 
@@ -36,7 +39,8 @@ module _ (s : State) (count : ℕ) where
   passed (Some refusal) e = cc
 
   module _ (some : 1 ≤ count) (most : count ≤ LOWEST_MOST) {V : Type 0} where
-    pub asked : (r : Result V LowestFault) (items : V → List Victim) → MatchResult r (λ v. lowest_plan s count ≡ Ok (items v)) (IsFaultOf (lowest_plan s count))
+    pub asked : (r : Result V LowestFault) (items : V → List Victim)
+        → MatchResult r (λ v. lowest_plan s count ≡ Ok (items v)) (IsFaultOf (lowest_plan s count))
         → MatchResult r (λ v. AreLowest s count (items v)) (IsNoPlan s count)
     asked (Ok v) items h =
         let both = made (items v) (first_refusal (lowest_rules s)) h in

@@ -1,3 +1,3 @@
-pub mod Asking
-pub mod Striking
+mod Asking
+mod Striking
 pub mod ToldVictims

@@ -1,4 +1,5 @@
--- Troves that are liquidated one after the other: each at its moment, what is kept of a state meanwhile, and what is told of them.
+-- Troves that are liquidated one after the other: each at its moment, what is kept of a state
+-- meanwhile, and what is told of them.
 use Rattle.std.specs.Prelude.{◌≡◌, ℕ, ◌+◌, ◌-◌, ◌≤◌, ◌*◌, ◌^◌, ◌==◌, IsTrue, Option, Some, None, Ok, List, [], ◌∷◌, if◌then◌else◌}
 use Rattle.liq_types.specs.declared.amounts.TheConstants.{LIM, OFFSET_MOST, SUM_MOST}
 use Rattle.liq_types.specs.declared.events.ListChange.{ListChange}
@@ -31,12 +32,14 @@ use Rattle.liq_standing.specs.Books.{pools_of}
 -- each may be liquidated after those before it
 abbrev pub AreVictims : State → ℕ → List Victim → Type 0
 AreVictims s liquidator [] = Unit {0}
-AreVictims s liquidator (v ∷ vs) = (one s v.account ≡ Ok v.one) × AreVictims (liquidated s liquidator v) liquidator vs
+AreVictims s liquidator (v ∷ vs) = (one s v.account ≡ Ok v.one)
+    × AreVictims (liquidated s liquidator v) liquidator vs
 
 -- ---- what is kept of a state
 
 -- the parts that liquidations change are a state's
-pub record AreKept (s : State) (wallets : WithRoom Wallet) (pools : Pools) (surplus : WithRoom ℕ) (troves : troves.Kept) (order : Listed) (pool : stability.Kept) : Type 0 where
+pub record AreKept (s : State) (wallets : WithRoom Wallet) (pools : Pools) (surplus : WithRoom ℕ)
+    (troves : troves.Kept) (order : Listed) (pool : stability.Kept) : Type 0 where
   pub wallets_are : wallets.rows ≡ s.wallets
   pub pools_are : pools ≡ pools_of s
   pub owners_are : surplus.rows ≡ s.surplus_rows
@@ -49,14 +52,20 @@ pub record AreKept (s : State) (wallets : WithRoom Wallet) (pools : Pools) (surp
 
 -- what a state has of that from which it is told
 abbrev pub course_of : State → Course
-course_of s = record { words = pool_words s; stakes = stakes_of s; coll = total_coll s; sum_debt = (sums_now s).debt }
+course_of s = record {
+  words = pool_words s;
+  stakes = stakes_of s;
+  coll = total_coll s;
+  sum_debt = (sums_now s).debt;
+}
 
 -- what the Stability Pool takes over, if anything
 abbrev pub offset_told : PoolWords → One → Option PoolEvent
 offset_told words one =
     if one.offset_debt == 0
     then None
-    else Some (Offset one.offset_debt one.offset_coll words.total (rise_of words.p (offset_in words one.offset_debt one.offset_coll)))
+    else Some (Offset one.offset_debt one.offset_coll words.total
+    (rise_of words.p (offset_in words one.offset_debt one.offset_coll)))
 
 -- one event or none
 abbrev pub told_of : Option PoolEvent → List PoolEvent

@@ -24,7 +24,8 @@ pub struct Course {
 }
 
 impl Course {
-    /// Goes on behind the liquidation of a trove with this stake. Answers what the Stability Pool takes over, if anything.
+    /// Goes on behind the liquidation of a trove with this stake. Answers what the Stability Pool
+    /// takes over, if anything.
     pub fn pass(&mut self, stake: u64, one: &One) -> Option<PoolEvent>
         requires next { IsNext self.old one.now }
         requires others { stake < self.old.stakes }

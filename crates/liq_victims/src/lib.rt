@@ -1,5 +1,5 @@
-//! Victims: troves that are liquidated one after the other, as it was planned. The lowest of them, what others follow of them,
-//! room for what they write, and their effect.
+//! Victims: troves that are liquidated one after the other, as it was planned. The lowest of them,
+//! what others follow of them, room for what they write, and their effect.
 #![tactic(auto)]
 
 mod course;

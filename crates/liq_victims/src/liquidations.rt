@@ -1,4 +1,5 @@
-//! Liquidations that were planned: what is told of them, what they come to, room for what they write, and their effect.
+//! Liquidations that were planned: what is told of them, what they come to, room for what they
+//! write, and their effect.
 
 ghost use Rattle.std.specs.Prelude.{◌≡◌, ◌≤◌, ◌<◌, ◌^◌, ◌++◌, ◌∷◌, [], length, sum_by, IsOk, OnOk};
 ghost use Rattle.std.specs.List.{AllByRecursion};
@@ -35,8 +36,10 @@ impl Told {
         event: Option<PoolEvent>,
         words: ListChange,
     ) -> Result<(), NoMemory>
-        ensures events { OnOk result (self.new.events.items ≡ self.old.events.items ++ told_of event) }
-        ensures changes { OnOk result (self.new.changes.items ≡ self.old.changes.items ++ Gone account ∷ words ∷ []) }
+        ensures events { OnOk result (self.new.events.items ≡ self.old.events.items
+            ++ told_of event) }
+        ensures changes { OnOk result (self.new.changes.items ≡ self.old.changes.items
+            ++ Gone account ∷ words ∷ []) }
     {
         if let Some(event) = event {
             push(&mut self.events, event)?;
@@ -106,14 +109,17 @@ pub fn strike(
     order: &mut Order,
     stability: &mut Stability,
 )
-    requires planned { (s : State) × IsSoundState s × AreVictims s liquidator victims.now × AreKept s wallets.old pools.old surplus.old troves.old order.old stability.old }
+    requires planned { (s : State) × IsSoundState s × AreVictims s liquidator victims.now
+        × AreKept s wallets.old pools.old surplus.old troves.old order.old stability.old }
     requires few { length victims.now ≤ LOWEST_MOST }
     requires range { liquidator < ACCOUNTS }
     requires wallet { HasRoom wallets.old liquidator }
     requires owners { AllByRecursion (λ v. HasRoom surplus.old v.account) victims.now }
     requires finished { length victims.now ≤ stability.old.spare }
-    ensures { (s : State) → IsSoundState s → AreVictims s liquidator victims.now → AreKept s wallets.old pools.old surplus.old troves.old order.old stability.old
-        → AreKept (all_liquidated s liquidator victims.now) wallets.new pools.new surplus.new troves.new order.new stability.new }
+    ensures { (s : State) → IsSoundState s → AreVictims s liquidator victims.now
+        → AreKept s wallets.old pools.old surplus.old troves.old order.old stability.old
+        → AreKept (all_liquidated s liquidator victims.now) wallets.new pools.new surplus.new
+        troves.new order.new stability.new }
 {
     for victim in victims {
         apply_one(

@@ -15,8 +15,8 @@ use liq_types::amounts::LOWEST_MOST;
 use liq_types::{Market, Refusal};
 use std::alloc::Global;
 
-/// The lowest troves, as many as are asked for at most, by all that a command for them tests. There may be no memory for them
-/// only where no rule refuses them.
+/// The lowest troves, as many as are asked for at most, by all that a command for them tests. There
+/// may be no memory for them only where no rule refuses them.
 pub fn plan_victims(
     alloc: Global,
     m: &Market,
@@ -26,8 +26,10 @@ pub fn plan_victims(
     count: u64,
 ) -> Result<Vec<Victim>, LowestFault>
     requires order { order.now.entries ≡ order_by troves.now.table.rows }
-    requires sound { IsSoundMoment (moment_by m.now troves.now.sums troves.now.table.rows words.now) }
-    ensures { (s : State) → AreParts s m.now troves.now.sums troves.now.table.rows order.now.entries words.now → TrovesAreSound s
+    requires sound { IsSoundMoment (moment_by m.now troves.now.sums troves.now.table.rows
+        words.now) }
+    ensures { (s : State) → AreParts s m.now troves.now.sums troves.now.table.rows order.now.entries
+        words.now → TrovesAreSound s
         → MatchResult result (λ victims. AreLowest s count victims.items) (IsNoPlan s count) }
 {
     if count == 0 {

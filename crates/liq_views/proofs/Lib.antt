@@ -1,2 +1,2 @@
-pub mod Keeping
-pub mod Numbers
+mod Keeping
+mod Numbers

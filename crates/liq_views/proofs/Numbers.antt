@@ -43,5 +43,6 @@ number_from v (b ∷ bs) = number_from (with_batch v b) bs
 pub number_is : (bs : List Given) → (version_after bs).number ≡ last_from 0 bs
 number_is bs = number_from empty_version bs
 
-pub later_version : (before after : List Given) → last_from 0 before ≤ last_from 0 after → (version_after before).number ≤ (version_after after).number
+pub later_version : (before after : List Given) → last_from 0 before ≤ last_from 0 after → (version_after before).number
+    ≤ (version_after after).number
 later_version before after later = let a = number_is before in let b = number_is after in omega (arith, a, b, later)

@@ -9,7 +9,8 @@ use Rattle.liq_version.specs.declared.asks.Ask.{Ask}
 use Rattle.liq_version.specs.declared.asks.Ask.TheVariants as ask
 use Rattle.liq_version.specs.Versions.{Numbered, answer_of}
 
--- an opening is looked up by what it would be, a change of a trove by its owner; no other call places a trove
+-- an opening is looked up by what it would be, a change of a trove by its owner; no other call
+-- places a trove
 abbrev pub sought_at : Call → Option Ask
 sought_at (call.Open account coll borrow bound words) = Some (ask.Open account coll borrow)
 sought_at (call.Adjust account coll_in coll_out borrow repay bound words) = Some (ask.Own account)

@@ -10,7 +10,8 @@ use Rattle.liq_views.specs.Panes.{seen_by}
 abbrev pub published : Publisher → List Given
 published p = (view p.writer.desk.place).seen
 
--- the batches that were taken but not published for want of memory; they go out with the next publication
+-- the batches that were taken but not published for want of memory; they go out with the next
+-- publication
 abbrev pub waiting : Publisher → List Given
 waiting p = drop p.writer.behind p.writer.log.items
 

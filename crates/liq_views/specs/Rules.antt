@@ -1,4 +1,5 @@
--- The rule: what is published is made by one list of batches, of which each end has seen a beginning.
+-- The rule: what is published is made by one list of batches, of which each end has seen a
+-- beginning.
 use Rattle.std.specs.Prelude.{◌≡◌, ◌≤◌, ℕ, List, []}
 use mathlib.Core.Option.{some}
 use lib.ListN.{get_elem?}

@@ -10,7 +10,8 @@ abbrev pub IsMade : Shelf → Sight → List Given → Type 0
 IsMade shown sight waits = (shown ≡ after_all sight.seen) × Rise 0 (sight.seen ++ waits)
 
 -- all that waited was sent, or nothing changed
-abbrev pub IsSent : {T E : Type 0} → Result T E → Shelf → Sight → List Given → Shelf → Sight → List Given → Type 0
+abbrev pub IsSent : {T E : Type 0} → Result T E → Shelf → Sight → List Given → Shelf → Sight
+    → List Given → Type 0
 IsSent result shown sight waits shown' sight' waits' =
     MatchResult result
     (λ _. (sight'.seen ≡ sight.seen ++ waits) × (waits' ≡ []) × (shown' ≡ after_all sight'.seen))

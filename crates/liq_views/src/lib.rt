@@ -1,7 +1,7 @@
 //! Published views of the ordered list, and the finders that look for hints in them.
 //!
-//! One publisher hands out versions, each made of the one before by a batch of changes. Finders look at the version that
-//! was published last, with no lock and without waiting.
+//! One publisher hands out versions, each made of the one before by a batch of changes. Finders
+//! look at the version that was published last, with no lock and without waiting.
 #![tactic(auto)]
 
 mod batch;

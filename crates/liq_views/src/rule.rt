@@ -10,13 +10,14 @@ use crossbeam_utils::rule::{Outcome, Protocol};
 use std::collections::LinkedList;
 use std::marker::{Brand, PhantomData};
 
-/// What an end has seen: the batches that made what it was shown, or that it published. No value of it is made.
+/// What an end has seen: the batches that made what it was shown, or that it published. No value of
+/// it is made.
 pub struct Sight {
     pub seen: LinkedList<Batch>,
 }
 
-/// There is one list of batches. It makes what is published, its numbers rise, and what each end has seen is a beginning
-/// of it.
+/// There is one list of batches. It makes what is published, its numbers rise, and what each end
+/// has seen is a beginning of it.
 pub struct Published;
 
 impl Protocol<Shelf, Sight> for Published {

@@ -8,7 +8,8 @@ use left_right::Absorb;
 use liq_version::Version;
 use std::alloc::{AllocError, Global};
 
-/// A version and the number of batches that made it. The number tells one list of batches from a longer one.
+/// A version and the number of batches that made it. The number tells one list of batches from a
+/// longer one.
 #[derive(Drop)]
 pub struct Shelf {
     pub(crate) version: Version,

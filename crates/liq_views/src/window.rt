@@ -22,17 +22,20 @@ pub trait Window {
     /// How what was shown before a look leads to what is shown after it.
     ghost leads: { Self → Self → Type 0 };
 
-    /// Asks the version that is then shown. Its number isn't below that of the one shown before. `Shut` comes only where
-    /// the count of shut looks rose in this call, and leaves what was last shown.
+    /// Asks the version that is then shown. Its number isn't below that of the one shown before.
+    /// `Shut` comes only where the count of shut looks rose in this call, and leaves what was last
+    /// shown.
     fn look(&mut self, ask: &Ask) -> Result<Hint, Shut>
-        ensures told { IfOk result (λ hint. IfSome (shown self.new) (λ v. hint ≡ answer_of v ask.now)) }
+        ensures told { IfOk result (λ hint. IfSome (shown self.new) (λ v. hint
+            ≡ answer_of v ask.now)) }
         ensures later { GoesOn (shown self.old) (shown self.new) }
         ensures leads { leads self.old self.new }
         ensures stays { OnErr result (shown self.new ≡ shown self.old) }
         ensures open { OnOk result (shut self.new ≡ shut self.old) }
         ensures cause { OnErr result (Rose (shut self.old) (shut self.new)) };
 
-    /// The number of the version that is then shown, by the terms of [`Window::look`]. Nobody's neighbours are looked up.
+    /// The number of the version that is then shown, by the terms of [`Window::look`]. Nobody's
+    /// neighbours are looked up.
     fn number(&mut self) -> Result<u64, Shut>
         ensures told { IfOk result (λ number. IfSome (shown self.new) (λ v. number ≡ v.number)) }
         ensures later { GoesOn (shown self.old) (shown self.new) }

@@ -1,2 +1,2 @@
-pub mod Spelling
+mod Spelling
 mod Writing

@@ -31,7 +31,8 @@ first_false false p others is = (refl, is)
 
 are_false : (all : List (Bool × ℕ)) → first_place all ≡ None → AreFalse all
 are_false [] is = tt
-are_false (test ∷ rest) is = let first = first_false test.0 test.1 (first_place rest) is in (first.0, are_false rest first.1)
+are_false (test ∷ rest) is = let first = first_false test.0 test.1 (first_place rest) is
+    in (first.0, are_false rest first.1)
 
 zero_unless : (b : Bool) (n : ℕ) → (b && isnt_zero n) ≡ false → b ≡ true → n ≡ 0
 zero_unless b n is so = grind (arith, nat_tests)
@@ -76,9 +77,26 @@ fits f is =
 at_most : (n : ℕ) → (nat_lt n 1 || nat_lt 16 n) ≡ false → n ≤ 16
 at_most n is = grind (arith, nat_tests)
 
-module _ (gap : List ℕ) (client number account other amount amount_2 amount_3 amount_4 amount_5 before after : ℕ) (rest : List ℕ) where
+module _ (gap : List ℕ) (client number account other amount amount_2 amount_3 amount_4 amount_5 before after : ℕ)
+    (rest : List ℕ) where
   abbrev of_kind : ℕ → Fields
-  of_kind kind = record { kind = kind; gap = gap; client = client; number = number; account = account; other = other; amount = amount; amount_2 = amount_2; amount_3 = amount_3; amount_4 = amount_4; amount_5 = amount_5; before = before; after = after; rest = rest }
+  of_kind kind = record {
+    kind = kind;
+    gap = gap;
+    client = client;
+    number = number;
+    account = account;
+    other = other;
+    amount = amount;
+    amount_2 = amount_2;
+    amount_3 = amount_3;
+    amount_4 = amount_4;
+    amount_5 = amount_5;
+    before =
+        before;
+    after = after;
+    rest = rest;
+  }
 
   record IsBack (f : Fields) : Type 0 where
     fields : fields_of (command_in f) ≡ f
@@ -87,32 +105,371 @@ module _ (gap : List ℕ) (client number account other amount amount_2 amount_3 
   kinds : (kind : ℕ) → before < 4294967296 → after < 4294967296 → Fits (of_kind kind) → IsBack (of_kind kind)
   unfolding command_in
   kinds zero small small_2 z = absurd (cc (z.kind))
-  kinds (suc zero) small small_2 z = record { fields = λ i. record { kind = 1; gap = sym z.gap i; client = client; number = number; account = sym (z.account refl) i; other = sym (z.other refl) i; amount = amount; amount_2 = sym (z.amount_2 refl) i; amount_3 = sym (z.amount_3 refl) i; amount_4 = sym (z.amount_4 refl) i; amount_5 = sym (z.amount_5 refl) i; before = sym (z.before refl) i; after = sym (z.after refl) i; rest = sym z.rest i }; hints = tt }
-  kinds (suc (suc zero)) small small_2 z = record { fields = λ i. record { kind = 2; gap = sym z.gap i; client = client; number = number; account = sym (z.account refl) i; other = sym (z.other refl) i; amount = amount; amount_2 = sym (z.amount_2 refl) i; amount_3 = sym (z.amount_3 refl) i; amount_4 = sym (z.amount_4 refl) i; amount_5 = sym (z.amount_5 refl) i; before = sym (z.before refl) i; after = sym (z.after refl) i; rest = sym z.rest i }; hints = tt }
-  kinds (suc (suc (suc zero))) small small_2 z = record { fields = λ i. record { kind = 3; gap = sym z.gap i; client = client; number = number; account = account; other = sym (z.other refl) i; amount = amount; amount_2 = sym (z.amount_2 refl) i; amount_3 = sym (z.amount_3 refl) i; amount_4 = sym (z.amount_4 refl) i; amount_5 = sym (z.amount_5 refl) i; before = sym (z.before refl) i; after = sym (z.after refl) i; rest = sym z.rest i }; hints = tt }
-  kinds (suc (suc (suc (suc zero)))) small small_2 z = record { fields = λ i. record { kind = 4; gap = sym z.gap i; client = client; number = number; account = account; other = sym (z.other refl) i; amount = amount; amount_2 = sym (z.amount_2 refl) i; amount_3 = sym (z.amount_3 refl) i; amount_4 = sym (z.amount_4 refl) i; amount_5 = sym (z.amount_5 refl) i; before = sym (z.before refl) i; after = sym (z.after refl) i; rest = sym z.rest i }; hints = tt }
-  kinds (suc (suc (suc (suc (suc zero))))) small small_2 z = record { fields = λ i. record { kind = 5; gap = sym z.gap i; client = client; number = number; account = account; other = other; amount = amount; amount_2 = sym (z.amount_2 refl) i; amount_3 = sym (z.amount_3 refl) i; amount_4 = sym (z.amount_4 refl) i; amount_5 = sym (z.amount_5 refl) i; before = sym (z.before refl) i; after = sym (z.after refl) i; rest = sym z.rest i }; hints = tt }
-  kinds (suc (suc (suc (suc (suc (suc zero)))))) small small_2 z = record { fields = λ i. record { kind = 6; gap = sym z.gap i; client = client; number = number; account = account; other = sym (z.other refl) i; amount = amount; amount_2 = amount_2; amount_3 = amount_3; amount_4 = sym (z.amount_4 refl) i; amount_5 = sym (z.amount_5 refl) i; before = word_back before i; after = word_back after i; rest = sym z.rest i }; hints = (hint_small before small, hint_small after small_2) }
-  kinds (suc (suc (suc (suc (suc (suc (suc zero))))))) small small_2 z = record { fields = λ i. record { kind = 7; gap = sym z.gap i; client = client; number = number; account = account; other = sym (z.other refl) i; amount = amount; amount_2 = amount_2; amount_3 = amount_3; amount_4 = amount_4; amount_5 = amount_5; before = word_back before i; after = word_back after i; rest = sym z.rest i }; hints = (hint_small before small, hint_small after small_2) }
-  kinds (suc (suc (suc (suc (suc (suc (suc (suc zero)))))))) small small_2 z = record { fields = λ i. record { kind = 8; gap = sym z.gap i; client = client; number = number; account = account; other = sym (z.other refl) i; amount = sym (z.amount refl) i; amount_2 = sym (z.amount_2 refl) i; amount_3 = sym (z.amount_3 refl) i; amount_4 = sym (z.amount_4 refl) i; amount_5 = sym (z.amount_5 refl) i; before = sym (z.before refl) i; after = sym (z.after refl) i; rest = sym z.rest i }; hints = tt }
-  kinds (suc (suc (suc (suc (suc (suc (suc (suc (suc zero))))))))) small small_2 z = record { fields = λ i. record { kind = 9; gap = sym z.gap i; client = client; number = number; account = account; other = sym (z.other refl) i; amount = amount; amount_2 = sym (z.amount_2 refl) i; amount_3 = sym (z.amount_3 refl) i; amount_4 = sym (z.amount_4 refl) i; amount_5 = sym (z.amount_5 refl) i; before = sym (z.before refl) i; after = sym (z.after refl) i; rest = sym z.rest i }; hints = tt }
-  kinds (suc (suc (suc (suc (suc (suc (suc (suc (suc (suc zero)))))))))) small small_2 z = record { fields = λ i. record { kind = 10; gap = sym z.gap i; client = client; number = number; account = account; other = sym (z.other refl) i; amount = amount; amount_2 = sym (z.amount_2 refl) i; amount_3 = sym (z.amount_3 refl) i; amount_4 = sym (z.amount_4 refl) i; amount_5 = sym (z.amount_5 refl) i; before = sym (z.before refl) i; after = sym (z.after refl) i; rest = sym z.rest i }; hints = tt }
-  kinds (suc (suc (suc (suc (suc (suc (suc (suc (suc (suc (suc zero))))))))))) small small_2 z = record { fields = λ i. record { kind = 11; gap = sym z.gap i; client = client; number = number; account = account; other = sym (z.other refl) i; amount = sym (z.amount refl) i; amount_2 = sym (z.amount_2 refl) i; amount_3 = sym (z.amount_3 refl) i; amount_4 = sym (z.amount_4 refl) i; amount_5 = sym (z.amount_5 refl) i; before = word_back before i; after = word_back after i; rest = sym z.rest i }; hints = (hint_small before small, hint_small after small_2) }
-  kinds (suc (suc (suc (suc (suc (suc (suc (suc (suc (suc (suc (suc zero)))))))))))) small small_2 z = record { fields = λ i. record { kind = 12; gap = sym z.gap i; client = client; number = number; account = account; other = other; amount = sym (z.amount refl) i; amount_2 = sym (z.amount_2 refl) i; amount_3 = sym (z.amount_3 refl) i; amount_4 = sym (z.amount_4 refl) i; amount_5 = sym (z.amount_5 refl) i; before = sym (z.before refl) i; after = sym (z.after refl) i; rest = sym z.rest i }; hints = tt }
-  kinds (suc (suc (suc (suc (suc (suc (suc (suc (suc (suc (suc (suc (suc zero))))))))))))) small small_2 z = record { fields = λ i. record { kind = 13; gap = sym z.gap i; client = client; number = number; account = account; other = sym (z.other refl) i; amount = amount; amount_2 = sym (z.amount_2 refl) i; amount_3 = sym (z.amount_3 refl) i; amount_4 = sym (z.amount_4 refl) i; amount_5 = sym (z.amount_5 refl) i; before = sym (z.before refl) i; after = sym (z.after refl) i; rest = sym z.rest i }; hints = tt }
-  kinds (suc (suc (suc (suc (suc (suc (suc (suc (suc (suc (suc (suc (suc (suc zero)))))))))))))) small small_2 z = record { fields = λ i. record { kind = 14; gap = sym z.gap i; client = client; number = number; account = account; other = sym (z.other refl) i; amount = amount; amount_2 = amount_2; amount_3 = sym (z.amount_3 refl) i; amount_4 = sym (z.amount_4 refl) i; amount_5 = sym (z.amount_5 refl) i; before = word_back before i; after = word_back after i; rest = sym z.rest i }; hints = (hint_small before small, hint_small after small_2) }
-  kinds (suc (suc (suc (suc (suc (suc (suc (suc (suc (suc (suc (suc (suc (suc (suc zero))))))))))))))) small small_2 z = record { fields = λ i. record { kind = 15; gap = sym z.gap i; client = client; number = number; account = account; other = sym (z.other refl) i; amount = sym (z.amount refl) i; amount_2 = sym (z.amount_2 refl) i; amount_3 = sym (z.amount_3 refl) i; amount_4 = sym (z.amount_4 refl) i; amount_5 = sym (z.amount_5 refl) i; before = sym (z.before refl) i; after = sym (z.after refl) i; rest = sym z.rest i }; hints = tt }
-  kinds (suc (suc (suc (suc (suc (suc (suc (suc (suc (suc (suc (suc (suc (suc (suc (suc zero)))))))))))))))) small small_2 z = record { fields = λ i. record { kind = 16; gap = sym z.gap i; client = client; number = number; account = sym (z.account refl) i; other = sym (z.other refl) i; amount = sym (z.amount refl) i; amount_2 = sym (z.amount_2 refl) i; amount_3 = sym (z.amount_3 refl) i; amount_4 = sym (z.amount_4 refl) i; amount_5 = sym (z.amount_5 refl) i; before = sym (z.before refl) i; after = sym (z.after refl) i; rest = sym z.rest i }; hints = tt }
-  kinds (suc (suc (suc (suc (suc (suc (suc (suc (suc (suc (suc (suc (suc (suc (suc (suc (suc kind))))))))))))))))) small small_2 z = let low = at_most (suc (suc (suc (suc (suc (suc (suc (suc (suc (suc (suc (suc (suc (suc (suc (suc (suc kind))))))))))))))))) z.kind in absurd (omega arith)
+  kinds (suc zero) small small_2 z = record {
+    fields = λ i. record {
+      kind = 1;
+      gap = sym z.gap i;
+      client = client;
+      number = number;
+      account = sym (z.account refl) i;
+      other = sym (z.other refl) i;
+      amount = amount;
+      amount_2 =
+          sym (z.amount_2 refl) i;
+      amount_3 = sym (z.amount_3 refl) i;
+      amount_4 = sym (z.amount_4 refl) i;
+      amount_5 =
+          sym (z.amount_5 refl) i;
+      before = sym (z.before refl) i;
+      after = sym (z.after refl) i;
+      rest = sym z.rest i;
+    };
+    hints = tt;
+  }
+  kinds (suc (suc zero)) small small_2 z = record {
+    fields = λ i. record {
+      kind = 2;
+      gap = sym z.gap i;
+      client = client;
+      number = number;
+      account = sym (z.account refl) i;
+      other = sym (z.other refl) i;
+      amount = amount;
+      amount_2 =
+          sym (z.amount_2 refl) i;
+      amount_3 = sym (z.amount_3 refl) i;
+      amount_4 = sym (z.amount_4 refl) i;
+      amount_5 =
+          sym (z.amount_5 refl) i;
+      before = sym (z.before refl) i;
+      after = sym (z.after refl) i;
+      rest = sym z.rest i;
+    };
+    hints = tt;
+  }
+  kinds (suc (suc (suc zero))) small small_2 z = record {
+    fields = λ i. record {
+      kind = 3;
+      gap = sym z.gap i;
+      client = client;
+      number = number;
+      account = account;
+      other = sym (z.other refl) i;
+      amount = amount;
+      amount_2 =
+          sym (z.amount_2 refl) i;
+      amount_3 = sym (z.amount_3 refl) i;
+      amount_4 = sym (z.amount_4 refl) i;
+      amount_5 =
+          sym (z.amount_5 refl) i;
+      before = sym (z.before refl) i;
+      after = sym (z.after refl) i;
+      rest = sym z.rest i;
+    };
+    hints = tt;
+  }
+  kinds (suc (suc (suc (suc zero)))) small small_2 z = record {
+    fields = λ i. record {
+      kind = 4;
+      gap = sym z.gap i;
+      client = client;
+      number = number;
+      account = account;
+      other = sym (z.other refl) i;
+      amount = amount;
+      amount_2 =
+          sym (z.amount_2 refl) i;
+      amount_3 = sym (z.amount_3 refl) i;
+      amount_4 = sym (z.amount_4 refl) i;
+      amount_5 =
+          sym (z.amount_5 refl) i;
+      before = sym (z.before refl) i;
+      after = sym (z.after refl) i;
+      rest = sym z.rest i;
+    };
+    hints = tt;
+  }
+  kinds (suc (suc (suc (suc (suc zero))))) small small_2 z =
+      record {
+        fields = λ i. record {
+          kind = 5;
+          gap = sym z.gap i;
+          client = client;
+          number = number;
+          account = account;
+          other = other;
+          amount = amount;
+          amount_2 = sym (z.amount_2 refl) i;
+          amount_3 = sym (z.amount_3 refl) i;
+          amount_4 =
+              sym (z.amount_4 refl) i;
+          amount_5 = sym (z.amount_5 refl) i;
+          before = sym (z.before refl) i;
+          after =
+              sym (z.after refl) i;
+          rest = sym z.rest i;
+        };
+        hints = tt;
+      }
+  kinds (suc (suc (suc (suc (suc (suc zero)))))) small small_2 z =
+      record {
+        fields = λ i. record {
+          kind = 6;
+          gap = sym z.gap i;
+          client = client;
+          number = number;
+          account = account;
+          other = sym (z.other refl) i;
+          amount = amount;
+          amount_2 = amount_2;
+          amount_3 = amount_3;
+          amount_4 =
+              sym (z.amount_4 refl) i;
+          amount_5 = sym (z.amount_5 refl) i;
+          before = word_back before i;
+          after =
+              word_back after i;
+          rest = sym z.rest i;
+        };
+        hints = (hint_small before small, hint_small after small_2);
+      }
+  kinds (suc (suc (suc (suc (suc (suc (suc zero))))))) small small_2 z =
+      record {
+        fields = λ i. record {
+          kind = 7;
+          gap = sym z.gap i;
+          client = client;
+          number = number;
+          account = account;
+          other = sym (z.other refl) i;
+          amount = amount;
+          amount_2 = amount_2;
+          amount_3 = amount_3;
+          amount_4 = amount_4;
+          amount_5 = amount_5;
+          before = word_back before i;
+          after = word_back after i;
+          rest = sym z.rest i;
+        };
+        hints = (hint_small before small, hint_small after small_2);
+      }
+  kinds (suc (suc (suc (suc (suc (suc (suc (suc zero)))))))) small small_2 z =
+      record {
+        fields = λ i. record {
+          kind = 8;
+          gap = sym z.gap i;
+          client = client;
+          number = number;
+          account = account;
+          other = sym (z.other refl) i;
+          amount = sym (z.amount refl) i;
+          amount_2 = sym (z.amount_2 refl) i;
+          amount_3 =
+              sym (z.amount_3 refl) i;
+          amount_4 = sym (z.amount_4 refl) i;
+          amount_5 = sym (z.amount_5 refl) i;
+          before =
+              sym (z.before refl) i;
+          after = sym (z.after refl) i;
+          rest = sym z.rest i;
+        };
+        hints = tt;
+      }
+  kinds (suc (suc (suc (suc (suc (suc (suc (suc (suc zero))))))))) small small_2 z =
+      record {
+        fields = λ i. record {
+          kind = 9;
+          gap = sym z.gap i;
+          client = client;
+          number = number;
+          account = account;
+          other = sym (z.other refl) i;
+          amount = amount;
+          amount_2 = sym (z.amount_2 refl) i;
+          amount_3 =
+              sym (z.amount_3 refl) i;
+          amount_4 = sym (z.amount_4 refl) i;
+          amount_5 = sym (z.amount_5 refl) i;
+          before =
+              sym (z.before refl) i;
+          after = sym (z.after refl) i;
+          rest = sym z.rest i;
+        };
+        hints = tt;
+      }
+  kinds (suc (suc (suc (suc (suc (suc (suc (suc (suc (suc zero)))))))))) small small_2 z =
+      record {
+        fields = λ i. record {
+          kind = 10;
+          gap = sym z.gap i;
+          client = client;
+          number = number;
+          account = account;
+          other = sym (z.other refl) i;
+          amount = amount;
+          amount_2 = sym (z.amount_2 refl) i;
+          amount_3 =
+              sym (z.amount_3 refl) i;
+          amount_4 = sym (z.amount_4 refl) i;
+          amount_5 = sym (z.amount_5 refl) i;
+          before =
+              sym (z.before refl) i;
+          after = sym (z.after refl) i;
+          rest = sym z.rest i;
+        };
+        hints = tt;
+      }
+  kinds (suc (suc (suc (suc (suc (suc (suc (suc (suc (suc (suc zero))))))))))) small small_2 z =
+      record {
+        fields = λ i. record {
+          kind = 11;
+          gap = sym z.gap i;
+          client = client;
+          number = number;
+          account = account;
+          other = sym (z.other refl) i;
+          amount = sym (z.amount refl) i;
+          amount_2 = sym (z.amount_2 refl) i;
+          amount_3 =
+              sym (z.amount_3 refl) i;
+          amount_4 = sym (z.amount_4 refl) i;
+          amount_5 = sym (z.amount_5 refl) i;
+          before =
+              word_back before i;
+          after = word_back after i;
+          rest = sym z.rest i;
+        };
+        hints = (
+          hint_small before small,
+          hint_small after small_2,
+        );
+      }
+  kinds (suc (suc (suc (suc (suc (suc (suc (suc (suc (suc (suc (suc zero)))))))))))) small small_2 z =
+      record {
+        fields = λ i. record {
+          kind = 12;
+          gap = sym z.gap i;
+          client = client;
+          number = number;
+          account = account;
+          other = other;
+          amount = sym (z.amount refl) i;
+          amount_2 = sym (z.amount_2 refl) i;
+          amount_3 =
+              sym (z.amount_3 refl) i;
+          amount_4 = sym (z.amount_4 refl) i;
+          amount_5 = sym (z.amount_5 refl) i;
+          before =
+              sym (z.before refl) i;
+          after = sym (z.after refl) i;
+          rest = sym z.rest i;
+        };
+        hints = tt;
+      }
+  kinds (suc (suc (suc (suc (suc (suc (suc (suc (suc (suc (suc (suc (suc zero))))))))))))) small small_2 z =
+      record {
+        fields = λ i. record {
+          kind = 13;
+          gap = sym z.gap i;
+          client = client;
+          number = number;
+          account = account;
+          other = sym (z.other refl) i;
+          amount = amount;
+          amount_2 = sym (z.amount_2 refl) i;
+          amount_3 =
+              sym (z.amount_3 refl) i;
+          amount_4 = sym (z.amount_4 refl) i;
+          amount_5 = sym (z.amount_5 refl) i;
+          before =
+              sym (z.before refl) i;
+          after = sym (z.after refl) i;
+          rest = sym z.rest i;
+        };
+        hints = tt;
+      }
+  kinds (suc (suc (suc (suc (suc (suc (suc (suc (suc (suc (suc (suc (suc (suc zero)))))))))))))) small small_2 z =
+      record {
+        fields = λ i. record {
+          kind = 14;
+          gap = sym z.gap i;
+          client = client;
+          number = number;
+          account = account;
+          other = sym (z.other refl) i;
+          amount = amount;
+          amount_2 = amount_2;
+          amount_3 = sym (z.amount_3 refl) i;
+          amount_4 =
+              sym (z.amount_4 refl) i;
+          amount_5 = sym (z.amount_5 refl) i;
+          before = word_back before i;
+          after =
+              word_back after i;
+          rest = sym z.rest i;
+        };
+        hints = (hint_small before small, hint_small after small_2);
+      }
+  kinds (suc (suc (suc (suc (suc (suc (suc (suc (suc (suc (suc (suc (suc (suc (suc zero))))))))))))))) small small_2 z =
+      record {
+        fields = λ i. record {
+          kind = 15;
+          gap = sym z.gap i;
+          client = client;
+          number = number;
+          account = account;
+          other = sym (z.other refl) i;
+          amount = sym (z.amount refl) i;
+          amount_2 = sym (z.amount_2 refl) i;
+          amount_3 =
+              sym (z.amount_3 refl) i;
+          amount_4 = sym (z.amount_4 refl) i;
+          amount_5 = sym (z.amount_5 refl) i;
+          before =
+              sym (z.before refl) i;
+          after = sym (z.after refl) i;
+          rest = sym z.rest i;
+        };
+        hints = tt;
+      }
+  kinds (suc (suc (suc (suc (suc (suc (suc (suc (suc (suc (suc (suc (suc (suc (suc (suc zero)))))))))))))))) small
+      small_2 z = record {
+        fields = λ i. record {
+          kind = 16;
+          gap = sym z.gap i;
+          client = client;
+          number = number;
+          account = sym (z.account refl) i;
+          other = sym (z.other refl) i;
+          amount = sym (z.amount refl) i;
+          amount_2 =
+              sym (z.amount_2 refl) i;
+          amount_3 = sym (z.amount_3 refl) i;
+          amount_4 = sym (z.amount_4 refl) i;
+          amount_5 =
+              sym (z.amount_5 refl) i;
+          before = sym (z.before refl) i;
+          after = sym (z.after refl) i;
+          rest = sym z.rest i;
+        };
+        hints = tt;
+      }
+  kinds (suc (suc (suc (suc (suc (suc (suc (suc (suc (suc (suc (suc (suc (suc (suc (suc (suc kind))))))))))))))))) small
+      small_2 z = let low =
+      at_most (suc (suc (suc (suc (suc (suc (suc (suc (suc (suc (suc (suc (suc (suc (suc (suc (suc kind)))))))))))))))))
+      z.kind in absurd (omega arith)
 
 -- The fields that fit a command are its fields.
-pub read_back : (f : Fields) → f.before < 4294967296 → f.after < 4294967296 → misfit f ≡ None → (fields_of (command_in f) ≡ f) × HasHints (call_in f)
+pub read_back : (f : Fields) → f.before < 4294967296 → f.after < 4294967296 → misfit f ≡ None
+    → (fields_of (command_in f) ≡ f) × HasHints (call_in f)
 read_back f small small_2 is =
-    let back = kinds f.gap f.client f.number f.account f.other f.amount f.amount_2 f.amount_3 f.amount_4 f.amount_5 f.before f.after f.rest f.kind small small_2 (fits f is) in
+    let back = kinds f.gap f.client f.number f.account f.other f.amount f.amount_2 f.amount_3 f.amount_4 f.amount_5
+    f.before f.after f.rest f.kind small small_2 (fits f is) in
     (back.fields, back.hints)
 
 -- A command's fields fit one.
-pub no_misfit : (client number : ℕ) (call : Call) → misfit (fields_of (record { client = client; number = number; call = call })) ≡ None
+pub no_misfit : (client number : ℕ) (call : Call)
+    → misfit (fields_of (record { client = client; number = number; call = call })) ≡ None
 unfolding misfit
 no_misfit client number (Price price) = refl
 no_misfit client number (Advance minutes) = refl
@@ -131,33 +488,65 @@ no_misfit client number (Redeem account lusd bound hints) = refl
 no_misfit client number (Claim account) = refl
 no_misfit client number Rotate = refl
 
-hinted_back : (client number : ℕ) (hints : HintWords) (call : HintWords → Call) → AreHints hints → ◌≡◌ {A = Command} (record { client = client; number = number; call = call (hints_of (hint_word hints.prev) (hint_word hints.next)) }) (record { client = client; number = number; call = call hints })
+hinted_back : (client number : ℕ) (hints : HintWords) (call : HintWords → Call) → AreHints hints
+    → ◌≡◌ {A = Command} (record {
+      client = client;
+      number = number;
+      call = call (hints_of (hint_word hints.prev) (hint_word hints.next));
+    }) (record {
+      client = client;
+      number =
+          number;
+      call = call hints;
+    })
 hinted_back client number hints call are =
-    ap (λ (p : Option ℕ). record { client = client; number = number; call = call (record { prev = p; next = hint_of (hint_word hints.next) }) }) (hint_back hints.prev are.0)
-    ∙ ap (λ (n : Option ℕ). record { client = client; number = number; call = call (record { prev = hints.prev; next = n }) }) (hint_back hints.next are.1)
+    ap (λ (p : Option ℕ). record {
+      client = client;
+      number = number;
+      call = call (record { prev = p; next = hint_of (hint_word hints.next) });
+    }) (hint_back hints.prev are.0)
+    ∙ ap (λ (n : Option ℕ). record {
+      client = client;
+      number = number;
+      call = call (record { prev = hints.prev; next = n });
+    }) (hint_back hints.next are.1)
 
 -- It is that command.
-pub written_back : (client number : ℕ) (call : Call) → HasHints call → command_in (fields_of (record { client = client; number = number; call = call })) ≡ record { client = client; number = number; call = call }
+pub written_back : (client number : ℕ) (call : Call) → HasHints call
+    → command_in (fields_of (record { client = client; number = number; call = call })) ≡ record {
+      client = client;
+      number = number;
+      call = call;
+    }
 unfolding command_in
 written_back client number (Price price) has = refl
 written_back client number (Advance minutes) has = refl
 written_back client number (Fund account coll) has = refl
 written_back client number (Take account coll) has = refl
 written_back client number (Send from to lusd) has = refl
-written_back client number (Open account coll borrow bound hints) has = hinted_back client number hints (λ (h : HintWords). Open account coll borrow bound h) has
-written_back client number (Adjust account coll_in coll_out borrow repay bound hints) has = hinted_back client number hints (λ (h : HintWords). Adjust account coll_in coll_out borrow repay bound h) has
+written_back client number (Open account coll borrow bound hints) has =
+    hinted_back client number hints (λ (h : HintWords). Open account coll borrow bound h) has
+written_back client number (Adjust account coll_in coll_out borrow repay bound hints) has =
+    hinted_back client number hints (λ (h : HintWords). Adjust account coll_in coll_out borrow repay bound h) has
 written_back client number (Close account) has = refl
 written_back client number (Provide account lusd) has = refl
 written_back client number (Withdraw account lusd) has = refl
-written_back client number (GainToTrove account hints) has = hinted_back client number hints (λ (h : HintWords). GainToTrove account h) has
+written_back client number (GainToTrove account hints) has =
+    hinted_back client number hints (λ (h : HintWords). GainToTrove account h) has
 written_back client number (Liquidate liquidator owner) has = refl
 written_back client number (LiquidateLowest liquidator count) has = refl
-written_back client number (Redeem account lusd bound hints) has = hinted_back client number hints (λ (h : HintWords). Redeem account lusd bound h) has
+written_back client number (Redeem account lusd bound hints) has =
+    hinted_back client number hints (λ (h : HintWords). Redeem account lusd bound h) has
 written_back client number (Claim account) has = refl
 written_back client number Rotate has = refl
 
 -- any command is read back so
-pub heard_back : (client number : ℕ) (call : Call) → command_in (fields_of (record { client = client; number = number; call = call })) ≡ record { client = client; number = number; call = heard call }
+pub heard_back : (client number : ℕ) (call : Call)
+    → command_in (fields_of (record { client = client; number = number; call = call })) ≡ record {
+      client = client;
+      number = number;
+      call = heard call;
+    }
 unfolding command_in
 heard_back client number (Price price) = refl
 heard_back client number (Advance minutes) = refl
@@ -183,7 +572,8 @@ of_spelled bytes c spells has = ap command_in spells.fields ∙ written_back c.c
 pub fits_spelled : (bytes : List ℕ) (c : Command) → Spells96 bytes c → misfit (fields_at bytes) ≡ None
 fits_spelled bytes c spells = ap misfit spells.fields ∙ no_misfit c.client c.number c.call
 
-pub command_is : (bytes : List ℕ) → misfit (fields_at bytes) ≡ None → command_of bytes ≡ Ok (command_in (fields_at bytes))
+pub command_is : (bytes : List ℕ) → misfit (fields_at bytes) ≡ None
+    → command_of bytes ≡ Ok (command_in (fields_at bytes))
 unfolding command_of
 command_is bytes fits = ap (λ (o : Option ℕ). command_or o (command_in (fields_at bytes))) fits
 

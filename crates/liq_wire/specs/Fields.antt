@@ -88,16 +88,36 @@ call_fields c (Advance minutes) = record (bare 2 c) { amount = minutes }
 call_fields c (Fund account coll) = record (bare 3 c) { account = account; amount = coll }
 call_fields c (Take account coll) = record (bare 4 c) { account = account; amount = coll }
 call_fields c (Send from to lusd) = record (bare 5 c) { account = from; other = to; amount = lusd }
-call_fields c (Open account coll borrow bound hints) = hinted hints (record (bare 6 c) { account = account; amount = coll; amount_2 = borrow; amount_3 = bound })
+call_fields c (Open account coll borrow bound hints) =
+    hinted hints (record (bare 6 c) {
+      account = account;
+      amount = coll;
+      amount_2 = borrow;
+      amount_3 = bound;
+    })
 call_fields c (Adjust account coll_in coll_out borrow repay bound hints) =
-    hinted hints (record (bare 7 c) { account = account; amount = coll_in; amount_2 = coll_out; amount_3 = borrow; amount_4 = repay; amount_5 = bound })
+    hinted hints (record (bare 7 c) {
+      account = account;
+      amount = coll_in;
+      amount_2 = coll_out;
+      amount_3 = borrow;
+      amount_4 = repay;
+      amount_5 = bound;
+    })
 call_fields c (Close account) = record (bare 8 c) { account = account }
 call_fields c (Provide account lusd) = record (bare 9 c) { account = account; amount = lusd }
 call_fields c (Withdraw account lusd) = record (bare 10 c) { account = account; amount = lusd }
 call_fields c (GainToTrove account hints) = hinted hints (record (bare 11 c) { account = account })
-call_fields c (Liquidate liquidator owner) = record (bare 12 c) { account = liquidator; other = owner }
-call_fields c (LiquidateLowest liquidator count) = record (bare 13 c) { account = liquidator; amount = count }
-call_fields c (Redeem account lusd bound hints) = hinted hints (record (bare 14 c) { account = account; amount = lusd; amount_2 = bound })
+call_fields c (Liquidate liquidator owner) = record (bare 12 c) {
+  account = liquidator;
+  other = owner;
+}
+call_fields c (LiquidateLowest liquidator count) = record (bare 13 c) {
+  account = liquidator;
+  amount = count;
+}
+call_fields c (Redeem account lusd bound hints) =
+    hinted hints (record (bare 14 c) { account = account; amount = lusd; amount_2 = bound })
 call_fields c (Claim account) = record (bare 15 c) { account = account }
 call_fields c Rotate = bare 16 c
 
@@ -127,7 +147,8 @@ heard_hints hints = hints_of (hint_word hints.prev) (hint_word hints.next)
 -- a call as it is read back
 abbrev pub heard : Call → Call
 heard (Open account coll borrow bound hints) = Open account coll borrow bound (heard_hints hints)
-heard (Adjust account coll_in coll_out borrow repay bound hints) = Adjust account coll_in coll_out borrow repay bound (heard_hints hints)
+heard (Adjust account coll_in coll_out borrow repay bound hints) =
+    Adjust account coll_in coll_out borrow repay bound (heard_hints hints)
 heard (GainToTrove account hints) = GainToTrove account (heard_hints hints)
 heard (Redeem account lusd bound hints) = Redeem account lusd bound (heard_hints hints)
 heard call = call
@@ -201,7 +222,8 @@ call_in f =
     else if f.kind == 4 then Take f.account f.amount
     else if f.kind == 5 then Send f.account f.other f.amount
     else if f.kind == 6 then Open f.account f.amount f.amount_2 f.amount_3 hints
-    else if f.kind == 7 then Adjust f.account f.amount f.amount_2 f.amount_3 f.amount_4 f.amount_5 hints
+    else if f.kind == 7 then Adjust f.account f.amount f.amount_2 f.amount_3 f.amount_4
+    f.amount_5 hints
     else if f.kind == 8 then Close f.account
     else if f.kind == 9 then Provide f.account f.amount
     else if f.kind == 10 then Withdraw f.account f.amount

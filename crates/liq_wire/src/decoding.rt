@@ -11,11 +11,12 @@ use crate::fields::Fields;
 use byteorder::{BigEndian, ByteOrder};
 use liq_types::{Call, Command, HintWords};
 
-/// The command that the bytes are. `BadPlace` tells the first field, in the order of the places, that
-/// fits no command: an unknown kind, or a field that is not 0 where the kind has none. The greatest hint
-/// word is read as no hint. Ranges are not tested here.
+/// The command that the bytes are. `BadPlace` tells the first field, in the order of the places,
+/// that fits no command: an unknown kind, or a field that is not 0 where the kind has none. The
+/// greatest hint word is read as no hint. Ranges are not tested here.
 pub fn decode(bytes: &[u8; 96]) -> Result<Command, BadPlace>
-    ensures exact { MatchResult result (λ c. command_of bytes.now ≡ Ok c) (λ e. command_of bytes.now ≡ Err e.place) }
+    ensures exact { MatchResult result (λ c. command_of bytes.now ≡ Ok c) (λ e. command_of bytes.now
+        ≡ Err e.place) }
     ensures found { IfOk result (λ c. Spells96 bytes.now c × HasHints c.call) }
     ensures only { (c : Command) → Spells96 bytes.now c → HasHints c.call → result ≡ Ok c }
     ensures refused { IfErr result (λ _. (c : Command) → Spells96 bytes.now c → ⊥) }
@@ -48,7 +49,8 @@ fn u64_at(bytes: &[u8], at: usize) -> u64
 }
 
 fn read(bytes: &[u8; 96]) -> Fields
-    ensures fields { seen result (take 3 (drop 1 bytes.now)) (drop 72 bytes.now) ≡ fields_at bytes.now }
+    ensures fields { seen result (take 3 (drop 1 bytes.now)) (drop 72 bytes.now)
+        ≡ fields_at bytes.now }
     ensures hints { (result.before < 2 ^ 32) × (result.after < 2 ^ 32) }
 {
     Fields {

@@ -7,8 +7,8 @@ use crate::fields::fields_of;
 use byteorder::{BigEndian, ByteOrder};
 use liq_types::Command;
 
-/// The 96 bytes of a command, which are read back as that command. But a hint that is the greatest word
-/// is written as that word, which is read as no hint.
+/// The 96 bytes of a command, which are read back as that command. But a hint that is the greatest
+/// word is written as that word, which is read as no hint.
 pub fn encode(command: &Command) -> [u8; 96]
     ensures spelled { Spells96 result command.now }
     ensures read { command_of result ≡ Ok (record command.now { call = heard command.now.call }) }

@@ -62,7 +62,10 @@ pub fn fields_of(command: &Command) -> Fields
 
 // The fields with two hints.
 fn hinted(fields: Fields, hints: HintWords) -> Fields
-    ensures { result ≡ record fields { before = hint_word hints.prev; after = hint_word hints.next } }
+    ensures { result ≡ record fields {
+      before = hint_word hints.prev;
+      after = hint_word hints.next;
+    } }
 {
     Fields {
         before: hints.prev.unwrap_or(NO_HINT),

@@ -1,4 +1,5 @@
-//! A command in 96 bytes, which a journal keeps: written and read, both by one definition of its fields.
+//! A command in 96 bytes, which a journal keeps: written and read, both by one definition of its
+//! fields.
 #![tactic(auto)]
 
 mod bad_place;

@@ -10,7 +10,8 @@ one_word [] w one first = absurd (omega (arith, one))
 one_word (v ∷ []) w one first = ap (λ u. u ∷ []) (sym first)
 one_word (v ∷ u ∷ words) w one first = absurd (omega (arith, one))
 
-pub three_words : {X : Type 0} (words : List X) (u v w : X) → length words ≡ 3 → u ≡ get_or words 0 u → v ≡ get_or words 1 v → w ≡ get_or words 2 w → words ≡ u ∷ v ∷ w ∷ []
+pub three_words : {X : Type 0} (words : List X) (u v w : X) → length words ≡ 3 → u ≡ get_or words 0 u
+    → v ≡ get_or words 1 v → w ≡ get_or words 2 w → words ≡ u ∷ v ∷ w ∷ []
 three_words [] u v w three first second third = absurd (omega (arith, three))
 three_words (x ∷ []) u v w three first second third = absurd (omega (arith, three))
 three_words (x ∷ y ∷ []) u v w three first second third = absurd (omega (arith, three))
@@ -18,7 +19,8 @@ three_words (x ∷ y ∷ z ∷ []) u v w three first second third = cc
 three_words (x ∷ y ∷ z ∷ t ∷ words) u v w three first second third = absurd (omega (arith, three))
 
 -- a word that was compared
-pub same_text : (bytes shown wanted : List ℕ) (b : Bool) → shown ≡ bytes → b ≡ bytes_eq shown wanted → IsTrue b → bytes ≡ wanted
+pub same_text : (bytes shown wanted : List ℕ) (b : Bool) → shown ≡ bytes → b ≡ bytes_eq shown wanted → IsTrue b
+    → bytes ≡ wanted
 same_text bytes shown wanted b is eq holds = sym is ∙ (bytes_eq-Decides shown wanted).0 (sym eq ∙ holds)
 
 -- what holds of the value in a `Some`

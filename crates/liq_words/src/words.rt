@@ -19,7 +19,8 @@ pub enum Word {
     Serve,
     /// Answer the stakers of the input, who share the fees of the commands on the disks.
     Staking,
-    /// Tell the rewards of the depositors on the disks, and what the front ends of the input are given of them.
+    /// Tell the rewards of the depositors on the disks, and what the front ends of the input are
+    /// given of them.
     Rewards,
     /// Tell what stands.
     State,
@@ -33,10 +34,13 @@ pub enum Word {
     Gen { seed: u64, count: u64 },
 }
 
-/// Whether the words ask for something that uses the disks, which is all but `follow` and `gen`. It takes no memory.
+/// Whether the words ask for something that uses the disks, which is all but `follow` and `gen`. It
+/// takes no memory.
 pub fn takes_disks(words: &[String]) -> bool
-    ensures asks { IsTrue result → (word : Word) × Ask (map string_bytes words.now) word × UsesDisks word }
-    ensures all { (word : Word) → Ask (map string_bytes words.now) word → UsesDisks word → IsTrue result }
+    ensures asks { IsTrue result → (word : Word) × Ask (map string_bytes words.now) word
+        × UsesDisks word }
+    ensures all { (word : Word) → Ask (map string_bytes words.now) word → UsesDisks word
+        → IsTrue result }
 {
     matches!(words, [word] if uses_disks(word))
 }
@@ -86,7 +90,8 @@ pub fn alone(name: &str) -> Option<Word>
 /// The word `gen` with its two numbers, where they are numbers in their ranges.
 pub fn gen_of(seed: &str, count: &str) -> Option<Word>
     ensures word { IfSome result (Ask (codes "gen" ∷ seed.now ∷ count.now ∷ [])) }
-    ensures only { (word : Word) → Ask (codes "gen" ∷ seed.now ∷ count.now ∷ []) word → result ≡ Some word }
+    ensures only { (word : Word) → Ask (codes "gen" ∷ seed.now ∷ count.now ∷ []) word
+        → result ≡ Some word }
 {
     let seed = read_number(seed.as_bytes())?;
     let count = read_number(count.as_bytes())?;

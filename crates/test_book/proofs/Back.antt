@@ -9,8 +9,11 @@ use Rattle.liq_sessions.specs.declared.done.SessionDone.{SessionDone}
 use Rattle.liq_sessions.specs.declared.done.Work.{Work}
 use Rattle.liq_sessions.specs.Sessions.{HasRun}
 
-pub seats_belong : {K H S : Type 0} (Belongs : S → Type 0) (number_of : S → ℕ) (own_of : S → List (Request × Reply)) (KnowsEnd : S → Type 0) (faulted_of : S → Option Request) (works : List (Work K H S)) (done : List (SessionDone K H S))
-    → AllZip (HasRun Belongs number_of own_of KnowsEnd faulted_of) works done → All Belongs (map (λ (d : SessionDone K H S). d.seat) done)
+pub seats_belong : {K H S : Type 0} (Belongs : S → Type 0) (number_of : S → ℕ) (own_of : S
+    → List (Request × Reply)) (KnowsEnd : S → Type 0) (faulted_of : S → Option Request) (works : List (Work K H S))
+    (done : List (SessionDone K H S))
+    → AllZip (HasRun Belongs number_of own_of KnowsEnd faulted_of) works done
+    → All Belongs (map (λ (d : SessionDone K H S). d.seat) done)
 seats_belong belongs number own knows faulted [] [] ran = λ k d within. absurd (omega (arith, within))
 seats_belong belongs number own knows faulted [] (d ∷ done) ran = absurd ran
 seats_belong belongs number own knows faulted (w ∷ works) [] ran = absurd ran

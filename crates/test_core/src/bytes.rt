@@ -5,7 +5,8 @@ use std::alloc::{AllocError, Global};
 /// An image, with a number a field in the order of a checkpoint. A line of a table is a row.
 #[derive(Clone, Copy)]
 pub struct Told {
-    /// Clock, generation and the collateral inside; the pools; the sums of all troves; the Stability Pool.
+    /// Clock, generation and the collateral inside; the pools; the sums of all troves; the
+    /// Stability Pool.
     pub words: [&'static str; 4],
     /// Wallets, troves, surplus, finished sums, deposits and clients.
     pub tables: [&'static str; 6],

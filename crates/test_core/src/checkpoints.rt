@@ -1,5 +1,6 @@
-//! One checkpoint with rows in each table is written and read, cut at each byte, has each byte turned, and its fields and counts
-//! overwritten. The places that are told come from outside: scripts/checkpoint-places writes `tables.rt`.
+//! One checkpoint with rows in each table is written and read, cut at each byte, has each byte
+//! turned, and its fields and counts overwritten. The places that are told come from outside:
+//! scripts/checkpoint-places writes `tables.rt`.
 
 use crate::checks::{NOWHERE, same};
 use crate::tables::{FIELDS, LENGTH, TURNED, WRITTEN};
@@ -89,8 +90,8 @@ fn first_odd_number(alloc: Global, bytes: &[u8]) -> Result<u64, AllocError> {
     Ok(NOWHERE)
 }
 
-// What tells an image from others: its limit, a word, the last row's last number, and how many bytes its checkpoint has that
-// differ.
+// What tells an image from others: its limit, a word, the last row's last number, and how many
+// bytes its checkpoint has that differ.
 fn seen_of(alloc: Global, bytes: &[u8]) -> Result<[u64; 4], NoMemory> {
     let image = match decode(alloc, bytes) {
         Ok(image) => image,

@@ -1,5 +1,5 @@
-//! Images that break one rule after the other, on both sides of each bound, with answers that were worked out by hand from the
-//! rules.
+//! Images that break one rule after the other, on both sides of each bound, with answers that were
+//! worked out by hand from the rules.
 
 mod parts;
 mod rules;

@@ -20,9 +20,11 @@ pub struct Run {
     pub client: &'static str,
     /// The bytes of its checkpoint.
     pub length: u64,
-    /// What comes of the checkpoint: an image amid a generation may break the rule on the Stability Pool's epoch.
+    /// What comes of the checkpoint: an image amid a generation may break the rule on the Stability
+    /// Pool's epoch.
     pub begins: Outcome,
-    /// The client's row behind a rotation. Nothing else changes then but the generation, which is 2.
+    /// The client's row behind a rotation. Nothing else changes then but the generation, which is
+    /// 2.
     pub rotated: &'static str,
 }
 
@@ -47,7 +49,8 @@ const MOSTLY_OFFSET: &[Call] = &[
     Call::Liquidate(3, 1),
 ];
 
-/// The Stability Pool has all that the lower of two troves owes, at a price at which only a part of its collateral is offset.
+/// The Stability Pool has all that the lower of two troves owes, at a price at which only a part of
+/// its collateral is offset.
 const COVERED: &[Call] = &[
     Call::Fund(1, 8_440_000_000),
     Call::Fund(2, 12_660_000_000),
@@ -77,7 +80,8 @@ const CAPPED: Told = Told {
     ],
 };
 
-/// All runs. The steps of a function that names the table itself are proved with all that it holds, so no other names it.
+/// All runs. The steps of a function that names the table itself are proved with all that it holds,
+/// so no other names it.
 pub fn all_runs() -> &'static [Run] {
     &RUNS
 }

@@ -97,7 +97,8 @@ pub const FIELDS: [(u64, u128); 89] = [
     (8, 7),
 ];
 
-/// Where a byte below this place, and below none that stands here before, has all of its bits turned: the place that is told.
+/// Where a byte below this place, and below none that stands here before, has all of its bits
+/// turned: the place that is told.
 pub const TURNED: [(u64, u64); 25] = [
     (8, 0),
     (240, NOWHERE),

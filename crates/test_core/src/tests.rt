@@ -42,8 +42,8 @@ fn numbered(number: u64, call: Call) -> Command
     }
 }
 
-// Calls of client 1, each under the number behind the last that was accepted, of which the first is given. Answers the
-// number that comes next.
+// Calls of client 1, each under the number behind the last that was accepted, of which the first is
+// given. Answers the number that comes next.
 fn make_calls<L: Ledger>(
     protocol: &mut Protocol,
     first: u64,
@@ -174,7 +174,8 @@ fn a_run_leaves_its_image(rt: HostRuntime) {
 // The row of the client that begins the second generation.
 const ROTATED: &str = "2 1 16 2 0 0 0 0 0";
 
-// What comes of the image that a run leaves in the second generation, and of the protocol that begins with it.
+// What comes of the image that a run leaves in the second generation, and of the protocol that
+// begins with it.
 fn see_second<L: Ledger>(alloc: Global, run: &Run, blank: Blank) -> Option<(Outcome, Outcome)>
     requires name { blank.name ≡ L.name }
     requires parts { blank.parts ≡ L.parts }
@@ -206,7 +207,8 @@ fn check_second<R: Abort>(rt: &R, what: &str, left: Outcome, begins: Outcome) {
     shows(rt, what, "what begins with it", begins == Outcome::Same);
 }
 
-// In a later generation the image of each run is one with which a protocol begins, also amid the generation.
+// In a later generation the image of each run is one with which a protocol begins, also amid the
+// generation.
 #[test]
 fn a_run_of_the_second_generation_begins_again(rt: HostRuntime) {
     for wanted in all_runs() {

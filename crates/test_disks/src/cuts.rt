@@ -1,4 +1,5 @@
-//! A journal of three records, of either version, that is cut at each byte, and one whose bytes are changed.
+//! A journal of three records, of either version, that is cut at each byte, and one whose bytes are
+//! changed.
 
 use crate::checks::{NOWHERE, shows};
 use crate::disks::{as_version_1, byte_at, changed};
@@ -26,7 +27,8 @@ fn cut_at(header: u64, at: u64) -> Found {
     }
 }
 
-// What is found where the last bit of the byte at a place is another, behind a header of so many bytes.
+// What is found where the last bit of the byte at a place is another, behind a header of so many
+// bytes.
 fn changed_at(header: u64, at: u64) -> Found {
     if at < header {
         of_header(header, at, 1)
@@ -65,7 +67,8 @@ fn first_odd_change(alloc: Global, bytes: &[u8], header: u64) -> Result<u64, All
     Ok(NOWHERE)
 }
 
-// How many bytes there are and how many records are found in them, and the first odd cut, change and row.
+// How many bytes there are and how many records are found in them, and the first odd cut, change
+// and row.
 fn see(
     alloc: Global,
     bytes: &[u8],
@@ -111,8 +114,9 @@ fn records(found: Found) -> u64 {
     }
 }
 
-// A place, the byte there, and what is found: gates; generation 2 on the left disk; a name, a length and a limit that are
-// none; and the other version's name, by which the digest is sought where it doesn't stand.
+// A place, the byte there, and what is found: gates; generation 2 on the left disk; a name, a
+// length and a limit that are none; and the other version's name, by which the digest is sought
+// where it doesn't stand.
 const GATES_AND_FIELDS: [(u64, u8, Found); 8] = [
     (323, 0, Found::Records(2)),
     (323, 1, Found::Records(3)),

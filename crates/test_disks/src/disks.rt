@@ -22,8 +22,8 @@ pub fn byte_at(bytes: &[u8], at: u64) -> u8 {
     bytes.get(at as usize).copied().unwrap_or(0)
 }
 
-/// The bytes of a journal with two records, worked out apart from the program: the header, each record behind its gate,
-/// and the gate of a third one.
+/// The bytes of a journal with two records, worked out apart from the program: the header, each
+/// record behind its gate, and the gate of a third one.
 pub const TWO_RECORDS: &[u8] = b"\x01LIQJRNL2\0\0\0\0\0\0\0\x01\0\0\0\0\0\0\0\0\
       \x8a\xc7\x23\x04\x89\xe8\0\0\
       \x3c\x06\x68\x8a\x69\x3b\xa1\x79\xd1\x34\x1d\xa5\xad\x38\x32\xe9\
@@ -45,8 +45,8 @@ const HEADER_OF_VERSION_1: &[u8] = b"\x01LIQJRNL1\0\0\0\0\0\0\0\x01\0\0\0\0\0\0\
       \x1e\x21\x68\x3a\xde\x65\xf0\x99\x4c\xe3\xed\xe2\x8e\x20\xfd\xeb\
       \x10\x04\xa3\xa7\x94\xb0\x9d\xbb\x5b\x7b\xaf\x9a\x10\xae\x40\x28";
 
-/// The bytes of a first generation with the same records as this one of version 2, but of version 1: its header has no
-/// limit, and no record's bytes rest on the version.
+/// The bytes of a first generation with the same records as this one of version 2, but of version
+/// 1: its header has no limit, and no record's bytes rest on the version.
 pub fn as_version_1(alloc: Global, bytes: &[u8]) -> Result<Vec<u8>, AllocError> {
     let mut older = HEADER_OF_VERSION_1.to_vec(alloc)?;
     older.extend_from_slice(bytes.get(65..).unwrap_or(&[]))?;

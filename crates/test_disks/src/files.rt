@@ -45,7 +45,8 @@ fn begins(expected: &[u8], bytes: &[u8], count: usize) -> bool {
     }
 }
 
-// What is read of a disk: what its journal is; and the disk's length, how many bytes of two records, and its faults.
+// What is read of a disk: what its journal is; and the disk's length, how many bytes of two
+// records, and its faults.
 #[derive(Clone, Copy)]
 struct Read {
     found: Found,
@@ -93,12 +94,14 @@ fn no_file_fails_at_every_call(rt: HostRuntime) {
     shows(&rt, "each call fails without a file", is_told);
 }
 
-// What is seen of a disk over a device: whether the word is written and synced, how many bytes of it are read, and the faults.
+// What is seen of a disk over a device: whether the word is written and synced, how many bytes of
+// it are read, and the faults.
 type Tried = (bool, bool, u64, u64);
 
 const WORD: &[u8] = b"liquidation";
 
-// Of a word that is written, synced and read, with the most that one call of the device takes and the number of the call that fails.
+// Of a word that is written, synced and read, with the most that one call of the device takes and
+// the number of the call that fails.
 fn try_word(alloc: Global, chunk: u8, failing: u64) -> Result<Tried, AllocError> {
     let chunk = usize::from(chunk).max(1);
     let device = MemoryDevice::new(alloc, chunk, [failing].to_vec(alloc)?);
@@ -112,8 +115,8 @@ fn try_on(mut disk: DeviceDisk<MemoryDevice>) -> Tried {
     (written, synced, read, disk.faults())
 }
 
-// The most that one call takes, the call that fails, and what is seen. By threes the word is four writes, a sync,
-// and four reads with a fifth at the end.
+// The most that one call takes, the call that fails, and what is seen. By threes the word is four
+// writes, a sync, and four reads with a fifth at the end.
 const TRIALS: [(u8, u64, Tried); 6] = [
     (20, NOWHERE, (true, true, 11, 0)),
     (1, NOWHERE, (true, true, 11, 0)),
@@ -152,7 +155,8 @@ fn devices_fail(rt: HostRuntime) -> Result<(), Fail> {
     Ok(())
 }
 
-// A read that fails is no end of the disk, and a folder that was opened to be read can't be written.
+// A read that fails is no end of the disk, and a folder that was opened to be read can't be
+// written.
 #[test]
 fn a_folder_fails(rt: HostRuntime) -> Result<(), Fail> {
     let folder = FileDisk::new(Some(File::open(&rt, ".")?));

@@ -17,9 +17,9 @@ pub enum Found {
     NoMemory,
 }
 
-/// What is found where this bit of the byte at a place of a first generation's header is another, which has so many
-/// bytes. An even generation is of the other disk; behind any other odd one a checkpoint is missing. Version 2 has the limit
-/// in front of the digest.
+/// What is found where this bit of the byte at a place of a first generation's header is another,
+/// which has so many bytes. An even generation is of the other disk; behind any other odd one a
+/// checkpoint is missing. Version 2 has the limit in front of the digest.
 pub fn of_header(header: u64, at: u64, bit: u8) -> Found {
     match at {
         0 => Found::Absent,

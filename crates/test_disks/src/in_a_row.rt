@@ -14,8 +14,8 @@ use liq_types::Command;
 use liq_wire::encode;
 use std::test::Fail;
 
-// A new journal with two records, or the disk that failed. Where the disk tells its content, it is then
-// the journal of the two commands.
+// A new journal with two records, or the disk that failed. Where the disk tells its content, it is
+// then the journal of the two commands.
 fn two_records<D: Disk>(disk: D, first: &Command, second: &Command) -> Result<Journal<D>, D>
     requires hints { HasHints first.now.call × HasHints second.now.call }
     requires no_rotation { (is_rotate first.now.call ≡ false)

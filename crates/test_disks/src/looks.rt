@@ -29,7 +29,8 @@ fn look_at(alloc: Global, bytes: &[u8], odd: bool, failing: u64) -> Result<Found
 
 const OPEN: Found = Found::Records(0);
 
-// How many of the bytes there are, and what is found: a header of version 1 has 57, and one of version 2 has 65.
+// How many of the bytes there are, and what is found: a header of version 1 has 57, and one of
+// version 2 has 65.
 const LENGTHS: [(u64, Found); 7] = [
     (324, OPEN),
     (0, Found::Absent),
@@ -107,7 +108,8 @@ fn a_look_at_changed_bytes(rt: HostRuntime) -> Result<(), Fail> {
     Ok(())
 }
 
-// What comes of reading the body of a record: its own number where it has these bytes, and 0 where it has others.
+// What comes of reading the body of a record: its own number where it has these bytes, and 0 where
+// it has others.
 fn read_body<D: Disk>(journal: &mut Journal<D>, index: u64, bytes: &[u8]) -> Found {
     if index < 1 || index > journal.records() {
         return Found::Absent;
@@ -162,8 +164,9 @@ fn see_bodies(alloc: Global, disk: MemoryDisk) -> Seen {
     }
 }
 
-// An opening makes six device calls where two records stand: a sync, the header, the length, both records at once,
-// what stands behind them, and the gate. A body is one more. Here the seventh call fails.
+// An opening makes six device calls where two records stand: a sync, the header, the length, both
+// records at once, what stands behind them, and the gate. A body is one more. Here the seventh call
+// fails.
 #[test]
 fn bodies_are_read_back(rt: HostRuntime) -> Result<(), Fail> {
     let seen = see_bodies(rt.alloc(), disk(rt.alloc(), TWO_RECORDS, &[6])?);
@@ -222,7 +225,8 @@ fn a_body_that_is_no_command(rt: HostRuntime) -> Result<(), Fail> {
     Ok(())
 }
 
-// What comes of reading a body once the file has another byte at a place, which is written from outside.
+// What comes of reading a body once the file has another byte at a place, which is written from
+// outside.
 fn read_behind(
     journal: &mut Journal<FileDisk>,
     other: &mut FileDisk,
@@ -236,8 +240,8 @@ fn read_behind(
     }
 }
 
-// The bodies of two records, while the file is changed from outside: the first one's number, a gate that was shut
-// since, which takes nothing back, and the last byte of the second one's digest.
+// The bodies of two records, while the file is changed from outside: the first one's number, a gate
+// that was shut since, which takes nothing back, and the last byte of the second one's digest.
 fn bodies_behind_changes(journal: &mut Journal<FileDisk>, other: &mut FileDisk) -> Seen {
     let found = [
         read_body(journal, 1, &encode(&fund(1))),

@@ -37,7 +37,8 @@ fn torn_over(mut disk: MemoryDisk, synced: bool, choice: u64) -> (bool, bool) {
     }
 }
 
-// Whether a crash of this choice keeps all only by choice 0, and nothing by choice 1; and keeps what is synced.
+// Whether a crash of this choice keeps all only by choice 0, and nothing by choice 1; and keeps
+// what is synced.
 fn tears(alloc: Global, choice: u64) -> Result<bool, AllocError> {
     let (is_old, is_new) = torn_over(disk(alloc, &OLD, &[])?, false, choice);
     let (_, is_kept) = torn_over(disk(alloc, &OLD, &[])?, true, choice);

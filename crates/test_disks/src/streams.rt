@@ -54,7 +54,8 @@ fn write_each<K: Sink>(sink: &mut K, pieces: &[&[u8]]) -> u64 {
     failed
 }
 
-// What is seen of a source: whether it gives the word, its faults, how much is left, and whether it then gives nothing.
+// What is seen of a source: whether it gives the word, its faults, how much is left, and whether it
+// then gives nothing.
 type Taken = (bool, u64, u64, bool);
 
 fn take_from_memory(

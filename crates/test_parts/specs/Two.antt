@@ -6,9 +6,26 @@ use Rattle.liq_types.specs.Tables.{Table}
 use Rattle.liq_troves.specs.declared.sums.Sums.{Sums}
 
 abbrev pub two_rows : Table Trove
-two_rows =
-    (1, record { coll = 8440000000; debt = 4220000000; stake = 8440000000; mark_coll = 0; mark_debt = 0 })
-    ∷ (2, record { coll = 12660000000; debt = 4220000000; stake = 12660000000; mark_coll = 0; mark_debt = 0 })
+two_rows = (
+  1,
+  record {
+    coll = 8440000000;
+    debt = 4220000000;
+    stake = 8440000000;
+    mark_coll = 0;
+    mark_debt = 0;
+  },
+)
+    ∷ (
+      2,
+      record {
+        coll = 12660000000;
+        debt = 4220000000;
+        stake = 12660000000;
+        mark_coll = 0;
+        mark_debt = 0;
+      },
+    )
     ∷ []
 
 abbrev pub two_sums : Sums

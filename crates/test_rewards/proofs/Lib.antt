@@ -1,2 +1,2 @@
-pub mod Lists
-pub mod Begun
+mod Lists
+mod Begun

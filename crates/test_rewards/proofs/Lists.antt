@@ -19,7 +19,27 @@ shared_3 = timed 3 (Offset 1000000000 700000000 3000000000 0) ∷ shared_2
 
 shared_lawful : IsLawful opening (events_of shared_3)
 unfolding least_from
-shared_lawful = (record { total = omega arith; coll = omega arith }, record { gain_is = refl; paid_is = omega arith; amount_is = refl }, (record { total = omega arith; coll = omega arith }, record { gain_is = refl; paid_is = omega arith; amount_is = refl }, (record { total = omega arith; coll = omega arith }, record { some = omega arith; within = omega arith; total_is = refl; coll_is = omega arith; rise_is = refl }, record { total = omega arith; coll = omega arith })))
+shared_lawful = (
+  record { total = omega arith; coll = omega arith },
+  record {
+    gain_is = refl;
+    paid_is = omega arith;
+    amount_is = refl;
+  },
+  (
+    record { total = omega arith; coll = omega arith },
+    record {
+      gain_is = refl;
+      paid_is = omega arith;
+      amount_is = refl;
+    },
+    (
+      record { total = omega arith; coll = omega arith },
+      record { some = omega arith; within = omega arith; total_is = refl; coll_is = omega arith; rise_is = refl },
+      record { total = omega arith; coll = omega arith },
+    ),
+  ),
+)
 
 pub shared_may_3 : MayHappen (timed 3 (Offset 1000000000 700000000 3000000000 0)) shared_2
 shared_may_3 = record { lawful = shared_lawful; few = omega arith }
@@ -47,7 +67,33 @@ ended_3 = timed 3 (Own 2 1000000000 0 0 1000000000) ∷ ended_2
 
 ended_lawful : IsLawful opening (events_of ended_3)
 unfolding least_from
-ended_lawful = (record { total = omega arith; coll = omega arith }, record { gain_is = refl; paid_is = omega arith; amount_is = refl }, (record { total = omega arith; coll = omega arith }, record { some = omega arith; within = omega arith; total_is = refl; coll_is = omega arith; rise_is = refl }, (record { total = omega arith; coll = omega arith }, record { gain_is = refl; paid_is = omega arith; amount_is = refl }, record { total = omega arith; coll = omega arith })))
+ended_lawful = (
+  record { total = omega arith; coll = omega arith },
+  record {
+    gain_is = refl;
+    paid_is = omega arith;
+    amount_is = refl;
+  },
+  (
+    record { total = omega arith; coll = omega arith },
+    record {
+      some = omega arith;
+      within = omega arith;
+      total_is = refl;
+      coll_is = omega arith;
+      rise_is = refl;
+    },
+    (
+      record { total = omega arith; coll = omega arith },
+      record {
+        gain_is = refl;
+        paid_is = omega arith;
+        amount_is = refl;
+      },
+      record { total = omega arith; coll = omega arith },
+    ),
+  ),
+)
 
 pub ended_may_3 : MayHappen (timed 3 (Own 2 1000000000 0 0 1000000000)) ended_2
 ended_may_3 = record { lawful = ended_lawful; few = omega arith }
@@ -72,7 +118,23 @@ least_2 = timed 1 (Own 1 1 0 0 1000000000) ∷ least_1
 
 least_lawful : IsLawful opening (events_of least_2)
 unfolding least_from
-least_lawful = (record { total = omega arith; coll = omega arith }, record { gain_is = refl; paid_is = omega arith; amount_is = refl }, (record { total = omega arith; coll = omega arith }, record { gain_is = refl; paid_is = omega arith; amount_is = refl }, record { total = omega arith; coll = omega arith }))
+least_lawful = (
+  record { total = omega arith; coll = omega arith },
+  record {
+    gain_is = refl;
+    paid_is = omega arith;
+    amount_is = refl;
+  },
+  (
+    record { total = omega arith; coll = omega arith },
+    record {
+      gain_is = refl;
+      paid_is = omega arith;
+      amount_is = refl;
+    },
+    record { total = omega arith; coll = omega arith },
+  ),
+)
 
 pub least_may_2 : MayHappen (timed 1 (Own 1 1 0 0 1000000000)) least_1
 least_may_2 = record { lawful = least_lawful; few = omega arith }
@@ -100,7 +162,51 @@ risen_5 = timed 2 (Own 3 999999999999999999 0 0 999999999999999999) ∷ risen_4
 
 risen_lawful : IsLawful opening (events_of risen_5)
 unfolding least_from
-risen_lawful = (record { total = omega arith; coll = omega arith }, record { gain_is = refl; paid_is = omega arith; amount_is = refl }, (record { total = omega arith; coll = omega arith }, record { some = omega arith; within = omega arith; total_is = refl; coll_is = omega arith; rise_is = refl }, (record { total = omega arith; coll = omega arith }, record { gain_is = refl; paid_is = omega arith; amount_is = refl }, (record { total = omega arith; coll = omega arith }, record { some = omega arith; within = omega arith; total_is = refl; coll_is = omega arith; rise_is = refl }, (record { total = omega arith; coll = omega arith }, record { gain_is = refl; paid_is = omega arith; amount_is = refl }, record { total = omega arith; coll = omega arith })))))
+risen_lawful = (
+  record { total = omega arith; coll = omega arith },
+  record {
+    gain_is = refl;
+    paid_is = omega arith;
+    amount_is = refl;
+  },
+  (
+    record { total = omega arith; coll = omega arith },
+    record {
+      some = omega arith;
+      within = omega arith;
+      total_is = refl;
+      coll_is = omega arith;
+      rise_is = refl;
+    },
+    (
+      record { total = omega arith; coll = omega arith },
+      record {
+        gain_is = refl;
+        paid_is = omega arith;
+        amount_is = refl;
+      },
+      (
+        record { total = omega arith; coll = omega arith },
+        record {
+          some = omega arith;
+          within = omega arith;
+          total_is = refl;
+          coll_is = omega arith;
+          rise_is = refl;
+        },
+        (
+          record { total = omega arith; coll = omega arith },
+          record {
+            gain_is = refl;
+            paid_is = omega arith;
+            amount_is = refl;
+          },
+          record { total = omega arith; coll = omega arith },
+        ),
+      ),
+    ),
+  ),
+)
 
 pub risen_may_5 : MayHappen (timed 2 (Own 3 999999999999999999 0 0 999999999999999999)) risen_4
 risen_may_5 = record { lawful = risen_lawful; few = omega arith }
@@ -146,7 +252,51 @@ fourth_5 = timed 0 (Own 3 1000000000 0 0 1000000000) ∷ fourth_4
 
 fourth_lawful : IsLawful opening (events_of fourth_5)
 unfolding least_from
-fourth_lawful = (record { total = omega arith; coll = omega arith }, record { gain_is = refl; paid_is = omega arith; amount_is = refl }, (record { total = omega arith; coll = omega arith }, record { some = omega arith; within = omega arith; total_is = refl; coll_is = omega arith; rise_is = refl }, (record { total = omega arith; coll = omega arith }, record { gain_is = refl; paid_is = omega arith; amount_is = refl }, (record { total = omega arith; coll = omega arith }, record { some = omega arith; within = omega arith; total_is = refl; coll_is = omega arith; rise_is = refl }, (record { total = omega arith; coll = omega arith }, record { gain_is = refl; paid_is = omega arith; amount_is = refl }, record { total = omega arith; coll = omega arith })))))
+fourth_lawful = (
+  record { total = omega arith; coll = omega arith },
+  record {
+    gain_is = refl;
+    paid_is = omega arith;
+    amount_is = refl;
+  },
+  (
+    record { total = omega arith; coll = omega arith },
+    record {
+      some = omega arith;
+      within = omega arith;
+      total_is = refl;
+      coll_is = omega arith;
+      rise_is = refl;
+    },
+    (
+      record { total = omega arith; coll = omega arith },
+      record {
+        gain_is = refl;
+        paid_is = omega arith;
+        amount_is = refl;
+      },
+      (
+        record { total = omega arith; coll = omega arith },
+        record {
+          some = omega arith;
+          within = omega arith;
+          total_is = refl;
+          coll_is = omega arith;
+          rise_is = refl;
+        },
+        (
+          record { total = omega arith; coll = omega arith },
+          record {
+            gain_is = refl;
+            paid_is = omega arith;
+            amount_is = refl;
+          },
+          record { total = omega arith; coll = omega arith },
+        ),
+      ),
+    ),
+  ),
+)
 
 pub fourth_may_5 : MayHappen (timed 0 (Own 3 1000000000 0 0 1000000000)) fourth_4
 fourth_may_5 = record { lawful = fourth_lawful; few = omega arith }
@@ -186,7 +336,30 @@ taken_3 = timed 2 (Own 1 0 3000000000 0 0) ∷ taken_2
 
 taken_lawful : IsLawful opening (events_of taken_3)
 unfolding least_from
-taken_lawful = (record { total = omega arith; coll = omega arith }, record { gain_is = refl; paid_is = omega arith; amount_is = refl }, (record { total = omega arith; coll = omega arith }, record { gain_is = refl; paid_is = omega arith; amount_is = refl }, (record { total = omega arith; coll = omega arith }, record { gain_is = refl; paid_is = omega arith; amount_is = refl }, record { total = omega arith; coll = omega arith })))
+taken_lawful = (
+  record { total = omega arith; coll = omega arith },
+  record {
+    gain_is = refl;
+    paid_is = omega arith;
+    amount_is = refl;
+  },
+  (
+    record { total = omega arith; coll = omega arith },
+    record {
+      gain_is = refl;
+      paid_is = omega arith;
+      amount_is = refl;
+    },
+    (
+      record { total = omega arith; coll = omega arith },
+      record { gain_is = refl; paid_is = omega arith; amount_is = refl },
+      record {
+        total = omega arith;
+        coll = omega arith;
+      },
+    ),
+  ),
+)
 
 pub taken_may_3 : MayHappen (timed 2 (Own 1 0 3000000000 0 0)) taken_2
 taken_may_3 = record { lawful = taken_lawful; few = omega arith }
@@ -198,4 +371,7 @@ pub taken_may_2 : MayHappen (timed 1 (Own 2 1000000000 0 0 1000000000)) taken_1
 taken_may_2 = record { lawful = taken_lawful_2; few = omega arith }
 
 pub taken_may_1 : MayHappen (timed 0 (Own 1 3000000000 0 0 3000000000)) []
-taken_may_1 = record { lawful = earlier (timed 1 (Own 2 1000000000 0 0 1000000000)) taken_1 taken_lawful_2; few = omega arith }
+taken_may_1 = record {
+  lawful = earlier (timed 1 (Own 2 1000000000 0 0 1000000000)) taken_1 taken_lawful_2;
+  few = omega arith;
+}

@@ -50,7 +50,8 @@ fn lines(rt: HostRuntime) {
     }
 }
 
-/// Two accounts share a fee of 20 LUSD, three sevenths and four sevenths of it. What is refused changes nothing.
+/// Two accounts share a fee of 20 LUSD, three sevenths and four sevenths of it. What is refused
+/// changes nothing.
 #[test]
 fn a_fee_is_shared(rt: HostRuntime) {
     let mut fees = Fees::new(rt.alloc());

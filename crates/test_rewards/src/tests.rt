@@ -64,8 +64,10 @@ fn room<R: Abort>(rt: &R, rewards: &mut Rewards, event: &PoolEvent)
 /// An event happens in a minute.
 fn happens<R: Abort>(rt: &R, rewards: &mut Rewards, minute: u64, event: PoolEvent)
     requires later { rewards.old.minute ≤ minute }
-    requires may { ∥ ((past : List Timed) × IsKeptOf rewards.old past × MayHappen (timed minute event) past) ∥₁ }
-    ensures kept { (past : List Timed) → IsKeptOf rewards.old past → MayHappen (timed minute event) past →
+    requires may { ∥ ((past : List Timed) × IsKeptOf rewards.old past
+        × MayHappen (timed minute event) past) ∥₁ }
+    ensures kept { (past : List Timed) → IsKeptOf rewards.old past
+        → MayHappen (timed minute event) past →
         IsKeptOf rewards.new (timed minute event ∷ past) }
     ensures minute { rewards.new.minute ≡ minute }
 {
@@ -212,8 +214,8 @@ fn years(rt: HostRuntime) {
     same(&rt, &issued(last + 1), &UNITS_MOST, "and no more");
 }
 
-/// Two deposits share units before an offset and after it, one third and two thirds of them. One of them came through a
-/// front end.
+/// Two deposits share units before an offset and after it, one third and two thirds of them. One of
+/// them came through a front end.
 #[test]
 fn two_deposits_share(rt: HostRuntime) {
     let mut rewards = Rewards::new(rt.alloc());
@@ -242,7 +244,8 @@ fn two_deposits_share(rt: HostRuntime) {
     text(&rt, rt.alloc(), &rewards, &[tag], &[1, 2], want);
 }
 
-/// An epoch's end in the minute of a sharing. What is issued while nobody has a deposit is not shared.
+/// An epoch's end in the minute of a sharing. What is issued while nobody has a deposit is not
+/// shared.
 #[test]
 fn an_epoch_ends(rt: HostRuntime) {
     let mut rewards = Rewards::new(rt.alloc());
@@ -312,7 +315,8 @@ fn the_scale_rises(rt: HostRuntime) {
     told(&rt, &rewards, 90_000, 0);
 }
 
-/// One offset raises the scale by three, and then an account earns in the fourth scale of its mark alone.
+/// One offset raises the scale by three, and then an account earns in the fourth scale of its mark
+/// alone.
 #[test]
 fn the_fourth_scale(rt: HostRuntime) {
     let whole = 1_000_000_000_000_000_000;

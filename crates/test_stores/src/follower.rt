@@ -19,8 +19,8 @@ fn nothing(end: FedEnd) -> Fed {
     Fed { taken: 0, end }
 }
 
-// Feeds a whole piece, whatever it tells of one before its end. Where a byte finds no memory it is fed again, with all
-// behind it.
+// Feeds a whole piece, whatever it tells of one before its end. Where a byte finds no memory it is
+// fed again, with all behind it.
 fn feed(follower: &mut Follower, piece: &[u8]) -> FedEnd {
     let fed = follower.feed(piece);
     if fed.end == FedEnd::NoMemory {
@@ -90,8 +90,8 @@ fn damaged(index: u64) -> FedEnd {
     FedEnd::Damaged { index }
 }
 
-// A journal of version 2 with three records, of which one byte is another: which, and how many bytes are taken, how many
-// records made, and the end.
+// A journal of version 2 with three records, of which one byte is another: which, and how many
+// bytes are taken, how many records made, and the end.
 const CHANGED: [(usize, u8, u64, u64, FedEnd); 16] = [
     (0, 0, 453, 0, FedEnd::All),
     (0, 2, 453, 0, FedEnd::All),
@@ -211,8 +211,8 @@ fn troves_and_deposits_are_followed(rt: HostRuntime) {
     assert!(&rt; replica.query(&Query::Deposit(1)) == deposit, "deposit");
 }
 
-// Where memory fails, and only there, a byte finds none: it is the last of a record. The state is that before it, and
-// feeding goes on.
+// Where memory fails, and only there, a byte finds none: it is the last of a record. The state is
+// that before it, and feeding goes on.
 #[test]
 fn feeding_goes_on_behind_no_memory(rt: HostRuntime) {
     let mut follower = Follower::new(rt.alloc());

@@ -1,4 +1,5 @@
-//! Journals of the first generation, of both versions: the left disks that scripts/forge prints after these commands.
+//! Journals of the first generation, of both versions: the left disks that scripts/forge prints
+//! after these commands.
 
 /// `1 1 fund 1 10000000000`, `1 2 price 250000000` and `2 1 advance 60`, by version 1.
 pub const FIRST: [u8; 445] = [
@@ -42,8 +43,8 @@ pub const SECOND: [u8; 453] = [
     201, 159, 43, 197, 107, 142, 26, 149, 20, 65, 199, 47, 48, 29, 52, 0,
 ];
 
-/// What stands behind the first record of `SECOND` where `1 1 fund 1 10000000000` comes two times: the rules find the second a
-/// repetition.
+/// What stands behind the first record of `SECOND` where `1 1 fund 1 10000000000` comes two times:
+/// the rules find the second a repetition.
 pub const REPEATED: [u8; 130] = [
     1, 3, 0, 0, 0, 0, 0, 0, 1, 0, 0, 0, 0, 0, 0, 0, 1, 0, 0, 0, 1, 0, 0, 0, 0, 0, 0, 0, 2, 84, 11,
     228, 0, 0, 0, 0, 0, 0, 0, 0, 0, 0, 0, 0, 0, 0, 0, 0, 0, 0, 0, 0, 0, 0, 0, 0, 0, 0, 0, 0, 0, 0,
@@ -92,8 +93,9 @@ pub const LATER: [u8; 66] = [
     109, 143, 155, 154, 156, 154, 2, 95, 48, 170, 105, 48, 100, 24, 119, 2, 120,
 ];
 
-/// `1 1 fund 1 40000000000`, `1 2 open 1 30000000000 4000000000 1000000000000000000 - -`, `1 3 fund 2 50000000000`,
-/// `1 4 open 2 20000000000 4000000000 1000000000000000000 - -` and `1 5 provide 1 1000000000`, by version 2.
+/// `1 1 fund 1 40000000000`, `1 2 open 1 30000000000 4000000000 1000000000000000000 - -`,
+/// `1 3 fund 2 50000000000`, `1 4 open 2 20000000000 4000000000 1000000000000000000 - -` and
+/// `1 5 provide 1 1000000000`, by version 2.
 pub const TROVES: [u8; 711] = [
     1, 76, 73, 81, 74, 82, 78, 76, 50, 0, 0, 0, 0, 0, 0, 0, 1, 0, 0, 0, 0, 0, 0, 0, 0, 138, 199,
     35, 4, 137, 232, 0, 0, 60, 6, 104, 138, 105, 59, 161, 121, 209, 52, 29, 165, 173, 56, 50, 233,

@@ -4,7 +4,8 @@ use std::alloc::{AllocError, Global};
 
 const ONE: u64 = 1_000_000_000_000_000_000;
 
-/// What a trove owes, in micro-LUSD: what its owner's wallet has, what its owner's deposit has, and the reserve.
+/// What a trove owes, in micro-LUSD: what its owner's wallet has, what its owner's deposit has, and
+/// the reserve.
 const DEBT: u64 = 2_200_000_000;
 
 const LUSD: u64 = 1_000_000_000;
@@ -24,7 +25,8 @@ fn words(accounts: u32) -> [u64; 29] {
         coll = coll.wrapping_add(coll_of(account));
     }
     [
-        // Price, clock, base rate, generation, and the collateral inside, of which each wallet has one gwei.
+        // Price, clock, base rate, generation, and the collateral inside, of which each wallet has
+        // one gwei.
         1_000_000_000,
         0,
         0,

@@ -74,7 +74,8 @@ fn at_once<R: Threads + Wait + Sync>(
             ensures { seat_id result ≡ lock_id lock.entry.now }
         { turns(rt, lock, seat, each) },
         move || -> LockSeat<()>
-            requires { IsSync R.row × (seat_id next ≡ lock_id lock.now) × All (λ other. seat_id other ≡ lock_id lock.now) others.items }
+            requires { IsSync R.row × (seat_id next ≡ lock_id lock.now)
+                × All (λ other. seat_id other ≡ lock_id lock.now) others.items }
             ensures { seat_id result ≡ lock_id lock.entry.now }
         { at_once(rt, lock, next, others, each) },
     );

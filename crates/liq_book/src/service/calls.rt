@@ -15,9 +15,10 @@ use std::marker::PhantomData;
 use std::sync::Wait;
 
 impl<D: Disk, O: Origin> Service<D, O> {
-    /// Answers a session's request when its turn has come. What the seat then has seen begins with what it had seen. On a reply it
-    /// ends with this call's entry, and the reply is the one of the rules after all entries before it; on any other answer nothing of
-    /// the session is new but, at a disk's fault, the halt of this request. `Stopped` comes only behind a halt. `HistoryFull`
+    /// Answers a session's request when its turn has come. What the seat then has seen begins with
+    /// what it had seen. On a reply it ends with this call's entry, and the reply is the one of the
+    /// rules after all entries before it; on any other answer nothing of the session is new but, at
+    /// a disk's fault, the halt of this request. `Stopped` comes only behind a halt. `HistoryFull`
     /// comes exactly where there are [`crate::ENTRIES_MOST`] entries, before anything else.
     pub fn call<W: Wait>(
         &self,

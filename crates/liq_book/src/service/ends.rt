@@ -17,8 +17,9 @@ use liq_outside::Disk;
 use std::sync::Wait;
 
 impl<D: Disk, O: Origin> Service<D, O> {
-    /// Ends the service with its seats, and its publisher. What it leaves begins with what each seat has seen, and has of each
-    /// session just the items that its seat made; nothing is there of a session that has no seat. `StillOut` comes exactly where seats are missing.
+    /// Ends the service with its seats, and its publisher. What it leaves begins with what each
+    /// seat has seen, and has of each session just the items that its seat made; nothing is there
+    /// of a session that has no seat. `StillOut` comes exactly where seats are missing.
     pub fn close<W: Wait>(
         self,
         rt: &W,

@@ -23,9 +23,10 @@ use std::marker::PhantomData;
 use std::sync::Wait;
 
 impl<D: Disk, O: Origin> Service<D, O> {
-    /// A service over a store that is at its origin, whose changes tell its list from nothing, with a seat and a finder for each
-    /// session from 1 on, in their order. The list is published as version 0, and the finders are of a
-    /// publisher that did so. `Err` gives the store back where there was no memory.
+    /// A service over a store that is at its origin, whose changes tell its list from nothing, with
+    /// a seat and a finder for each session from 1 on, in their order. The list is published as
+    /// version 0, and the finders are of a publisher that did so. `Err` gives the store back where
+    /// there was no memory.
     pub fn new<W: Wait>(
         rt: &W,
         alloc: Global,

@@ -14,10 +14,11 @@ use std::marker::PhantomData;
 use std::sync::Wait;
 
 impl<D: Disk, O: Origin> Service<D, O> {
-    /// Publishes the list of this moment when the seat's turn has come, as the version after all entries. What the seat then has
-    /// seen begins with what it had seen, and nothing of its session is new. The publication is told by its number, which is that of the
-    /// entries that the seat then has seen. Without memory finders are shown what they were shown
-    /// before, and the next publication tells what this one would have told.
+    /// Publishes the list of this moment when the seat's turn has come, as the version after all
+    /// entries. What the seat then has seen begins with what it had seen, and nothing of its
+    /// session is new. The publication is told by its number, which is that of the entries that the
+    /// seat then has seen. Without memory finders are shown what they were shown before, and the
+    /// next publication tells what this one would have told.
     pub fn publish<W: Wait>(
         &self,
         rt: &W,

@@ -8,8 +8,9 @@ use crate::chronicle::Chronicle;
 use crate::seat::LockSeat;
 
 impl<T: Chronicle> Lock<T> {
-    /// Ends the lock and gives the value out, whose history is all that the seat has seen; each item was made by one of
-    /// the seats. `StillShared` comes exactly where the seat has fewer shares than there were seats made.
+    /// Ends the lock and gives the value out, whose history is all that the seat has seen; each
+    /// item was made by one of the seats. `StillShared` comes exactly where the seat has fewer
+    /// shares than there were seats made.
     pub fn close(self, seat: LockSeat<T::Item>) -> Result<T, StillShared<T>>
         requires own { seat_id seat ≡ lock_id self }
         ensures shares { MatchResult result (λ x. shares_of seat ≡ lock_seats self)

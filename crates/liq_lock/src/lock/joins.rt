@@ -10,8 +10,8 @@ use crate::rule::{Merge, Settle};
 use crate::seat::LockSeat;
 
 impl<T: Chronicle> Lock<T> {
-    /// Joins the right seat into the left one. Of what the two have seen, one begins the other: the seat has seen the
-    /// longer, stands for all numbers of both, and holds the shares of both.
+    /// Joins the right seat into the left one. Of what the two have seen, one begins the other: the
+    /// seat has seen the longer, stands for all numbers of both, and holds the shares of both.
     pub fn join_seat(&self, left: LockSeat<T::Item>, right: LockSeat<T::Item>) -> LockSeat<T::Item>
         requires own_left { seat_id left ≡ lock_id self.now }
         requires own_right { seat_id right ≡ lock_id self.now }

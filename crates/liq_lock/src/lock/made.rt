@@ -12,8 +12,8 @@ use atomic_table::{Refused, Seat, Table};
 use std::alloc::Global;
 
 impl<T: Chronicle> Lock<T> {
-    /// A lock round the value, with so many seats, numbered from 1 in their order. `Err` gives the value back where there
-    /// was no memory.
+    /// A lock round the value, with so many seats, numbered from 1 in their order. `Err` gives the
+    /// value back where there was no memory.
     pub fn new(alloc: Global, value: T, seats: u32) -> Result<(Lock<T>, Vec<LockSeat<T::Item>>), T>
         requires some_seat { 0 < seats }
         requires empty { T.history value ≡ [] }

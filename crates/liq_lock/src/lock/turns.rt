@@ -1,4 +1,5 @@
-//! Turns at the lock: a ticket is drawn, its turn comes, the value goes out and comes back, and the turn ends.
+//! Turns at the lock: a ticket is drawn, its turn comes, the value goes out and comes back, and the
+//! turn ends.
 ghost use Rattle.std.specs.Prelude.{◌≡◌, ◌+◌, ◌≤◌, ◌%◌, ◌^◌, true, [], ◌∷◌, length, Some};
 ghost use Rattle.liq_lock.specs.History.{Behind, GoesOn};
 ghost use Rattle.liq_lock.specs.Views.{view_in, is_at_rest, drew, saw, outside};
@@ -21,9 +22,10 @@ const LOOKS: u32 = 64;
 const LOW: u64 = 0xffff_ffff;
 
 impl<T: Chronicle> Lock<T> {
-    /// Takes the value when the turn of this seat has come. The history of the value begins with all that the seat has
-    /// seen, and what follows was made by other seats than those for which this one stands. It looks some times whether
-    /// a turn is taken before it draws a ticket, and then waits for the seats that drew theirs before.
+    /// Takes the value when the turn of this seat has come. The history of the value begins with
+    /// all that the seat has seen, and what follows was made by other seats than those for which
+    /// this one stands. It looks some times whether a turn is taken before it draws a ticket, and
+    /// then waits for the seats that drew theirs before.
     pub fn take<R: Wait>(&self, rt: &R, seat: LockSeat<T::Item>) -> (Held<T>, T)
         requires own { seat_id seat ≡ lock_id self.now }
         ensures own { held_id result.0 ≡ lock_id self.now }
@@ -56,8 +58,8 @@ impl<T: Chronicle> Lock<T> {
         )
     }
 
-    /// Gives the value back, with the items that this turn added to its history, and ends the turn. The seat has then
-    /// seen the whole history.
+    /// Gives the value back, with the items that this turn added to its history, and ends the turn.
+    /// The seat has then seen the whole history.
     pub fn give(&self, held: Held<T>, value: T) -> LockSeat<T::Item>
         requires own { held_id held ≡ lock_id self.now }
         requires grows { GoesOn T.maker (number_in held) (seen_in held) (T.history value) }
@@ -88,8 +90,8 @@ impl<T: Chronicle> Lock<T> {
         }
     }
 
-    // Lets other threads run while a turn is taken, so that a ticket is mostly drawn by a thread that can use it at
-    // once: who draws one and doesn't run keeps all later ones waiting.
+    // Lets other threads run while a turn is taken, so that a ticket is mostly drawn by a thread
+    // that can use it at once: who draws one and doesn't run keeps all later ones waiting.
     fn let_pass(&self) {
         let shared = &self.table.shared;
         for _ in 0..LOOKS {
@@ -114,7 +116,8 @@ impl<T: Chronicle> Lock<T> {
         (seat, number)
     }
 
-    // Looks until it is the turn of the ticket. Between the first looks other threads run, then the thread sleeps.
+    // Looks until it is the turn of the ticket. Between the first looks other threads run, then the
+    // thread sleeps.
     fn wait_for<R: Wait>(&self, rt: &R, seat: &mut Seat<Option<T>, View<T::Item>>, number: u64)
         requires own { seat.old.table_id ≡ lock_id self.now }
         requires waiting { IsWaiting seat.old.me number }
@@ -138,8 +141,8 @@ impl<T: Chronicle> Lock<T> {
         unreachable!()
     }
 
-    // Ends the turn, and wakes those that wait. Who draws a ticket after this thread has read the next one looks at the
-    // ticket whose turn it is after that, so it need not be woken.
+    // Ends the turn, and wakes those that wait. Who draws a ticket after this thread has read the
+    // next one looks at the ticket whose turn it is after that, so it need not be woken.
     fn leave(&self, seat: &mut Seat<Option<T>, View<T::Item>>)
         requires own { seat.old.table_id ≡ lock_id self.now }
         requires turn { IsLeaving T.history seat.old.me }

@@ -30,15 +30,17 @@ fn sought_by(request: &Request) -> Option<Ask>
 }
 
 impl<V: Window + Drop> Hinter for Finder<V> {
-    /// By one look: for an opening the neighbours of the key at which the trove would stand by the version's words, for a
-    /// change of a trove or a redemption those of the account's own key; for any other request both sides are absent.
+    /// By one look: for an opening the neighbours of the key at which the trove would stand by the
+    /// version's words, for a change of a trove or a redemption those of the account's own key; for
+    /// any other request both sides are absent.
     ///
-    /// Where that look is shut, which comes only where the window's count of shut looks rose in this call, both sides are
-    /// absent, of the last version that was seen.
+    /// Where that look is shut, which comes only where the window's count of shut looks rose in
+    /// this call, both sides are absent, of the last version that was seen.
     fn hint_for(&mut self, request: &Request) -> Hint
         ensures hint { Looked (V.shut self.old.window) (V.shut self.new.window)
             (IfSome (V.shown self.new.window) (λ v. result ≡ hint_of v request.now))
-            ((V.shown self.new.window ≡ V.shown self.old.window) × (result ≡ absent self.old.last)) }
+            ((V.shown self.new.window ≡ V.shown self.old.window)
+            × (result ≡ absent self.old.last)) }
         ensures last { self.new.last ≡ result.version }
         ensures later { GoesOn (V.shown self.old.window) (V.shown self.new.window) }
         ensures leads { V.leads self.old.window self.new.window }

@@ -19,8 +19,9 @@ impl<V: Window + Drop> Finder<V> {
         Finder { window, last: 0 }
     }
 
-    /// The neighbours of (key, id) in the version that is shown, `id` itself aside; both are absent where no other
-    /// account stands in it. None comes only where the window's count of shut looks rose in this call.
+    /// The neighbours of (key, id) in the version that is shown, `id` itself aside; both are absent
+    /// where no other account stands in it. None comes only where the window's count of shut looks
+    /// rose in this call.
     ///
     /// Takes no memory, and doesn't wait. The versions that a finder sees never go back.
     pub fn hint(&mut self, key: i128, id: u32) -> Option<Hint>
@@ -29,7 +30,8 @@ impl<V: Window + Drop> Finder<V> {
             (λ hint. IfSome (V.shown self.new.window) (λ v. hint ≡ answer_of v (At key id))) }
         ensures open { IfSome result (λ _. V.shut self.new.window ≡ V.shut self.old.window) }
         ensures stays { IfNone result (V.shown self.new.window ≡ V.shown self.old.window) }
-        ensures last { MatchOption result (self.new.last ≡ self.old.last) (λ hint. self.new.last ≡ hint.version) }
+        ensures last { MatchOption result (self.new.last ≡ self.old.last) (λ hint. self.new.last
+            ≡ hint.version) }
         ensures later { GoesOn (V.shown self.old.window) (V.shown self.new.window) }
         ensures leads { V.leads self.old.window self.new.window }
         ensures rising { IsSome (V.shown self.old.window) → self.old.last ≤ self.new.last }
@@ -37,8 +39,9 @@ impl<V: Window + Drop> Finder<V> {
         self.look(&Ask::At { key, id }).ok()
     }
 
-    /// The neighbours of an account in the version that is shown; where it doesn't stand there, those of (0, id). Both are absent
-    /// where no other account stands in it. None comes only where the window's count of shut looks rose in this call.
+    /// The neighbours of an account in the version that is shown; where it doesn't stand there,
+    /// those of (0, id). Both are absent where no other account stands in it. None comes only where
+    /// the window's count of shut looks rose in this call.
     ///
     /// Takes no memory, and doesn't wait. The versions that a finder sees never go back.
     pub fn own(&mut self, id: u32) -> Option<Hint>
@@ -50,13 +53,14 @@ impl<V: Window + Drop> Finder<V> {
             (λ hint. IfSome (V.shown self.new.window) (λ v. hint ≡ answer_of v (Own id))) }
         ensures open { IfSome result (λ _. V.shut self.new.window ≡ V.shut self.old.window) }
         ensures stays { IfNone result (V.shown self.new.window ≡ V.shown self.old.window) }
-        ensures last { MatchOption result (self.new.last ≡ self.old.last) (λ hint. self.new.last ≡ hint.version) }
+        ensures last { MatchOption result (self.new.last ≡ self.old.last) (λ hint. self.new.last
+            ≡ hint.version) }
     {
         self.look(&Ask::Own { account: id }).ok()
     }
 
-    /// The number of the version that is shown; that of the last version that was seen only where the window's count of
-    /// shut looks rose in this call.
+    /// The number of the version that is shown; that of the last version that was seen only where
+    /// the window's count of shut looks rose in this call.
     ///
     /// Takes no memory, and doesn't wait. The versions that a finder sees never go back.
     pub fn version(&mut self) -> u64
@@ -79,11 +83,13 @@ impl<V: Window + Drop> Finder<V> {
 
     /// One look, of which the number is kept.
     pub(crate) fn look(&mut self, ask: &Ask) -> Result<Hint, Shut>
-        ensures told { IfOk result (λ hint. IfSome (V.shown self.new.window) (λ v. hint ≡ answer_of v ask.now)) }
+        ensures told { IfOk result (λ hint. IfSome (V.shown self.new.window) (λ v. hint
+            ≡ answer_of v ask.now)) }
         ensures open { OnOk result (V.shut self.new.window ≡ V.shut self.old.window) }
         ensures cause { OnErr result (Rose (V.shut self.old.window) (V.shut self.new.window)) }
         ensures stays { OnErr result (V.shown self.new.window ≡ V.shown self.old.window) }
-        ensures last { MatchResult result (λ hint. self.new.last ≡ hint.version) (λ _. self.new.last ≡ self.old.last) }
+        ensures last { MatchResult result (λ hint. self.new.last ≡ hint.version) (λ _. self.new.last
+            ≡ self.old.last) }
         ensures later { GoesOn (V.shown self.old.window) (V.shown self.new.window) }
         ensures leads { V.leads self.old.window self.new.window }
         ensures rising { IsSome (V.shown self.old.window) → self.old.last ≤ self.new.last }

@@ -13,10 +13,11 @@ use crate::window::Shut;
 use left_right::reader::Reading;
 
 impl Pane {
-    /// The pane's reader at what is shown. Whoever takes it gives the reader back when it has left. `Shut` leaves what was seen,
-    /// and is counted.
+    /// The pane's reader at what is shown. Whoever takes it gives the reader back when it has left.
+    /// `Shut` leaves what was seen, and is counted.
     pub(super) fn enter(&mut self) -> Result<Reading<Shelf, Sight, Published>, Shut>
-        ensures looks { IfOk result (λ reading. Looks (seen_by self.old) reading.part.value (view reading.place).seen) }
+        ensures looks { IfOk result (λ reading. Looks (seen_by self.old) reading.part.value
+            (view reading.place).seen) }
         ensures open { OnOk result (self.new.shut ≡ self.old.shut) }
         ensures stays { OnErr result (seen_by self.new ≡ seen_by self.old) }
         ensures shut { OnErr result (self.new.shut ≡ min (self.old.shut + 1) count_most) }

@@ -23,12 +23,13 @@ impl Pane {
         Pane { reader, shut: 0 }
     }
 
-    /// Asks the version that is shown. What is then seen begins with all batches that were seen before, and makes that
-    /// version. `Shut` leaves what was seen, and is counted.
+    /// Asks the version that is shown. What is then seen begins with all batches that were seen
+    /// before, and makes that version. `Shut` leaves what was seen, and is counted.
     pub fn look(&mut self, ask: &Ask) -> Result<Hint, Shut>
         ensures begins { StartsWith (seen_by self.new) (seen_by self.old) }
         ensures later { last_from 0 (seen_by self.old) ≤ last_from 0 (seen_by self.new) }
-        ensures hint { IfOk result (λ hint. hint ≡ answer_of (version_after (seen_by self.new)) ask.now) }
+        ensures hint { IfOk result (λ hint. hint ≡ answer_of (version_after (seen_by self.new))
+            ask.now) }
         ensures stays { OnErr result (seen_by self.new ≡ seen_by self.old) }
         ensures open { OnOk result (self.new.shut ≡ self.old.shut) }
         ensures shut { OnErr result (self.new.shut ≡ min (self.old.shut + 1) count_most) }

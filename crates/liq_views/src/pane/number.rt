@@ -13,7 +13,8 @@ impl Pane {
     pub fn number(&mut self) -> Result<u64, Shut>
         ensures begins { StartsWith (seen_by self.new) (seen_by self.old) }
         ensures later { last_from 0 (seen_by self.old) ≤ last_from 0 (seen_by self.new) }
-        ensures number { IfOk result (λ number. number ≡ (version_after (seen_by self.new)).number) }
+        ensures number { IfOk result (λ number. number
+            ≡ (version_after (seen_by self.new)).number) }
         ensures stays { OnErr result (seen_by self.new ≡ seen_by self.old) }
         ensures open { OnOk result (self.new.shut ≡ self.old.shut) }
         ensures shut { OnErr result (self.new.shut ≡ min (self.old.shut + 1) count_most) }

@@ -17,7 +17,8 @@ impl Publisher {
         ensures published { IfOk result (λ made. published made.0 ≡ []) }
         ensures waiting { IfOk result (λ made. waiting made.0 ≡ []) }
         ensures count { IfOk result (λ made. length made.1.items ≡ readers) }
-        ensures fresh { IfOk result (λ made. All (λ f. IsFresh made.0 f.window × (f.last ≡ 0)) made.1.items) }
+        ensures fresh { IfOk result (λ made. All (λ f. IsFresh made.0 f.window
+            × (f.last ≡ 0)) made.1.items) }
     {
         let finders = Vec::with_capacity(alloc, readers as usize)?;
         let publisher = Publisher::alone(alloc, readers)?;
@@ -48,14 +49,16 @@ impl Publisher {
         finders
     }
 
-    /// A finder of what is published, which has seen nothing yet. Where no reader is to be had, its looks are shut.
+    /// A finder of what is published, which has seen nothing yet. Where no reader is to be had, its
+    /// looks are shut.
     pub fn finder(&self) -> Finder<Pane>
         ensures { IsFresh self.now result.window × (result.last ≡ 0) }
     {
         Finder::new(Pane::over(self.writer.factory().reader().ok()))
     }
 
-    /// Ends it. What waits is not published. A finder's look may be shut afterwards. Takes no memory.
+    /// Ends it. What waits is not published. A finder's look may be shut afterwards. Takes no
+    /// memory.
     pub fn close<R: Wait>(self, rt: &R) {
         let Publisher { alloc: _, writer } = self;
         writer.take(rt);

@@ -15,7 +15,8 @@ use std::alloc::AllocError;
 use std::marker::Brand;
 use std::sync::Wait;
 
-/// One publication that went out. A publisher alone makes it, and nobody copies it: whoever has one had a publisher publish.
+/// One publication that went out. A publisher alone makes it, and nobody copies it: whoever has one
+/// had a publisher publish.
 #[derive(Drop)]
 pub struct Publication {
     number: u64,
@@ -31,10 +32,11 @@ impl Publication {
 }
 
 impl Publisher {
-    /// Publishes one more batch, behind those that wait, as version `number`, which isn't below the last one's.
+    /// Publishes one more batch, behind those that wait, as version `number`, which isn't below the
+    /// last one's.
     ///
-    /// After `NoMemory` finders are shown what they were shown before. The batch then either was not taken, or it waits and
-    /// goes out with the next publication.
+    /// After `NoMemory` finders are shown what they were shown before. The batch then either was
+    /// not taken, or it waits and goes out with the next publication.
     pub fn publish<R: Wait>(
         &mut self,
         rt: &R,
@@ -44,11 +46,15 @@ impl Publisher {
         requires { last_from 0 (published self.old ++ waiting self.old) ≤ number }
         ensures number { IfOk result (λ p. p.number ≡ number) }
         ensures sent { MatchResult result
-            (λ _. (published self.new ≡ published self.old ++ (waiting self.old ++ record { changes = changes.now; number = number } ∷ []))
+            (λ _. (published self.new ≡ published self.old ++ (waiting self.old
+            ++ record { changes = changes.now; number = number } ∷ []))
             × (waiting self.new ≡ []))
             (λ _. (published self.new ≡ published self.old)
             × ((waiting self.new ≡ waiting self.old)
-            ⊎ (waiting self.new ≡ waiting self.old ++ record { changes = changes.now; number = number } ∷ []))) }
+            ⊎ (waiting self.new ≡ waiting self.old ++ record {
+              changes = changes.now;
+              number = number;
+            } ∷ []))) }
         ensures last { last_from 0 (published self.new ++ waiting self.new) ≤ number }
     {
         let batch = Batch::new(self.alloc, changes, number)?;
@@ -60,10 +66,13 @@ impl Publisher {
             &mut self.writer,
             rt,
             |writer, rt| -> (ListWriter, Result<(), AllocError>)
-                requires { IsMade writer.desk.shown.value (view writer.desk.place) (drop writer.behind writer.log.items) }
+                requires { IsMade writer.desk.shown.value (view writer.desk.place)
+                    (drop writer.behind writer.log.items) }
                 ensures { IsSent result.1
-                    writer.desk.shown.value (view writer.desk.place) (drop writer.behind writer.log.items)
-                    result.0.desk.shown.value (view result.0.desk.place) (drop result.0.behind result.0.log.items) }
+                    writer.desk.shown.value (view writer.desk.place)
+                    (drop writer.behind writer.log.items)
+                    result.0.desk.shown.value (view result.0.desk.place)
+                    (drop result.0.behind result.0.log.items) }
             { send(rt, writer) },
         );
         match sent {
@@ -75,10 +84,12 @@ impl Publisher {
 
 /// Publishes what waits.
 fn send<R: Wait>(rt: &R, writer: ListWriter) -> (ListWriter, Result<(), AllocError>)
-    requires { IsMade writer.desk.shown.value (view writer.desk.place) (drop writer.behind writer.log.items) }
+    requires { IsMade writer.desk.shown.value (view writer.desk.place)
+        (drop writer.behind writer.log.items) }
     ensures { IsSent result.1
         writer.desk.shown.value (view writer.desk.place) (drop writer.behind writer.log.items)
-        result.0.desk.shown.value (view result.0.desk.place) (drop result.0.behind result.0.log.items) }
+        result.0.desk.shown.value (view result.0.desk.place)
+        (drop result.0.behind result.0.log.items) }
 {
     send_these::<Brand, R>(rt, writer)
 }
@@ -89,10 +100,12 @@ fn send_these<B: Pending, R: Wait>(
     writer: ListWriter,
 ) -> (ListWriter, Result<(), AllocError>)
     requires these { B.batches ≡ drop writer.behind writer.log.items }
-    requires made { IsMade writer.desk.shown.value (view writer.desk.place) (drop writer.behind writer.log.items) }
+    requires made { IsMade writer.desk.shown.value (view writer.desk.place)
+        (drop writer.behind writer.log.items) }
     ensures { IsSent result.1
         writer.desk.shown.value (view writer.desk.place) (drop writer.behind writer.log.items)
-        result.0.desk.shown.value (view result.0.desk.place) (drop result.0.behind result.0.log.items) }
+        result.0.desk.shown.value (view result.0.desk.place)
+        (drop result.0.behind result.0.log.items) }
 {
     writer.publish_as::<Sends<B>, R>(rt)
 }

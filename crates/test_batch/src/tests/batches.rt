@@ -48,8 +48,8 @@ fn touched(market: &Market) -> u32 {
     places[0]
 }
 
-/// What is answered to commands that are looked at, done, and numbered, and to queries. Behind them account 5 has 7, and
-/// account 6 has 14.
+/// What is answered to commands that are looked at, done, and numbered, and to queries. Behind them
+/// account 5 has 7, and account 6 has 14.
 fn batches(market: &mut Market) -> [bool; 8] {
     let mut replies = [NONE; 3];
     let looked = preview_all(market, &[funding(1, 5), funding(2, 5)], &mut replies);

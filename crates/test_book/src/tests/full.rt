@@ -67,7 +67,8 @@ fn give<D: Disk, O: Origin>(
     works.push(work).expect(rt, "memory");
 }
 
-/// How sessions were answered: the replies of all, and how many of them were answered that the history is full.
+/// How sessions were answered: the replies of all, and how many of them were answered that the
+/// history is full.
 #[derive(Clone, Copy)]
 struct Answered {
     replies: usize,

@@ -32,7 +32,8 @@ const LOOK: Request = Request::Ask(Query::Wallet(1));
 
 const LOOKED: Reply = Reply::Told(Info::Wallet { coll: 5, lusd: 0 });
 
-/// The last seat, beside the others. A service that has lost a seat can't be ended, so the test stops where there is none.
+/// The last seat, beside the others. A service that has lost a seat can't be ended, so the test
+/// stops where there is none.
 pub fn part<D: Disk, O: Origin>(
     rt: &impl Abort,
     service: &Service<D, O>,
@@ -72,7 +73,8 @@ fn call_by_last<D: Disk, O: Origin, R: Abort + Wait>(
     (seats, answer)
 }
 
-/// What is seen of two seats, of which the first funds a wallet and then the second looks at it and publishes the list.
+/// What is seen of two seats, of which the first funds a wallet and then the second looks at it and
+/// publishes the list.
 #[derive(Clone, Copy)]
 struct Seen {
     is_funded: bool,
@@ -140,7 +142,8 @@ fn close_late<D: Disk + Drop, O: Origin, R: Abort + Wait>(
     }
 }
 
-/// Two seats over a store: each makes a call, and the second publishes; the service does not close without the second.
+/// Two seats over a store: each makes a call, and the second publishes; the service does not close
+/// without the second.
 fn two_seats<D: Disk + Drop, O: Origin, R: Abort + Wait>(
     rt: &R,
     alloc: Global,

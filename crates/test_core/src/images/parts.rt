@@ -118,9 +118,9 @@ pub const SOUND: Rows = Rows {
     ],
 };
 
-/// The image of these rows, with the sound image's words. Of the sound image many numbers are the greatest that its rules
-/// let them be: what is pending is all of the default pool, the sum is the most beside its product, and so are a finished
-/// sum, a deposit's amount and each deposit's mark.
+/// The image of these rows, with the sound image's words. Of the sound image many numbers are the
+/// greatest that its rules let them be: what is pending is all of the default pool, the sum is the
+/// most beside its product, and so are a finished sum, a deposit's amount and each deposit's mark.
 pub fn image_of(alloc: Global, rows: &Rows) -> Result<Image, NoMemory> {
     let mut image = words_alone(alloc);
     put_rows(&mut image, rows)?;

@@ -250,7 +250,8 @@ const ADDED_UP: [Turn; 28] = [
     Sound,
 ];
 
-/// Rule 8: what is pending is in the default pool. In the last two cases a product is 2^128 more than it may be, and the sum of two.
+/// Rule 8: what is pending is in the default pool. In the last two cases a product is 2^128 more
+/// than it may be, and the sum of two.
 const PENDING: [Turn; 32] = [
     SumColl(200_000_000_000_000_001),
     First(8),
@@ -512,7 +513,8 @@ fn replies_have_the_values_of_their_kind(rt: HostRuntime) {
     }
 }
 
-/// The words in which the image that the protocol opens with differs from the sound one, but for the product.
+/// The words in which the image that the protocol opens with differs from the sound one, but for
+/// the product.
 const OPENING: [Turn; 23] = [
     Minute(0),
     Base(0),

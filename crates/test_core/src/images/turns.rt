@@ -6,7 +6,8 @@ use liq_images::first_unsound;
 use liq_types::{Image, NoMemory};
 use std::alloc::Global;
 
-/// A word that becomes another one, a field of a row that does, by the row's index, or what is then told.
+/// A word that becomes another one, a field of a row that does, by the row's index, or what is then
+/// told.
 #[derive(Clone, Copy)]
 pub enum Turn {
     /// No rule is broken. What follows begins with the sound image again.
@@ -94,7 +95,8 @@ fn wanted(turn: &Turn) -> Option<u8> {
     }
 }
 
-/// The place of the first turn at which something else is told, along these from the sound image on.
+/// The place of the first turn at which something else is told, along these from the sound image
+/// on.
 pub fn first_odd(alloc: Global, turns: &[Turn]) -> u64 {
     let mut start = 0;
     for (at, turn) in turns.iter().enumerate() {

@@ -22,8 +22,8 @@ fn is(reply: &Result<Reply, NoMemory>, want: Reply) -> bool {
     }
 }
 
-/// What a market answers to a preview, the command, the command again, a number too far, its own next number, and a
-/// query; and whether what it saves is loaded.
+/// What a market answers to a preview, the command, the command again, a number too far, its own
+/// next number, and a query; and whether what it saves is loaded.
 fn answers(alloc: Global) -> [bool; 7] {
     let mut market = Market::new(alloc);
     markets_stand(&market);

@@ -6,7 +6,8 @@ use liq_market::Market;
 use liq_types::{Call, Info, Query, Reply};
 use std::alloc::Global;
 
-/// Whether a fork begins with what its market has, and each then goes its own way: an account is funded in both.
+/// Whether a fork begins with what its market has, and each then goes its own way: an account is
+/// funded in both.
 fn goes_its_own_way(alloc: Global, market: &mut Market, account: u32) -> bool {
     let Ok(mut fork) = market.fork(alloc) else {
         return false;
@@ -34,7 +35,8 @@ fn fork_two_troves(alloc: Global) -> [bool; 3] {
     [amid, emptied, goes_its_own_way(alloc, &mut market, 9)]
 }
 
-// Also where the Stability Pool has come into another epoch, which an image with no records could not have.
+// Also where the Stability Pool has come into another epoch, which an image with no records could
+// not have.
 #[test]
 fn forks_go_their_own_way(rt: HostRuntime) {
     let is_right = fork_two_troves(rt.alloc()) == [true; 3];

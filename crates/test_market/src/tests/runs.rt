@@ -12,8 +12,8 @@ pub const fn open(account: u32, coll: u64) -> Call {
     Call::Open(account, coll, 4_000_000_000, ANY, HintWords::NONE)
 }
 
-/// Two troves of 4,220 LUSD each, and just as much in the Stability Pool. Behind it the trove of account 2 may be liquidated,
-/// which empties the pool: its epoch is then the second.
+/// Two troves of 4,220 LUSD each, and just as much in the Stability Pool. Behind it the trove of
+/// account 2 may be liquidated, which empties the pool: its epoch is then the second.
 pub const TWO_TROVES: [Call; 7] = [
     Call::Fund(1, 200_000_000_000),
     Call::Fund(2, 5_000_000_000),

@@ -81,7 +81,8 @@ fn saves_are_loaded(rt: HostRuntime) {
     shows(&rt, "saves", is_right);
 }
 
-/// A save of 1,000,000 records: the market takes no command until a rotation, as one that has carried out so many.
+/// A save of 1,000,000 records: the market takes no command until a rotation, as one that has
+/// carried out so many.
 fn with_the_most(alloc: Global) -> [bool; 4] {
     let (_, saved) = saved_after(alloc, &TWO_TROVES);
     let most = with_records(alloc, &saved, [0, 0, 0, 0, 0, 15, 66, 64]);

@@ -1,4 +1,5 @@
-//! Changing a trove, and moving a gain into it: plans, and each refusal at its edge and one beside it.
+//! Changing a trove, and moving a gain into it: plans, and each refusal at its edge and one beside
+//! it.
 
 use crate::checks::{same, shows};
 use crate::numbers::plan::{Told, told};
@@ -7,8 +8,8 @@ use liq_types::amounts::{FLOOR_RATE, LIM, ONE};
 use liq_types::{Market, Refusal, Wallet};
 use std::process::Abort;
 
-/// The collateral of all troves, that of the second of two, what is asked (collateral in and out, LUSD borrowed and repaid, and
-/// the bound), and what is planned.
+/// The collateral of all troves, that of the second of two, what is asked (collateral in and out,
+/// LUSD borrowed and repaid, and the bound), and what is planned.
 type Row = (u64, u64, [u64; 5], Told);
 
 /// Enough collateral of all troves that nothing is refused for it.

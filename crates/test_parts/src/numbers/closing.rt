@@ -8,7 +8,8 @@ use liq_types::{Market, Refusal, Wallet};
 /// The second of two troves, with 300 percent.
 const HAD: (u64, u64) = (12_660_000_000, 4_220_000_000);
 
-/// The collateral of all troves, how many they are, the LUSD that the owner has, and what is repaid and got.
+/// The collateral of all troves, how many they are, the LUSD that the owner has, and what is repaid
+/// and got.
 type Row = (u64, u64, u64, Result<(u64, u64), Refusal>);
 
 const CLOSED: [Row; 6] = [

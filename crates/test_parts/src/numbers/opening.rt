@@ -33,7 +33,8 @@ const BELOW: Market = Market {
     ..TIED
 };
 
-/// After a redemption that left a high base rate, so that the fee is five percent, which the bound may forbid.
+/// After a redemption that left a high base rate, so that the fee is five percent, which the bound
+/// may forbid.
 const REDEEMED: Market = Market {
     price: 1_000_000_000,
     minute: 20_160,
@@ -45,8 +46,8 @@ const REDEEMED: Market = Market {
     troves: 1,
 };
 
-/// Recovery Mode, at 140 percent, half a day after a fee that left the base rate at one: a trove needs 150 percent, costs no
-/// fee and leaves the base rate.
+/// Recovery Mode, at 140 percent, half a day after a fee that left the base rate at one: a trove
+/// needs 150 percent, costs no fee and leaves the base rate.
 const RECOVERY: Market = Market {
     price: 1_000_000_000,
     minute: 720,

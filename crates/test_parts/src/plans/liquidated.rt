@@ -29,7 +29,8 @@ struct Case {
     deposit: u64,
     /// Collateral and LUSD.
     liquidator: [u64; 2],
-    /// Active collateral and debt, default collateral and debt, reserve, surplus, and the fees' collateral and LUSD.
+    /// Active collateral and debt, default collateral and debt, reserve, surplus, and the fees'
+    /// collateral and LUSD.
     pools: [u64; 8],
     /// Gwei and micro-LUSD that each unit of stake of the second trove got, over 10^18.
     sums: [u128; 2],
@@ -68,8 +69,10 @@ fn opened<R: Abort>(rt: &R, alloc: Global, deposit: u64) -> Result<Homes, NoMemo
 
 // Plans the liquidation of the first trove and makes it.
 fn liquidate<R: Abort>(rt: &R, world: &mut World, homes: &mut Homes, price: u64)
-    requires fresh { AreFresh world.old.troves world.old.order ((1, fresh FIRST) ∷ (2, fresh SECOND) ∷ []) 21100000000 }
-    requires opened { AreOpened homes.old.wallets homes.old.pools homes.old.surplus homes.old.stability }
+    requires fresh { AreFresh world.old.troves world.old.order ((1, fresh FIRST) ∷ (2, fresh SECOND)
+        ∷ []) 21100000000 }
+    requires opened { AreOpened homes.old.wallets homes.old.pools homes.old.surplus
+        homes.old.stability }
     requires price_least { 100000000 ≤ price }
     requires price_most { price ≤ 1000000000000 }
 {

@@ -1,4 +1,5 @@
-//! The lowest troves: how many are taken, each by the mode of its moment and with what those before it left.
+//! The lowest troves: how many are taken, each by the mode of its moment and with what those before
+//! it left.
 
 ghost use Rattle.std.specs.Prelude.{◌≡◌, IsTrue};
 ghost use Rattle.test_parts.specs.World.{IsSmall};
@@ -55,8 +56,8 @@ fn told(answer: &Result<Vec<Victim>, LowestFault>) -> Answer {
     }
 }
 
-/// Of two troves one stays, so at most the first is taken: the price, the LUSD of the Stability Pool, how many are asked for, and
-/// what becomes of the first.
+/// Of two troves one stays, so at most the first is taken: the price, the LUSD of the Stability
+/// Pool, how many are asked for, and what becomes of the first.
 const TWO: [([u64; 3], Result<Struck, Refusal>); 4] = [
     (
         [560_000_000, 4_220_000_000, 5],

@@ -4,8 +4,8 @@ use liq_ledger::{Pools, Wallets};
 use liq_liquidation::One;
 use liq_troves::Trove;
 
-/// The collateral for the liquidator, debt and collateral for the Stability Pool, debt and collateral for the other troves, and
-/// what the owner may claim.
+/// The collateral for the liquidator, debt and collateral for the Stability Pool, debt and
+/// collateral for the other troves, and what the owner may claim.
 pub fn parts(one: &One) -> [u64; 6] {
     let [offset_debt, offset_coll] = [one.offset_debt, one.offset_coll];
     let [spread_debt, spread_coll] = [one.spread_debt, one.spread_coll];
@@ -25,7 +25,8 @@ pub fn wallet(wallets: &Wallets, account: u32) -> [u64; 2] {
     [wallet.coll, wallet.lusd]
 }
 
-/// Active collateral and debt, default collateral and debt, reserve, surplus, and the fees' collateral and LUSD.
+/// Active collateral and debt, default collateral and debt, reserve, surplus, and the fees'
+/// collateral and LUSD.
 pub fn pools(pools: &Pools) -> [u64; 8] {
     [
         pools.active_coll,

@@ -50,7 +50,10 @@ const SECOND: Trove = Trove {
 
 // The account has 8,000 LUSD.
 fn funded(alloc: Global, account: u32) -> Result<Wallets, NoMemory>
-    ensures had { IfOk result (λ w. wallet_in w.rows account ≡ record { coll = 0; lusd = 8000000000 }) }
+    ensures had { IfOk result (λ w. wallet_in w.rows account ≡ record {
+      coll = 0;
+      lusd = 8000000000;
+    }) }
     ensures ascend { IfOk result (λ w. Ascends w.rows) }
 {
     let mut wallets = Wallets::new(alloc);

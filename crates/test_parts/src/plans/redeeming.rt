@@ -44,8 +44,8 @@ const CASE: Case = Case {
 /// The account, micro-LUSD, gwei, and 1 where the trove is closed.
 type Part = [u64; 4];
 
-/// What is taken of one trove or two, and how many they are; what is redeemed and drawn, the fee, and the base rate after it with
-/// its minute. Or the refusal, or that there is no memory.
+/// What is taken of one trove or two, and how many they are; what is redeemed and drawn, the fee,
+/// and the base rate after it with its minute. Or the refusal, or that there is no memory.
 type Answer = Result<([Option<Part>; 2], usize, [u64; 5]), Option<Refusal>>;
 
 fn part_of(cut: &Cut) -> Part {
@@ -106,7 +106,8 @@ fn planned<R: Abort>(rt: &R, alloc: Global, troves: &Troves, order: &Order, case
 /// What is taken of the first trove where it is closed.
 const ALL: Part = [1, 4_020_000_000, 4_020_000_000, 1];
 
-/// Cases, what is taken of one trove or two, what is redeemed and drawn, the fee, and the base rate after it.
+/// Cases, what is taken of one trove or two, what is redeemed and drawn, the fee, and the base rate
+/// after it.
 const PLANS: [(Case, [Option<Part>; 2], [u64; 4]); 6] = [
     // The first is closed, the second is left with less.
     (
@@ -147,7 +148,8 @@ const PLANS: [(Case, [Option<Part>; 2], [u64; 4]); 6] = [
             369_668_246_445_497_630,
         ],
     ),
-    // The first has just 100 percent and is passed over, but it is there: the second is closed, and only the first is left.
+    // The first has just 100 percent and is passed over, but it is there: the second is closed, and
+    // only the first is left.
     (
         Case {
             price: 500_000_000,
@@ -238,7 +240,8 @@ const EARLY: Case = Case {
     ..CASE
 };
 
-// Before any trove is visited. Each is at its edge, with all that comes later refused too, and one beside it.
+// Before any trove is visited. Each is at its edge, with all that comes later refused too, and one
+// beside it.
 const ASKED: [Row; 9] = [
     (
         Case {

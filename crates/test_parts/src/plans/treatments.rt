@@ -9,8 +9,8 @@ use liq_types::Refusal;
 use liq_types::amounts::SUM_MOST;
 use std::process::Abort;
 
-/// Price, collateral and debt of all troves, how many they are, collateral and debt of one with nothing pending, and the LUSD of
-/// the Stability Pool; and what becomes of the one.
+/// Price, collateral and debt of all troves, how many they are, collateral and debt of one with
+/// nothing pending, and the LUSD of the Stability Pool; and what becomes of the one.
 type Row = ([u64; 7], Result<[u64; 6], Refusal>);
 
 const ROWS: [Row; 17] = [
@@ -270,7 +270,8 @@ const ROWS: [Row; 17] = [
     ),
 ];
 
-/// What becomes of a trove whose marks are the sums, where the other troves have one unit of stake and these sums.
+/// What becomes of a trove whose marks are the sums, where the other troves have one unit of stake
+/// and these sums.
 fn treated<R: Abort>(
     rt: &R,
     row: [u64; 7],
@@ -309,7 +310,8 @@ fn treatments(rt: HostRuntime) {
     }
 }
 
-/// In Recovery Mode and below 100 percent, so the other troves take over 10^18 gwei and next to no debt.
+/// In Recovery Mode and below 100 percent, so the other troves take over 10^18 gwei and next to no
+/// debt.
 const GREAT: [u64; 7] = [
     100_000_000,
     1_005_025_125_628_140_704,
@@ -323,7 +325,8 @@ const GREAT: [u64; 7] = [
 /// What the collateral adds to its sum.
 const STEP: u128 = 1_000_000_000_000_000_000_000_000_000_000_000_000;
 
-/// The two sums, and what becomes of the trove. Where both would pass their limit, the collateral's is told.
+/// The two sums, and what becomes of the trove. Where both would pass their limit, the collateral's
+/// is told.
 const LIMITS: [(u128, u128, Result<[u64; 6], Refusal>); 4] = [
     (
         SUM_MOST - STEP,

@@ -43,7 +43,16 @@ pub struct World {
 
 /// A market before any minute has passed, in which no fee was taken.
 pub fn market(price: u64, total_coll: u64, total_debt: u64, troves: u64) -> Market
-    ensures { result ≡ record { price = price; minute = 0; base = 0; fee_minute = 0; limit = LIM; total_coll = total_coll; total_debt = total_debt; troves = troves } }
+    ensures { result ≡ record {
+      price = price;
+      minute = 0;
+      base = 0;
+      fee_minute = 0;
+      limit = LIM;
+      total_coll = total_coll;
+      total_debt = total_debt;
+      troves = troves;
+    } }
 {
     Market {
         price,
@@ -68,7 +77,8 @@ pub fn three<L: Ledger>(
     requires first { IsSmall first }
     requires second { IsSmall second }
     requires third { IsSmall third }
-    ensures { IfOk result (λ w. AreFresh w.troves w.order ((1, fresh first) ∷ (2, fresh second) ∷ (3, fresh third) ∷ []) (first.0 + (second.0 + (third.0 + 0)))) }
+    ensures { IfOk result (λ w. AreFresh w.troves w.order ((1, fresh first) ∷ (2, fresh second)
+        ∷ (3, fresh third) ∷ []) (first.0 + (second.0 + (third.0 + 0)))) }
 {
     let mut world = two(alloc, first, second, steps)?;
     add(&mut world, 3, third, steps)?;
@@ -84,7 +94,8 @@ pub fn two<L: Ledger>(
 ) -> Result<World, NoMemory>
     requires first { IsSmall first }
     requires second { IsSmall second }
-    ensures { IfOk result (λ w. AreFresh w.troves w.order ((1, fresh first) ∷ (2, fresh second) ∷ []) (first.0 + (second.0 + 0))) }
+    ensures { IfOk result (λ w. AreFresh w.troves w.order ((1, fresh first) ∷ (2, fresh second)
+        ∷ []) (first.0 + (second.0 + 0))) }
 {
     let mut world = World {
         troves: Troves::new(alloc),
@@ -105,9 +116,12 @@ fn add<L: Ledger>(
     requires sums { world.old.troves.sums ≡ fresh_sums (stakes_in world.old.troves.table.rows) }
     requires absent { key_in world.old.order.entries account ≡ None }
     requires limit { coll_in (put world.old.troves.table.rows account (fresh own)) ≤ lim }
-    ensures rows { OnOk result (world.new.troves.table.rows ≡ put world.old.troves.table.rows account (fresh own)) }
-    ensures sums { OnOk result (world.new.troves.sums ≡ fresh_sums (stakes_in world.new.troves.table.rows)) }
-    ensures entries { OnOk result (world.new.order.entries ≡ with_ranked world.old.order.entries (key_by (fresh own), account)) }
+    ensures rows { OnOk result (world.new.troves.table.rows
+        ≡ put world.old.troves.table.rows account (fresh own)) }
+    ensures sums { OnOk result (world.new.troves.sums
+        ≡ fresh_sums (stakes_in world.new.troves.table.rows)) }
+    ensures entries { OnOk result (world.new.order.entries ≡ with_ranked world.old.order.entries
+        (key_by (fresh own), account)) }
 {
     let (coll, debt) = own;
     world.troves.reserve(account)?;

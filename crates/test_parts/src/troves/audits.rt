@@ -54,7 +54,8 @@ const ENGINE: [EngineRow; 2] = [
     },
 ];
 
-/// The account, and of its balance and of its gain: the least, the most, what the protocol gives, and its allowance.
+/// The account, and of its balance and of its gain: the least, the most, what the protocol gives,
+/// and its allowance.
 type Told = (u32, [u128; 4], [u128; 4]);
 
 const WANT: [Told; 2] = [

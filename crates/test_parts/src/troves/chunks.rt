@@ -7,7 +7,8 @@ use std::process::Abort;
 // How many accounts come and go: six times what a chunk holds.
 const MANY: u32 = 400;
 
-// The rounds: all come, move a little, move far, two of three leave, those come back, all but a few leave, and the last of them.
+// The rounds: all come, move a little, move far, two of three leave, those come back, all but a few
+// leave, and the last of them.
 const ROUNDS: u32 = 7;
 
 // Who stands in the list in a round.
@@ -79,7 +80,8 @@ fn beside(list: &[Entry], place: Entry) -> (Option<Entry>, Option<Entry>) {
     (before, None)
 }
 
-// The chunks have the ends of a sorted list, and beside each of its entries and beside another place what it has there.
+// The chunks have the ends of a sorted list, and beside each of its entries and beside another
+// place what it has there.
 fn agree<R: Abort>(rt: &R, chunks: &Chunks, list: &[Entry]) {
     same(rt, &chunks.first(), &list.first().copied(), "the first");
     same(rt, &chunks.last(), &list.last().copied(), "the last");
@@ -135,7 +137,8 @@ fn many(rt: HostRuntime) {
     }
 }
 
-// What is there comes in but once, what isn't there neither leaves nor is shifted, and an entry is shifted behind the first alone.
+// What is there comes in but once, what isn't there neither leaves nor is shifted, and an entry is
+// shifted behind the first alone.
 #[test]
 fn few(rt: HostRuntime) {
     let mut chunks = Chunks::new(rt.alloc());
@@ -152,8 +155,8 @@ fn few(rt: HostRuntime) {
     agree(&rt, &chunks, &[(5, 1), (9, 1), (i64::MAX, 0)]);
 }
 
-// Moves one of the entries to the end. Two chunks beside each other have more than 32 entries together then, and each has at
-// most 64.
+// Moves one of the entries to the end. Two chunks beside each other have more than 32 entries
+// together then, and each has at most 64.
 fn to_end<R: Abort>(rt: &R, chunks: &mut Chunks, list: &mut [Entry], at: usize, key: i64) {
     if let Some(entry) = list.get_mut(at) {
         chunks.remove(*entry);

@@ -1,4 +1,5 @@
-//! The guide of the ordered list: it tells between which accounts the one stands that a command puts last.
+//! The guide of the ordered list: it tells between which accounts the one stands that a command
+//! puts last.
 
 use crate::checks::{same, shows};
 use ListChange::{Gone, Put, Words};

@@ -1,4 +1,5 @@
-//! Small pools: deposits, offsets and withdrawals in turn, and what is then read of the words and of each deposit.
+//! Small pools: deposits, offsets and withdrawals in turn, and what is then read of the words and
+//! of each deposit.
 
 use crate::checks::{same, shows};
 use liq_stability::{Deposit, FinishedSum, PoolWords, Stability, offset_words, position};

@@ -53,7 +53,8 @@ fn plain(map: &BTreeMap<u32, Known>, account: u32) -> Known {
     }
 }
 
-// Gives an account another key at once. That is done where nothing moves it, and both keys are near.
+// Gives an account another key at once. That is done where nothing moves it, and both keys are
+// near.
 fn keep<R: Abort>(rt: &R, stands: &mut Stands, account: u32, old: Known, number: u32) -> Known {
     let Some(key) = key_of(number) else {
         return old;
@@ -130,8 +131,8 @@ fn change<R: Abort>(rt: &R, stands: &mut Stands, account: u32, old: Known, numbe
     }
 }
 
-// All stand where the plain map has them, and no other takes a place: the near ones that nothing moves are kept, and the others that
-// stand, or are aimed, stand apart.
+// All stand where the plain map has them, and no other takes a place: the near ones that nothing
+// moves are kept, and the others that stand, or are aimed, stand apart.
 fn agree<R: Abort>(rt: &R, stands: &Stands, map: &BTreeMap<u32, Known>) {
     let mut kept: u64 = 0;
     let mut apart: usize = 0;

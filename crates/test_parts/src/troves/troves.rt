@@ -115,7 +115,13 @@ const SUMS: Sums = Sums {
 /// The same from its start.
 fn small<R: Abort>(rt: &R, troves: &mut Troves)
     requires rows { troves.old.table.rows ≡ [] }
-    requires sums { troves.old.sums ≡ record { coll = 0; debt = 0; stakes = 0; snap_stakes = 0; snap_coll = 0 } }
+    requires sums { troves.old.sums ≡ record {
+      coll = 0;
+      debt = 0;
+      stakes = 0;
+      snap_stakes = 0;
+      snap_coll = 0;
+    } }
 {
     room(rt, troves, 1);
     troves.set(1, 8_440_000_000, 4_220_000_000);
@@ -198,7 +204,8 @@ fn amounts_and_keys(rt: HostRuntime) {
     );
 }
 
-// Of two troves the first is liquidated: a part of it goes to the Stability Pool, and the second takes over the rest.
+// Of two troves the first is liquidated: a part of it goes to the Stability Pool, and the second
+// takes over the rest.
 const LEFT: Trove = Trove {
     coll: 100_000_000_000,
     debt: 4_220_000_000,
@@ -218,7 +225,13 @@ const LEFT_SUMS: Sums = Sums {
 /// The same from its start.
 fn left<R: Abort>(rt: &R, troves: &mut Troves)
     requires rows { troves.old.table.rows ≡ [] }
-    requires sums { troves.old.sums ≡ record { coll = 0; debt = 0; stakes = 0; snap_stakes = 0; snap_coll = 0 } }
+    requires sums { troves.old.sums ≡ record {
+      coll = 0;
+      debt = 0;
+      stakes = 0;
+      snap_stakes = 0;
+      snap_coll = 0;
+    } }
 {
     room(rt, troves, 1);
     troves.set(1, 10_000_000_000, 4_220_000_000);

@@ -30,8 +30,8 @@ pub struct MadeUpSeat {
     pub faulted: Option<Request>,
 }
 
-/// A desk that replies to so many calls of each session, and then makes trouble. Its watch notes a miss where a call comes with
-/// another hint than the one that was found for it.
+/// A desk that replies to so many calls of each session, and then makes trouble. Its watch notes a
+/// miss where a call comes with another hint than the one that was found for it.
 #[derive(Drop)]
 pub struct MadeUpDesk {
     pub watch: Arc<Watch>,

@@ -1,4 +1,5 @@
-//! The lock at a list of entries: a worked row, threads that take and give many times, and a seat that is out.
+//! The lock at a list of entries: a worked row, threads that take and give many times, and a seat
+//! that is out.
 ghost use Rattle.std.specs.Prelude.{◌≡◌, All};
 ghost use Rattle.liq_lock.specs.Seats.{lock_id, seat_id};
 
@@ -17,7 +18,8 @@ const THREADS: u32 = 8;
 
 const TIMES: u32 = 10_000;
 
-/// The number of the first entry that is out of its maker's order, or of the first clerk that made another number of entries.
+/// The number of the first entry that is out of its maker's order, or of the first clerk that made
+/// another number of entries.
 fn first_odd(ledger: &Ledger) -> u64 {
     let mut counts = [0u32; 9];
     for (place, entry) in ledger.entries.iter().enumerate() {
@@ -33,7 +35,8 @@ fn first_odd(ledger: &Ledger) -> u64 {
     }
 }
 
-/// A lock round an empty ledger with room for one entry, and a clerk for each of its two seats, the first one first.
+/// A lock round an empty ledger with room for one entry, and a clerk for each of its two seats, the
+/// first one first.
 fn two_clerks(rt: &impl Abort, alloc: Global) -> (Lock<Ledger>, Clerk, Clerk)
     ensures first { seat_id result.1.seat ≡ lock_id result.0 }
     ensures second { seat_id result.2.seat ≡ lock_id result.0 }
@@ -64,7 +67,8 @@ struct Seen {
     count: u32,
 }
 
-/// How many entries both seats have seen once they are joined, and the ledger: the lock closes then.
+/// How many entries both seats have seen once they are joined, and the ledger: the lock closes
+/// then.
 fn close_joined(
     rt: &impl Abort,
     lock: Lock<Ledger>,
@@ -82,7 +86,8 @@ fn close_joined(
     }
 }
 
-/// Both seats of a lock: the first makes an entry, cannot close the lock while the second is out, and can once they are joined.
+/// Both seats of a lock: the first makes an entry, cannot close the lock while the second is out,
+/// and can once they are joined.
 fn see_two<R: Abort + Wait>(rt: &R, lock: Lock<Ledger>, first: Clerk, second: Clerk) -> Seen
     requires first { seat_id first.seat ≡ lock_id lock }
     requires second { seat_id second.seat ≡ lock_id lock }
@@ -126,7 +131,8 @@ fn one_entry_and_a_seat_out(rt: HostRuntime) {
     shows(&rt, "the first by clerk 1", seen.by == 1 && seen.count == 1);
 }
 
-/// Two threads look at a value to which one of them has added: how many entries both have seen then, where the lock closes.
+/// Two threads look at a value to which one of them has added: how many entries both have seen
+/// then, where the lock closes.
 fn look_twice<R: Threads + Wait + Sync>(
     rt: &R,
     lock: Lock<Ledger>,

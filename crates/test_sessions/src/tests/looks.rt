@@ -34,11 +34,13 @@ pub fn look_at_once<T: Chronicle + Send, R: Threads + Wait + Sync>(
         rt,
         move || -> LockSeat<T::Item>
             requires { seat_id left ≡ lock_id lock.now }
-            ensures { (seat_id result ≡ lock_id lock.entry.now) × (stands_of result ≡ stands_of left) }
+            ensures { (seat_id result ≡ lock_id lock.entry.now)
+                × (stands_of result ≡ stands_of left) }
         { look(rt, lock, left) },
         move || -> LockSeat<T::Item>
             requires { seat_id right ≡ lock_id lock.now }
-            ensures { (seat_id result ≡ lock_id lock.entry.now) × (stands_of result ≡ stands_of right) }
+            ensures { (seat_id result ≡ lock_id lock.entry.now)
+                × (stands_of result ≡ stands_of right) }
         { look(rt, lock, right) },
     );
     lock.join_seat(left, right)

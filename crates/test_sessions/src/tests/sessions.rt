@@ -88,7 +88,8 @@ fn works(
     works
 }
 
-/// Whether the replies are a session's own, in order, and the calls are those of its script with just these replies.
+/// Whether the replies are a session's own, in order, and the calls are those of its script with
+/// just these replies.
 fn are_made_up(session: u8, replies: &[Reply], calls: &[(Request, Reply)]) -> bool {
     let mut index = 0u64;
     for (reply, (request, given)) in replies.iter().zip(calls.iter()) {
@@ -101,7 +102,8 @@ fn are_made_up(session: u8, replies: &[Reply], calls: &[(Request, Reply)]) -> bo
     replies.len() == calls.len()
 }
 
-/// What a session is to come to: so many replies, then this answer that is none, and the request at which its seat met a fault.
+/// What a session is to come to: so many replies, then this answer that is none, and the request at
+/// which its seat met a fault.
 #[derive(Clone, Copy)]
 struct Wanted {
     replies: usize,
@@ -128,7 +130,8 @@ fn is_done<H: Hinter + Drop>(
         && done.seat.faulted == wanted.faulted
 }
 
-/// The first of the sessions, from 1 on, that came to something else, or made another number of steps.
+/// The first of the sessions, from 1 on, that came to something else, or made another number of
+/// steps.
 fn first_odd(
     done: &[SessionDone<MadeUpDesk, CountedHints>],
     watch: &Watch,
@@ -153,7 +156,8 @@ struct Setting {
     trouble: Trouble,
 }
 
-/// What is seen of sessions: how many there were, the first that is odd, and whether a step was out of its order.
+/// What is seen of sessions: how many there were, the first that is odd, and whether a step was out
+/// of its order.
 #[derive(Clone, Copy)]
 struct Seen {
     sessions: u64,
@@ -254,7 +258,8 @@ fn see_trouble<R: Abort + Threads + Wait + Sync>(
     see(rt, alloc, &setting, 5, &wanted, 16)
 }
 
-/// A session ends at the first answer that is no reply. That call is left too, and no later one is made.
+/// A session ends at the first answer that is no reply. That call is left too, and no later one is
+/// made.
 #[test]
 fn each_trouble(rt: HostRuntime) {
     for (trouble, answer, faulted) in TROUBLES {

@@ -1,4 +1,5 @@
-//! Published views: a row of looks, and finders that look from threads while versions are published.
+//! Published views: a row of looks, and finders that look from threads while versions are
+//! published.
 
 mod at_once;
 mod row;

@@ -8,8 +8,8 @@ use liq_types::{Answer, Command, Hint, Info, Query, Reply, Request};
 use std::alloc::Global;
 use std::test::Fail;
 
-// What a store answers to queries and to a command that comes again, and how many commands it accepted: none where those that it
-// tells are others, or stand on the other disk.
+// What a store answers to queries and to a command that comes again, and how many commands it
+// accepted: none where those that it tells are others, or stand on the other disk.
 #[derive(Clone, Copy)]
 struct Asked {
     answers: [Answer; 5],

@@ -20,7 +20,8 @@ pub fn numbered(alloc: Global, calls: &str) -> Result<String, AllocError> {
 
 /// The commands of these lines, of which none is a rotation.
 pub fn commands_of(alloc: Global, lines: &str) -> Result<Vec<Command>, Fail>
-    ensures { IfOk result (λ commands. All (λ (c : Command). is_rotate c.call ≡ false) commands.items) }
+    ensures { IfOk result (λ commands. All (λ (c : Command). is_rotate c.call
+        ≡ false) commands.items) }
 {
     let mut commands = Vec::new(alloc);
     for line in lines.lines() {

@@ -23,7 +23,8 @@ fn opening(number: u64) -> Request {
     })
 }
 
-// How many changes a store tells, where these are the words before any liquidation and the one trove.
+// How many changes a store tells, where these are the words before any liquidation and the one
+// trove.
 fn told(changes: &[ListChange]) -> u64 {
     match changes {
         [] => 0,
@@ -54,7 +55,8 @@ fn is_trove(change: &ListChange) -> bool {
     )
 }
 
-// What it tells once it is opened, once a trove is, once that is refused, and once the changes were let go.
+// What it tells once it is opened, once a trove is, once that is refused, and once the changes were
+// let go.
 fn tell_each(store: &mut Store<MemoryDisk>) -> [u64; 4] {
     let opened = told(store.changes());
     let _ = store.call(&funding(1), &Hint::NONE);

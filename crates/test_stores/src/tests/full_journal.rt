@@ -113,7 +113,8 @@ fn full_journal(rt: HostRuntime) {
     let seen = see_full::<Brand>(rt.alloc(), Blank::new(1));
     let is_full = seen.told && seen.counts == [1, RECORDS, RECORDS];
     shows(&rt, "each is accepted, and a query answered", is_full);
-    // A price out of range is told before that the journal is full, and the number that came last has its kept reply.
+    // A price out of range is told before that the journal is full, and the number that came last
+    // has its kept reply.
     let expected = [Outcome::Full, Outcome::Range, Outcome::Price];
     shows(&rt, "one more", seen.outcomes == expected);
 }

@@ -7,8 +7,8 @@ use liq_types::{Call, Hint, HintWords};
 /// The accounts on both sides of a place.
 type Sides = (Option<u32>, Option<u32>);
 
-/// What a guide says, if there is one, a command's own words, and between whom the list is asked for a
-/// place then. The hint that is given is always that between 5 and 6, of version 7.
+/// What a guide says, if there is one, a command's own words, and between whom the list is asked
+/// for a place then. The hint that is given is always that between 5 and 6, of version 7.
 type Row = (&'static str, Option<Sides>, Sides, Sides);
 
 const GIVEN: Sides = (Some(5), Some(6));
@@ -38,18 +38,8 @@ const ROWS: [Row; 6] = [
         (Some(3), None),
         (Some(3), None),
     ),
-    (
-        "and the second",
-        None,
-        (None, Some(4)),
-        (None, Some(4)),
-    ),
-    (
-        "the given one counts last",
-        None,
-        (None, None),
-        GIVEN,
-    ),
+    ("and the second", None, (None, Some(4)), (None, Some(4))),
+    ("the given one counts last", None, (None, None), GIVEN),
 ];
 
 fn hint(sides: Sides) -> Hint {

@@ -80,7 +80,8 @@ fn put_trove(calls: &mut String, account: u32) -> Result<(), AllocError> {
 const REVIEWED: &str =
     "1 9910000000000 9910000000000 9909999999999 300000001 22885000000000 22885000000000 22884999999999 3600000015\nwithin 1 of 1\n";
 
-// Whether so many offsets are reviewed as this text, and whether there is no review, since they are more than there may be.
+// Whether so many offsets are reviewed as this text, and whether there is no review, since they are
+// more than there may be.
 fn offsets_reviewed(alloc: Global, count: u32) -> Result<(bool, bool), Fail> {
     let lines = numbered(alloc, &offsets(alloc, count)?)?;
     let commands = commands_of(alloc, &lines)?;

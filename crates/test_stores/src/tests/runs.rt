@@ -69,7 +69,8 @@ pub fn make_calls(alloc: Global, left: MemoryDisk, right: MemoryDisk, calls: u64
     }
 }
 
-/// Makes so many calls on two new disks, of which the left one's device calls of these numbers fail.
+/// Makes so many calls on two new disks, of which the left one's device calls of these numbers
+/// fail.
 pub fn run(alloc: Global, failing: &[u64], calls: u64) -> Result<Made, AllocError> {
     let right = disk(alloc, &[], &[])?;
     Ok(make_calls(alloc, disk(alloc, &[], failing)?, right, calls))

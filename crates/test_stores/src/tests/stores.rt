@@ -33,8 +33,8 @@ fn run_failing(alloc: Global, failing: u64) -> Result<Told, AllocError> {
     })
 }
 
-// An opening of two empty disks makes eleven device calls on the left one, and each accepted command four, of which the
-// last is its second sync.
+// An opening of two empty disks makes eleven device calls on the left one, and each accepted
+// command four, of which the last is its second sync.
 #[test]
 fn the_second_sync_of_the_fifth_call_fails(rt: HostRuntime) -> Result<(), Fail> {
     let answers = [

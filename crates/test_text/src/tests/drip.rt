@@ -42,7 +42,8 @@ impl Drip {
         self.calls
     }
 
-    /// How many bytes were held when a call began; all that were written where there was no such call.
+    /// How many bytes were held when a call began; all that were written where there was no such
+    /// call.
     pub fn before(&self, call: usize) -> usize {
         self.before.get(call).copied().unwrap_or(self.bytes.len())
     }

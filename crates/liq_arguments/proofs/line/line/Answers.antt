@@ -6,9 +6,13 @@ use Rattle.clap.specs.declared.builder.command.Command.TheViews.{out-Command}
 use Rattle.liq_arguments.specs.Line.{load}
 use Rattle.liq_arguments.proofs.line.line.Goals as goal
 
-added : {E : Type 0} (result : Result Command E) (old sub : Command) (before more : App) → IfOk result (λ command. AddsSubcommand old sub command) → (out-Command sub).has_globals ≡ false → app_of old ≡ before → app_of sub ≡ more → IfOk result (λ command. app_of command ≡ with_subcommand before more.top)
+added : {E : Type 0} (result : Result Command E) (old sub : Command) (before more : App)
+    → IfOk result (λ command. AddsSubcommand old sub command) → (out-Command sub).has_globals ≡ false
+    → app_of old ≡ before → app_of sub ≡ more
+    → IfOk result (λ command. app_of command ≡ with_subcommand before more.top)
 added (Ok command) old sub before more adds local old_is sub_is =
-    adds.shape local ∙ ap (λ (a : App). with_subcommand a (shape_of sub)) old_is ∙ ap (λ (a : App). with_subcommand before a.top) sub_is
+    adds.shape local ∙ ap (λ (a : App). with_subcommand a (shape_of sub)) old_is
+    ∙ ap (λ (a : App). with_subcommand before a.top) sub_is
 added (Err e) old sub before more adds local old_is sub_is = tt
 
 pub returns : goal.returns
@@ -21,4 +25,5 @@ returns c =
     let six = c.in_ok-line-6.ensures ∙ ap (λ (a : App). with_subcommand a (new_app (codes "audit")).top) five in
     let seven = c.in_ok-line-7.ensures ∙ ap (λ (a : App). with_subcommand a (new_app (codes "report")).top) six in
     let eight = c.in_ok-line-8.ensures ∙ ap (λ (a : App). with_subcommand a (new_app (codes "follow")).top) seven in
-    added c.subcommand.result c.in_ok-line-8.line c.in_ok-load.field-0 _ load c.subcommand.ensures c.in_ok-load.ensures.local eight c.in_ok-load.ensures.app
+    added c.subcommand.result c.in_ok-line-8.line c.in_ok-load.field-0 _ load c.subcommand.ensures
+    c.in_ok-load.ensures.local eight c.in_ok-load.ensures.app

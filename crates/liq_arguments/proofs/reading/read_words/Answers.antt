@@ -16,7 +16,8 @@ failed c =
     let words = map string_bytes c.args.words.now in
     let asked = c.are_understood.ensures.asks c.if-not-are_understood.false in
     let taken = ap (λ a. takes a words) c.in_ok-line.ensures ∙ are_taken words asked.0 asked.1 in
-    no_memory _ c.from_residual-in_err-matches.result c.from_residual-in_err-matches.ensures.1 (c.in_err-matches.ensures.passes taken)
+    no_memory _ c.from_residual-in_err-matches.result c.from_residual-in_err-matches.ensures.1
+    (c.in_err-matches.ensures.passes taken)
 
 pub returns-in_err-matches-clause-only : goal.returns-in_err-matches-clause-only
 returns-in_err-matches-clause-only c word ask = inr (failed c)
@@ -28,14 +29,17 @@ returns-in_err-matches-clause-usage c =
     (λ usage. absurd (cc (is, usage)), λ none. absurd (none asked.0 asked.1))
 
 -- the answer is the word that was asked
-answered : (c : goal.Joined-matches) → let asked = c.are_understood.ensures.asks c.if-not-are_understood.false in c.ok_or.result ≡ Ok asked.0
+answered : (c : goal.Joined-matches) → let asked = c.are_understood.ensures.asks c.if-not-are_understood.false
+    in c.ok_or.result ≡ Ok asked.0
 answered c =
     let words = map string_bytes c.args.words.now in
     let asked = c.are_understood.ensures.asks (search rules) in
     let simple = ap is_simple c.in_ok-line.ensures ∙ line_is_simple in
-    let found : subcommand_rows_of c.in_ok-matches.matches ≡ subcommand_of line words = (c.in_ok-matches.ensures.matches simple).1 ∙ ap (λ a. subcommand_of a words) c.in_ok-line.ensures in
+    let found : subcommand_rows_of c.in_ok-matches.matches ≡ subcommand_of line words =
+    (c.in_ok-matches.ensures.matches simple).1 ∙ ap (λ a. subcommand_of a words) c.in_ok-line.ensures in
     let read = subst (λ f. HasRead f asked.0) (sym found) (is_read words asked.0 asked.1) in
-    is_word c.word_of.result asked.0 c.ok_or.result (c.word_of.ensures asked.0 (in_range words asked.0 asked.1) read) c.ok_or.ensures.value
+    is_word c.word_of.result asked.0 c.ok_or.result (c.word_of.ensures asked.0 (in_range words asked.0 asked.1) read)
+    c.ok_or.ensures.value
 
 pub returns-clause-word : goal.returns-clause-word
 returns-clause-word c =

@@ -7,7 +7,8 @@ pub returns-in_err-get_str-in-gen-default : goal.returns-in_err-get_str-in-gen-d
 returns-in_err-get_str-in-gen-default c word within read =
     let found = found_of c.in_ok-values.field-0.1.now in
     let is : c.in_ok-values.field-0.0.now ≡ codes "gen" = search rules in
-    let name : Some c.in_ok-values.field-0.0.now ≡ option_map (λ p. p.0) (subcommand_rows_of c.args.matches.now) = search rules in
+    let name : Some c.in_ok-values.field-0.0.now ≡ option_map (λ p. p.0) (subcommand_rows_of c.args.matches.now) =
+    search rules in
     let rows : Some (rows_of found) ≡ option_map (λ p. p.1) (subcommand_rows_of c.args.matches.now) = search rules in
     let v = values_found _ found _ word is name rows within read in
     let none : first_value found (codes "seed") ≡ None = search rules in
@@ -17,7 +18,8 @@ pub returns-in_err-get_str-in-gen-default-2 : goal.returns-in_err-get_str-in-gen
 returns-in_err-get_str-in-gen-default-2 c word within read =
     let found = found_of c.in_ok-values.field-0.1.now in
     let is : c.in_ok-values.field-0.0.now ≡ codes "gen" = search rules in
-    let name : Some c.in_ok-values.field-0.0.now ≡ option_map (λ p. p.0) (subcommand_rows_of c.args.matches.now) = search rules in
+    let name : Some c.in_ok-values.field-0.0.now ≡ option_map (λ p. p.0) (subcommand_rows_of c.args.matches.now) =
+    search rules in
     let rows : Some (rows_of found) ≡ option_map (λ p. p.1) (subcommand_rows_of c.args.matches.now) = search rules in
     let v = values_found _ found _ word is name rows within read in
     let none : first_value found (codes "count") ≡ None = search rules in
@@ -27,7 +29,8 @@ pub returns-in_ok-get_str-in-gen-default-2 : goal.returns-in_ok-get_str-in-gen-d
 returns-in_ok-get_str-in-gen-default-2 c word within read =
     let found = found_of c.in_ok-values.field-0.1.now in
     let is : c.in_ok-values.field-0.0.now ≡ codes "gen" = search rules in
-    let name : Some c.in_ok-values.field-0.0.now ≡ option_map (λ p. p.0) (subcommand_rows_of c.args.matches.now) = search rules in
+    let name : Some c.in_ok-values.field-0.0.now ≡ option_map (λ p. p.0) (subcommand_rows_of c.args.matches.now) =
+    search rules in
     let rows : Some (rows_of found) ≡ option_map (λ p. p.1) (subcommand_rows_of c.args.matches.now) = search rules in
     let v = values_found _ found _ word is name rows within read in
     let seed : first_value found (codes "seed") ≡ Some c.in_ok-get_str-in-gen-default.field-0.now = search rules in

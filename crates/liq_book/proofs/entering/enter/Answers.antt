@@ -3,7 +3,8 @@ use Rattle.liq_book.proofs.entering.enter.Goals as goal
 
 pub returns-in_default-clause-entered : goal.returns-in_default-clause-entered
 returns-in_default-clause-entered g c =
-    not_entered c.args.session c.args.calls c.args.request.now c.call.result c.args.entries.now.items c.in_default.not-Reply
+    not_entered c.args.session c.args.calls c.args.request.now c.call.result c.args.entries.now.items
+    c.in_default.not-Reply
 
 pub returns-in-Reply-clause-store : goal.returns-in-Reply-clause-store
 returns-in-Reply-clause-store g c = record {

@@ -11,7 +11,8 @@ pub returns-clause-seen : goal.returns-clause-seen
 returns-clause-seen g c base b x reader publishes read =
     let publisher : Sight = record { seen = b.published } in
     let begins =
-    c.ends_see_beginnings.ensures.begins x read.views read.rule publisher reader read.publisher.0 read.here.0 read.publisher.1 read.here.1 read.shown in
+    c.ends_see_beginnings.ensures.begins x read.views read.rule publisher reader read.publisher.0 read.here.0
+    read.publisher.1 read.here.1 read.shown in
     seen_version base (map recorded b.book.entries) (all_batches b) reader.seen (begins.0 ++ b.waiting)
     (ap (λ (bs : List Given). bs ++ b.waiting) begins.1 ∙ append_assoc reader.seen begins.0 b.waiting) publishes.each
 
@@ -19,7 +20,10 @@ pub returns-clause-looked : goal.returns-clause-looked
 returns-clause-looked g c base b x reader publishes read looked =
     let publisher : Sight = record { seen = b.published } in
     let all =
-    c.ends_see_beginnings.ensures.looked x read.views read.rule publisher reader read.publisher.0 read.here.0 read.publisher.1 read.here.1 read.shown looked in
+    c.ends_see_beginnings.ensures.looked x read.views read.rule publisher reader read.publisher.0 read.here.0
+    read.publisher.1 read.here.1 read.shown looked in
     let first = publishes.first in
-    subst (λ (seen : List Given). IsVersionOf base (map recorded b.book.entries) (version_after seen)) (sym (all ∙ first.2))
-    (front_version base (map recorded b.book.entries) (all_batches b) first.0 first.1 b.waiting (ap (λ (bs : List Given). bs ++ b.waiting) first.2) publishes.each)
+    subst (λ (seen : List Given). IsVersionOf base (map recorded b.book.entries) (version_after seen)) (sym (all
+    ∙ first.2))
+    (front_version base (map recorded b.book.entries) (all_batches b) first.0 first.1 b.waiting
+    (ap (λ (bs : List Given). bs ++ b.waiting) first.2) publishes.each)

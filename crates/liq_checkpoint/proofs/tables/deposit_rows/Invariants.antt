@@ -4,4 +4,5 @@ use Rattle.liq_checkpoint.proofs.Loop.{with_front}
 use Rattle.liq_checkpoint.proofs.tables.deposit_rows.Given as goal
 
 abbrev pub invariant-loop : goal.invariant-loop
-invariant-loop l = with_front l.rows (rows_at (deposit_at l.end) (l.count - l.counter) l.last l.rest) ≡ rows_at (deposit_at l.end) l.count None l.at
+invariant-loop l = with_front l.rows (rows_at (deposit_at l.end) (l.count - l.counter) l.last l.rest)
+    ≡ rows_at (deposit_at l.end) l.count None l.at

@@ -4,4 +4,5 @@ use Rattle.liq_checkpoint.proofs.Loop.{with_front}
 use Rattle.liq_checkpoint.proofs.tables.surplus_rows.Given as goal
 
 abbrev pub invariant-loop : goal.invariant-loop
-invariant-loop l = with_front l.rows (rows_at (surplus_at l.end) (l.count - l.counter) l.last l.rest) ≡ rows_at (surplus_at l.end) l.count None l.at
+invariant-loop l = with_front l.rows (rows_at (surplus_at l.end) (l.count - l.counter) l.last l.rest)
+    ≡ rows_at (surplus_at l.end) l.count None l.at

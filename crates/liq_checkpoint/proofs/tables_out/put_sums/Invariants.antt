@@ -5,4 +5,5 @@ use Rattle.liq_checkpoint.specs.Spelling.{Puts, finished}
 use Rattle.liq_checkpoint.proofs.tables_out.put_sums.Given as goal
 
 abbrev pub invariant-loop-row : goal.invariant-loop-row
-invariant-loop-row l = Puts l.fn.out.items l.out.items ((8, length l.rows) ∷ flat_map finished (map finished_row (take l.row-index l.rows)))
+invariant-loop-row l = Puts l.fn.out.items l.out.items ((8, length l.rows)
+    ∷ flat_map finished (map finished_row (take l.row-index l.rows)))

@@ -10,9 +10,12 @@ pub returns-then-stands_at : goal.returns-then-stands_at
 returns-then-stands_at c =
     let there = c.stands_at.ensures.within c.if-stands_at.true in
     c.entry_at.ensures
-    ∙ after_same c.args.first c.args.rest.now c.args.place c.args.at c.requires.ascending c.requires.place (sym c.is_before.ensures ∙ c.if-is_before.false) c.args.place there (c.stands_at.ensures.same c.args.place there ∙ c.if-stands_at.true)
+    ∙ after_same c.args.first c.args.rest.now c.args.place c.args.at c.requires.ascending c.requires.place
+    (sym c.is_before.ensures ∙ c.if-is_before.false) c.args.place there (c.stands_at.ensures.same c.args.place there
+    ∙ c.if-stands_at.true)
 
 pub returns-else-stands_at : goal.returns-else-stands_at
 returns-else-stands_at c =
     c.entry_at-else-stands_at.ensures
-    ∙ after_absent c.args.first c.args.rest.now c.args.place c.args.at c.requires.ascending c.requires.place (sym c.is_before.ensures ∙ c.if-is_before.false) (λ d k. c.stands_at.ensures.same d k ∙ c.if-stands_at.false)
+    ∙ after_absent c.args.first c.args.rest.now c.args.place c.args.at c.requires.ascending c.requires.place
+    (sym c.is_before.ensures ∙ c.if-is_before.false) (λ d k. c.stands_at.ensures.same d k ∙ c.if-stands_at.false)

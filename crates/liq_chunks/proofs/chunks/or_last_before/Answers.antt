@@ -15,10 +15,13 @@ returns-in-None-2 c =
     let next : suc i ≡ c.args.chunk = omega arith in
     let first = c.index.result.now in
     let rest = c.index-in-None-2.result.now in
-    let last = c.last_in.ensures ∙ ap (λ (f : Ranked). last_or f c.deref.result.now) c.index.ensures ∙ ap (λ (l : List Ranked). last_or (get_or fs i first) l) (c.deref.ensures.value ∙ read_rest c.args.rests.now.items i rest (omega arith) c.index-in-None-2.ensures) in
+    let last = c.last_in.ensures ∙ ap (λ (f : Ranked). last_or f c.deref.result.now) c.index.ensures
+    ∙ ap (λ (l : List Ranked). last_or (get_or fs i first) l) (c.deref.ensures.value
+    ∙ read_rest c.args.rests.now.items i rest (omega arith) c.index-in-None-2.ensures) in
     ap (λ (e : Ranked). Some e) last
     ∙ sym (
-    ap (λ (o : Option Ranked). option_or o (last_of (joined (take c.args.chunk fs) (take c.args.chunk rs)))) c.in-None-2.is
+    ap (λ (o : Option Ranked). option_or o (last_of (joined (take c.args.chunk fs) (take c.args.chunk rs))))
+    c.in-None-2.is
     ∙ ap (λ n. last_of (joined (take n fs) (take n rs))) (sym next)
     ∙ last_joined fs rs i first (omega arith) (c.requires.len ∙ sym (length-map c.args.rests.now.items items_of))
     )

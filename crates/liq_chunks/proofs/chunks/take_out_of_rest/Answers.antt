@@ -5,7 +5,8 @@ use Rattle.liq_chunks.proofs.chunks.take_out_of_rest.Goals as goal
 
 pub remove-requires : goal.remove-requires
 remove-requires c =
-    let there = subst (λ (l : List Ranked). c.place_in-at.result < length l) c.deref-2.ensures.value (c.stands_at.ensures.within c.if-not-stands_at.false) in
+    let there = subst (λ (l : List Ranked). c.place_in-at.result < length l) c.deref-2.ensures.value
+    (c.stands_at.ensures.within c.if-not-stands_at.false) in
     omega (arith, c.args.rest.now.ok.0)
 
 pub returns-clause-left : goal.returns-clause-left
@@ -14,8 +15,10 @@ returns-clause-left c =
     let at = c.place_in-at.result in
     let e = c.args.entry in
     let place = place_of c.deref.result.now list e at c.deref.ensures.value c.place_in-at.ensures in
-    let there = subst (λ (l : List Ranked). at < length l) c.deref-2.ensures.value (c.stands_at.ensures.within c.if-not-stands_at.false) in
-    let same = is_there c.deref-2.result.now list e at c.stands_at.result c.deref-2.ensures.value c.stands_at.ensures.same in
+    let there = subst (λ (l : List Ranked). at < length l) c.deref-2.ensures.value
+    (c.stands_at.ensures.within c.if-not-stands_at.false) in
+    let same = is_there c.deref-2.result.now list e at c.stands_at.result c.deref-2.ensures.value
+    c.stands_at.ensures.same in
     c.remove.ensures.items ∙ left_at list e at c.requires place there (same e there ∙ c.if-not-stands_at.false)
 
 pub returns-then-not-stands_at-clause-left : goal.returns-then-not-stands_at-clause-left
@@ -24,5 +27,6 @@ returns-then-not-stands_at-clause-left c =
     let at = c.place_in-at.result in
     let e = c.args.entry in
     let place = place_of c.deref.result.now list e at c.deref.ensures.value c.place_in-at.ensures in
-    let same = is_there c.deref-2.result.now list e at c.stands_at.result c.deref-2.ensures.value c.stands_at.ensures.same in
+    let same = is_there c.deref-2.result.now list e at c.stands_at.result c.deref-2.ensures.value
+    c.stands_at.ensures.same in
     left_absent list e at c.requires place (λ d k. same d k ∙ c.if-not-stands_at.true)

@@ -13,9 +13,11 @@ returns-in_err-account c =
 
 pub before-next-requires : goal.before-next-requires
 before-next-requires c =
-    stands_in c.args.order.now.entries c.loop.counter c.in_ok-account.account (sym c.loop.invariant ∙ c.in_ok-account.was)
+    stands_in c.args.order.now.entries c.loop.counter c.in_ok-account.account (sym c.loop.invariant
+    ∙ c.in_ok-account.was)
 
 pub loop-preserved : goal.loop-preserved
 loop-preserved c =
     c.before-next.ensures
-    ∙ next_behind c.args.order.now.entries c.loop.counter c.in_ok-account.account c.requires (sym c.loop.invariant ∙ c.in_ok-account.was)
+    ∙ next_behind c.args.order.now.entries c.loop.counter c.in_ok-account.account c.requires (sym c.loop.invariant
+    ∙ c.in_ok-account.was)

@@ -11,7 +11,8 @@ returns-in_default c =
     let few = c.loop-at.invariant.few in
     let none = none_left rest c.loop-at.at (sym c.loop-at.invariant.next ∙ c.in_default.is) in
     let low = c.loop-at-test.true in
-    c.loop-at.invariant.written ∙ laid_all rest c.args.places.now c.loop-at.at (omega (arith, few, none)) (omega (arith, low))
+    c.loop-at.invariant.written ∙ laid_all rest c.args.places.now c.loop-at.at (omega (arith, few, none))
+    (omega (arith, low))
 
 pub before-next-requires : goal.before-next-requires
 before-next-requires c =

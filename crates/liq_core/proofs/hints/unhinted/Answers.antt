@@ -7,12 +7,20 @@ use Rattle.liq_core.proofs.hints.unhinted.Goals as goal
 
 pub returns-clause-ruling : goal.returns-clause-ruling
 returns-clause-ruling c s =
-    ap (λ (call : Call). ruling s (record { client = c.args.command.now.client; number = c.args.command.now.number; call = call })) c.unhinted_call.ensures
+    ap (λ (call : Call). ruling s (record {
+      client = c.args.command.now.client;
+      number = c.args.command.now.number;
+      call = call;
+    })) c.unhinted_call.ensures
     ∙ ruling_same s c.args.command.now.client c.args.command.now.number c.args.command.now.call
 
 pub returns-clause-after : goal.returns-clause-after
 returns-clause-after c s =
-    ap (λ (call : Call). after s (record { client = c.args.command.now.client; number = c.args.command.now.number; call = call })) c.unhinted_call.ensures
+    ap (λ (call : Call). after s (record {
+      client = c.args.command.now.client;
+      number = c.args.command.now.number;
+      call = call;
+    })) c.unhinted_call.ensures
     ∙ after_same s c.args.command.now.client c.args.command.now.number c.args.command.now.call
 
 pub returns-clause-events : goal.returns-clause-events

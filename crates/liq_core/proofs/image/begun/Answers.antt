@@ -17,23 +17,33 @@ use Rattle.liq_core.proofs.image.begun.Goals as goal
 pub order_of-requires-clause-keys : goal.order_of-requires-clause-keys
 order_of-requires-clause-keys c =
     let i = c.args.image.now in
-    subst (λ (t : Table Trove). AllByRecursion (λ (row : ℕ × Trove). HasKey row.1) t) (sym (c.deref.ensures.value ∙ c.in_ok-rows.ensures)) (have_keys i c.args.records c.requires)
+    subst (λ (t : Table Trove). AllByRecursion (λ (row : ℕ × Trove). HasKey row.1) t) (sym (c.deref.ensures.value
+    ∙ c.in_ok-rows.ensures)) (have_keys i c.args.records c.requires)
 
 pub order_of-requires-clause-once : goal.order_of-requires-clause-once
 order_of-requires-clause-once c =
-    subst (λ (t : Table Trove). AreDistinct (ranks t)) (sym (c.deref.ensures.value ∙ c.in_ok-rows.ensures)) (ranks_once c.args.image.now.troves c.requires.tables.troves)
+    subst (λ (t : Table Trove). AreDistinct (ranks t)) (sym (c.deref.ensures.value ∙ c.in_ok-rows.ensures))
+    (ranks_once c.args.image.now.troves c.requires.tables.troves)
 
 pub from_rows-requires : goal.from_rows-requires
-from_rows-requires c = subst (λ (t : Table Trove). AreSoundRows t (sums_by c.args.image.now)) (sym c.in_ok-rows.ensures) (rows_sound c.args.image.now c.args.records c.requires)
+from_rows-requires c = subst (λ (t : Table Trove). AreSoundRows t (sums_by c.args.image.now)) (sym c.in_ok-rows.ensures)
+    (rows_sound c.args.image.now c.args.records c.requires)
 
 pub pool_of-requires-clause-pool : goal.pool_of-requires-clause-pool
 pool_of-requires-clause-pool c = pool_sound c.args.image.now c.args.records c.requires
 
-made : (c : goal.After-pools_of) → with_pools (made_of c.args.image.now c.in_ok-wallets.wallets.rows c.in_ok-troves.troves.table.rows c.in_ok-troves.troves.sums c.in_ok-pool.pool.words c.in_ok-pool.pool.finished c.in_ok-pool.pool.deposits.rows c.in_ok-surplus.surplus.rows c.in_ok-clients.clients.rows) c.pools_of.result ≡ c.args.image.now
+made : (c : goal.After-pools_of)
+    → with_pools (made_of c.args.image.now c.in_ok-wallets.wallets.rows c.in_ok-troves.troves.table.rows
+    c.in_ok-troves.troves.sums c.in_ok-pool.pool.words c.in_ok-pool.pool.finished c.in_ok-pool.pool.deposits.rows
+    c.in_ok-surplus.surplus.rows c.in_ok-clients.clients.rows) c.pools_of.result ≡ c.args.image.now
 made c =
     let i = c.args.image.now in
-    ap (λ (p : Pools). with_pools (made_of i c.in_ok-wallets.wallets.rows c.in_ok-troves.troves.table.rows c.in_ok-troves.troves.sums c.in_ok-pool.pool.words c.in_ok-pool.pool.finished c.in_ok-pool.pool.deposits.rows c.in_ok-surplus.surplus.rows c.in_ok-clients.clients.rows) p) c.pools_of.ensures
-    ∙ made_again i c.in_ok-wallets.wallets.rows c.in_ok-troves.troves.table.rows c.in_ok-troves.troves.sums c.in_ok-pool.pool.words c.in_ok-pool.pool.finished c.in_ok-pool.pool.deposits.rows c.in_ok-surplus.surplus.rows c.in_ok-clients.clients.rows
+    ap (λ (p : Pools). with_pools (made_of i c.in_ok-wallets.wallets.rows c.in_ok-troves.troves.table.rows
+    c.in_ok-troves.troves.sums c.in_ok-pool.pool.words c.in_ok-pool.pool.finished c.in_ok-pool.pool.deposits.rows
+    c.in_ok-surplus.surplus.rows c.in_ok-clients.clients.rows) p) c.pools_of.ensures
+    ∙ made_again i c.in_ok-wallets.wallets.rows c.in_ok-troves.troves.table.rows c.in_ok-troves.troves.sums
+    c.in_ok-pool.pool.words c.in_ok-pool.pool.finished c.in_ok-pool.pool.deposits.rows c.in_ok-surplus.surplus.rows
+    c.in_ok-clients.clients.rows
     c.in_ok-wallets.ensures
     (c.in_ok-troves.ensures.rows ∙ c.in_ok-rows.ensures)
     c.in_ok-troves.ensures.sums
@@ -47,7 +57,8 @@ pub invariant_of-result : goal.invariant_of-result
 invariant_of-result c =
     record {
       image = subst (λ (i : Image). IsSoundImage i c.args.records) (sym (made c)) c.requires;
-      order = c.in_ok-order.ensures ∙ ap order_by (c.deref.ensures.value ∙ c.in_ok-rows.ensures ∙ sym (c.in_ok-troves.ensures.rows ∙ c.in_ok-rows.ensures));
+      order = c.in_ok-order.ensures ∙ ap order_by (c.deref.ensures.value ∙ c.in_ok-rows.ensures
+          ∙ sym (c.in_ok-troves.ensures.rows ∙ c.in_ok-rows.ensures));
     }
 
 pub returns-clause-image : goal.returns-clause-image

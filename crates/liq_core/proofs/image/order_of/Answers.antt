@@ -9,5 +9,6 @@ from_ranked-requires c = subst AreDistinct (sym c.in_ok-pairs.ensures) c.require
 
 pub returns : goal.returns
 returns c =
-    IfOk-weaker c.from_ranked.result (λ order. order.entries ≡ sorted c.in_ok-pairs.pairs.items) (λ order. order.entries ≡ order_by c.args.troves.now)
+    IfOk-weaker c.from_ranked.result (λ order. order.entries ≡ sorted c.in_ok-pairs.pairs.items) (λ order. order.entries
+    ≡ order_by c.args.troves.now)
     (λ order e. e ∙ ap (λ pairs. sorted pairs) c.in_ok-pairs.ensures) c.from_ranked.ensures

@@ -10,4 +10,5 @@ returns-clause-same c limit known requests same account =
 pub returns-clause-stands : goal.returns-clause-stands
 returns-clause-stands c limit known requests stands account =
     let itself = c.protocols_stand.ensures in
-    same_shares limit known requests (state_of c.args.protocol.now) itself.formed (sym itself.image ∙ stands.image) account
+    same_shares limit known requests (state_of c.args.protocol.now) itself.formed (sym itself.image
+    ∙ stands.image) account

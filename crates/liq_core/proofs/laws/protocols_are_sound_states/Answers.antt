@@ -8,4 +8,5 @@ use Rattle.liq_core.proofs.laws.protocols_are_sound_states.Goals as goal
 pub returns : goal.returns
 returns c =
     let core = core_of c.protocol.inside in
-    subst (λ (now : Core). IsSoundState (state_of now)) c.protocol.view_is (started_with core.image core.records c.protocol.invariant.image)
+    subst (λ (now : Core). IsSoundState (state_of now)) c.protocol.view_is
+    (started_with core.image core.records c.protocol.invariant.image)

@@ -6,4 +6,5 @@ use Rattle.liq_core.proofs.laws.protocols_stand.Goals as goal
 
 pub returns : goal.returns
 returns c =
-    subst (λ (core : Core). StandsFor core (state_of core)) c.protocol.view_is (sound_stands (core_of c.protocol.inside) c.protocol.invariant.image)
+    subst (λ (core : Core). StandsFor core (state_of core)) c.protocol.view_is (sound_stands (core_of c.protocol.inside)
+    c.protocol.invariant.image)

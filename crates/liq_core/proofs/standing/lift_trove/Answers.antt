@@ -15,7 +15,8 @@ lift-requires-clause-listed c =
     (listed_where c.args.troves.now.table.rows c.args.account c.requires.held.stand.ascend c.requires.there)
 
 pub returns-clause-others : goal.returns-clause-others
-returns-clause-others c = others_of c.args.pools.now c.lift.new.pools (books_kept c.lift.new.troves c.lift.new.pools) c.lift.ensures.rest
+returns-clause-others c = others_of c.args.pools.now c.lift.new.pools (books_kept c.lift.new.troves c.lift.new.pools)
+    c.lift.ensures.rest
 
 pub returns-clause-list : goal.returns-clause-list
 returns-clause-list c =

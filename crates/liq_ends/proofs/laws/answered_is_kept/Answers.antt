@@ -7,7 +7,8 @@ use Rattle.liq_ends.specs.Output.{lines}
 use Rattle.liq_ends.proofs.laws.answered_is_kept.Goals as goal
 
 -- fewer requests have no longer replies
-no_longer : (start : State) (n m : ℕ) (requests : List Request) → n ≤ m → length (lines start (take n requests)) ≤ length (lines start (take m requests))
+no_longer : (start : State) (n m : ℕ) (requests : List Request) → n ≤ m → length (lines start (take n requests))
+    ≤ length (lines start (take m requests))
 no_longer start zero m requests le = omega arith
 no_longer start (suc n) zero requests le = absurd (omega (arith, le))
 no_longer start (suc n) (suc m) [] le = omega arith
@@ -15,7 +16,12 @@ no_longer start (suc n) (suc m) (q ∷ requests) le =
     let reply = reply_line (step start q).1 in
     let later = (step start q).0 in
     let rest = no_longer later n m requests (omega (arith, le)) in
-    omega (arith, rest, length-append reply (lines later (take n requests)), length-append reply (lines later (take m requests)))
+    omega (
+      arith,
+      rest,
+      length-append reply (lines later (take n requests)),
+      length-append reply (lines later (take m requests)),
+    )
 
 more_than : (start : State) (requests : List Request) (before held n m : ℕ)
     → (held ≤ before + length (lines start (take n requests))) ⊎ (n ≡ length requests) → m < length requests

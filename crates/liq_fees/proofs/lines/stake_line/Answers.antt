@@ -9,4 +9,5 @@ use Rattle.liq_fees.proofs.lines.stake_line.Goals as goal
 pub returns-in_err-at : goal.returns-in_err-at
 returns-in_err-at c =
     let words = pieces_of c.args.line.now in
-    c.from_residual.ensures ∙ none_from (line_of words) (λ l e. c.in_err-at.ensures (ap length (line_takes words l e).3))
+    c.from_residual.ensures
+    ∙ none_from (line_of words) (λ l e. c.in_err-at.ensures (ap length (line_takes words l e).3))

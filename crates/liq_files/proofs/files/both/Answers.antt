@@ -9,27 +9,43 @@ use Rattle.liq_files.proofs.Openings.{both_taken, rightly_along, turn_of_right}
 use Rattle.liq_files.proofs.files.both.Goals as goal
 
 pub returns-in_err-left-clause-opens : goal.returns-in_err-left-clause-opens
-returns-in_err-left-clause-opens g c = λ t h. c.taken.ensures.opens t tt (rightly_along _ _ (c.behind-3.ensures t) (rightly_along _ _ (c.behind-2.ensures t) (rightly_along _ _ (c.behind.ensures t) (rightly_along _ _ (c.user.ensures t) h))))
+returns-in_err-left-clause-opens g c = λ t h. c.taken.ensures.opens t tt (rightly_along _ _ (c.behind-3.ensures t)
+    (rightly_along _ _ (c.behind-2.ensures t) (rightly_along _ _ (c.behind.ensures t)
+    (rightly_along _ _ (c.user.ensures t) h))))
 
 pub returns-in_err-right-clause-opens : goal.returns-in_err-right-clause-opens
 returns-in_err-right-clause-opens g c = λ t h.
-    let turn = turn_of_right c.in_ok-user.user _ c.in_ok-left.found (g.S.System.asked c.taken.new.system) c.in_ok-left.left.device c.in_ok-left.ensures.there (c.in_ok-left.ensures.taken t) in
-    c.taken-2.ensures.opens t turn (c.taken.ensures.opens t tt (rightly_along _ _ (c.behind-3.ensures t) (rightly_along _ _ (c.behind-2.ensures t) (rightly_along _ _ (c.behind.ensures t) (rightly_along _ _ (c.user.ensures t) h)))))
+    let turn = turn_of_right c.in_ok-user.user _ c.in_ok-left.found (g.S.System.asked c.taken.new.system)
+    c.in_ok-left.left.device c.in_ok-left.ensures.there (c.in_ok-left.ensures.taken t) in
+    c.taken-2.ensures.opens t turn (c.taken.ensures.opens t tt (rightly_along _ _ (c.behind-3.ensures t)
+    (rightly_along _ _ (c.behind-2.ensures t) (rightly_along _ _ (c.behind.ensures t)
+    (rightly_along _ _ (c.user.ensures t) h)))))
 
 pub returns-then-not-sync_folder-clause-opens : goal.returns-then-not-sync_folder-clause-opens
 returns-then-not-sync_folder-clause-opens g c = λ t h.
-    let turn = turn_of_right c.in_ok-user.user _ c.in_ok-left.found (g.S.System.asked c.taken.new.system) c.in_ok-left.left.device c.in_ok-left.ensures.there (c.in_ok-left.ensures.taken t) in
-    rightly_along _ _ (c.sync_folder.ensures t) (c.taken-2.ensures.opens t turn (c.taken.ensures.opens t tt (rightly_along _ _ (c.behind-3.ensures t) (rightly_along _ _ (c.behind-2.ensures t) (rightly_along _ _ (c.behind.ensures t) (rightly_along _ _ (c.user.ensures t) h))))))
+    let turn = turn_of_right c.in_ok-user.user _ c.in_ok-left.found (g.S.System.asked c.taken.new.system)
+    c.in_ok-left.left.device c.in_ok-left.ensures.there (c.in_ok-left.ensures.taken t) in
+    rightly_along _ _ (c.sync_folder.ensures t) (c.taken-2.ensures.opens t turn (c.taken.ensures.opens t tt
+    (rightly_along _ _ (c.behind-3.ensures t) (rightly_along _ _ (c.behind-2.ensures t)
+    (rightly_along _ _ (c.behind.ensures t) (rightly_along _ _ (c.user.ensures t) h))))))
 
 pub returns-then-not-sync_folder-2-clause-opens : goal.returns-then-not-sync_folder-2-clause-opens
 returns-then-not-sync_folder-2-clause-opens g c = λ t h.
-    let turn = turn_of_right c.in_ok-user.user _ c.in_ok-left.found (g.S.System.asked c.taken.new.system) c.in_ok-left.left.device c.in_ok-left.ensures.there (c.in_ok-left.ensures.taken t) in
-    rightly_along _ _ (c.sync_folder-2.ensures t) (rightly_along _ _ (c.sync_folder.ensures t) (c.taken-2.ensures.opens t turn (c.taken.ensures.opens t tt (rightly_along _ _ (c.behind-3.ensures t) (rightly_along _ _ (c.behind-2.ensures t) (rightly_along _ _ (c.behind.ensures t) (rightly_along _ _ (c.user.ensures t) h)))))))
+    let turn = turn_of_right c.in_ok-user.user _ c.in_ok-left.found (g.S.System.asked c.taken.new.system)
+    c.in_ok-left.left.device c.in_ok-left.ensures.there (c.in_ok-left.ensures.taken t) in
+    rightly_along _ _ (c.sync_folder-2.ensures t) (rightly_along _ _ (c.sync_folder.ensures t)
+    (c.taken-2.ensures.opens t turn (c.taken.ensures.opens t tt (rightly_along _ _ (c.behind-3.ensures t)
+    (rightly_along _ _ (c.behind-2.ensures t) (rightly_along _ _ (c.behind.ensures t)
+    (rightly_along _ _ (c.user.ensures t) h)))))))
 
 pub returns-clause-opens : goal.returns-clause-opens
 returns-clause-opens g c = λ t h.
-    let turn = turn_of_right c.in_ok-user.user _ c.in_ok-left.found (g.S.System.asked c.taken.new.system) c.in_ok-left.left.device c.in_ok-left.ensures.there (c.in_ok-left.ensures.taken t) in
-    rightly_along _ _ (c.sync_folder-2.ensures t) (rightly_along _ _ (c.sync_folder.ensures t) (c.taken-2.ensures.opens t turn (c.taken.ensures.opens t tt (rightly_along _ _ (c.behind-3.ensures t) (rightly_along _ _ (c.behind-2.ensures t) (rightly_along _ _ (c.behind.ensures t) (rightly_along _ _ (c.user.ensures t) h)))))))
+    let turn = turn_of_right c.in_ok-user.user _ c.in_ok-left.found (g.S.System.asked c.taken.new.system)
+    c.in_ok-left.left.device c.in_ok-left.ensures.there (c.in_ok-left.ensures.taken t) in
+    rightly_along _ _ (c.sync_folder-2.ensures t) (rightly_along _ _ (c.sync_folder.ensures t)
+    (c.taken-2.ensures.opens t turn (c.taken.ensures.opens t tt (rightly_along _ _ (c.behind-3.ensures t)
+    (rightly_along _ _ (c.behind-2.ensures t) (rightly_along _ _ (c.behind.ensures t)
+    (rightly_along _ _ (c.user.ensures t) h)))))))
 
 pub returns-clause-taken : goal.returns-clause-taken
 returns-clause-taken g c = λ t.
@@ -46,7 +62,8 @@ returns-clause-taken g c = λ t.
     let since3 : Earlier s3 s6 = onward (one (c.behind-3.ensures t)) since4 in
     let since2 : Earlier s2 s6 = onward (one (c.behind-2.ensures t)) since3 in
     let since1 : Earlier s1 s6 = onward (one (c.behind.ensures t)) since2 in
-    both_taken c.in_ok-user.user c.in_ok-input.input c.in_ok-output.output c.in_ok-errors.errors c.in_ok-left.found c.in_ok-right.field-0-1
+    both_taken c.in_ok-user.user c.in_ok-input.input c.in_ok-output.output c.in_ok-errors.errors c.in_ok-left.found
+    c.in_ok-right.field-0-1
     c.in_ok-left.left.device c.in_ok-right.right.device s5 s6 (asked c.sync_folder-2.new.self) since5
     (c.in_ok-left.ensures.taken t)
     (c.in_ok-right.ensures.taken t)
@@ -56,4 +73,5 @@ returns-clause-taken g c = λ t.
     (still since4 (last (c.behind-3.ensures t ∙ ap (λ (a : Option FileId). Behind Errors a ∷ s3) c.in_ok-errors.was)))
     (c.sync_folder-2.ensures t
     ∙ ap (λ (b : Bool). Synced Right b ∷ s7) c.if-not-sync_folder-2.false
-    ∙ ap (λ (x : List Asked). Synced Right true ∷ x) (c.sync_folder.ensures t ∙ ap (λ (b : Bool). Synced Left b ∷ s6) c.if-not-sync_folder.false))
+    ∙ ap (λ (x : List Asked). Synced Right true ∷ x) (c.sync_folder.ensures t
+    ∙ ap (λ (b : Bool). Synced Left b ∷ s6) c.if-not-sync_folder.false))

@@ -17,7 +17,8 @@ returns-clause-opens g c = λ t turn h.
     let asked = g.S.System.asked in
     let old = asked c.args.system.now in
     let looked = c.look.ensures t in
-    let regular = saw_regular c.args.name c.look.result old (asked c.look.new.self) looked (c.in_ok-look.was ∙ ap Ok c.if-not-branch.false) in
+    let regular = saw_regular c.args.name c.look.result old (asked c.look.new.self) looked (c.in_ok-look.was
+    ∙ ap Ok c.if-not-branch.false) in
     opens c.args.name _ c.open.result (asked c.look.new.self) (asked c.open.new.self) (c.open.ensures t) (record {
       keeps = (refl, refl, refl);
       there_or_made = inl (refl, regular);

@@ -8,5 +8,6 @@ abbrev pub invariant-loop : goal.invariant-loop
 invariant-loop g l = record {
   since : g.S.System.tells → Earlier (g.S.System.asked l.fn.system) (g.S.System.asked l.system);
   opens : g.S.System.tells → OpensWell (g.S.System.asked l.fn.system) → OpensWell (g.S.System.asked l.system);
-  leads : g.S.System.tells → Leads l.user (path_buf_bytes l.fn.name) (path_buf_bytes l.path) (g.S.System.asked l.system);
+  leads : g.S.System.tells → Leads l.user (path_buf_bytes l.fn.name) (path_buf_bytes l.path)
+      (g.S.System.asked l.system);
 }

@@ -26,7 +26,8 @@ returns-clause-leads g c = λ t.
       path = text;
       seen = seen;
       before = asked c.args.system.now;
-      looked = was_last (saw c.text.result.now text c.see.result seen (asked c.args.system.now) (asked c.see.new.self) (c.see.ensures t) c.text.ensures c.in_ok-seen.was);
+      looked = was_last (saw c.text.result.now text c.see.result seen (asked c.args.system.now) (asked c.see.new.self)
+          (c.see.ensures t) c.text.ensures c.in_ok-seen.was);
       leads = here;
       is_no_link = c.if-seen.false;
       same = refl;

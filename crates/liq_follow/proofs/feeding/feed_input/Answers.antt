@@ -8,7 +8,8 @@ pub returns-in_err-piece-clause-fed : goal.returns-in_err-piece-clause-fed
 returns-in_err-piece-clause-fed g c =
     let start = (g.S.Source.at c.args.input.now).left in
     let same : c.from_residual.result ≡ Err NoMemory = search rules in
-    subst (λ (end : Result (Unit {0}) Halt). Came end start start c.args.follower.now) (sym same) (none_read start c.args.follower.now)
+    subst (λ (end : Result (Unit {0}) Halt). Came end start start c.args.follower.now) (sym same)
+    (none_read start c.args.follower.now)
 
 pub loop-room-init : goal.loop-room-init
 loop-room-init g c = record {

@@ -9,4 +9,5 @@ returns-clause-fed c fed is =
     let end = c.feed-end.result.end in
     subst (λ r. FedPiece r (fed ++ c.args.piece.now) c.feed-end.new.self) (sym c.end_of_feed.ensures)
     (fed_piece c.feed-end.result.taken fed c.args.piece.now end c.feed-end.new.self (e.fed fed is) (e.end fed is) e.all
-    (λ over. let h = e.first fed is over in (h.front, h.last, h.are, (h.state, h.lead))) e.memory (λ none. e.right none fed is))
+    (λ over. let h = e.first fed is over in (h.front, h.last, h.are, (h.state, h.lead))) e.memory
+    (λ none. e.right none fed is))

@@ -3,7 +3,9 @@ use Rattle.liq_follower.proofs.Tests.{tested_by, undigested}
 use Rattle.liq_follower.proofs.record.tested.Goals as goal
 
 pub returns-then-not-has_digest-clause-tested : goal.returns-then-not-has_digest-clause-tested
-returns-then-not-has_digest-clause-tested c = undigested c.args.index c.args.raw.now (sym c.has_digest.ensures ∙ c.if-not-has_digest.true)
+returns-then-not-has_digest-clause-tested c = undigested c.args.index c.args.raw.now (sym c.has_digest.ensures
+    ∙ c.if-not-has_digest.true)
 
 pub returns-clause-tested : goal.returns-clause-tested
-returns-clause-tested c = tested_by c.args.index c.args.raw.now c.spelled.result c.spelled.ensures.spelled (sym c.has_digest.ensures ∙ c.if-not-has_digest.false)
+returns-clause-tested c = tested_by c.args.index c.args.raw.now c.spelled.result c.spelled.ensures.spelled
+    (sym c.has_digest.ensures ∙ c.if-not-has_digest.false)

@@ -11,18 +11,22 @@ use mir.Val.{SFits}
 
 -- what does not fit is below or above
 not_above : (key : ℤ) → (SFits w64 key → ⊥) → key <ℤ pos 0 → key <ℤ neg_ℤ (pos (2 ^ 63))
-not_above key out low = by (int_cmp key (neg_ℤ (pos (2 ^ 63)))) (int_ranked key (neg_ℤ (pos (2 ^ 63))) (int_cmp key (neg_ℤ (pos (2 ^ 63)))) refl) where
-  by : (o : Ordering) → MatchOrdering o (key <ℤ neg_ℤ (pos (2 ^ 63))) (key ≡ neg_ℤ (pos (2 ^ 63))) (neg_ℤ (pos (2 ^ 63)) <ℤ key) → key <ℤ neg_ℤ (pos (2 ^ 63))
-  by Less h = h
-  by Equal h = absurd (out (record { sfits = omega (arith, ints, h, low) }))
-  by Greater h = absurd (out (record { sfits = omega (arith, ints, h, low) }))
+not_above key out low = by (int_cmp key (neg_ℤ (pos (2 ^ 63)))) (int_ranked key (neg_ℤ (pos (2 ^ 63)))
+    (int_cmp key (neg_ℤ (pos (2 ^ 63)))) refl) where
+      by : (o : Ordering) → MatchOrdering o (key <ℤ neg_ℤ (pos (2 ^ 63))) (key ≡ neg_ℤ (pos (2 ^ 63)))
+          (neg_ℤ (pos (2 ^ 63)) <ℤ key) → key <ℤ neg_ℤ (pos (2 ^ 63))
+      by Less h = h
+      by Equal h = absurd (out (record { sfits = omega (arith, ints, h, low) }))
+      by Greater h = absurd (out (record { sfits = omega (arith, ints, h, low) }))
 
 not_below : (key : ℤ) → (SFits w64 key → ⊥) → pos 0 ≤ℤ key → pos (2 ^ 63) ≤ℤ key
-not_below key out high = by (int_cmp key (pos (2 ^ 63))) (int_ranked key (pos (2 ^ 63)) (int_cmp key (pos (2 ^ 63))) refl) where
-  by : (o : Ordering) → MatchOrdering o (key <ℤ pos (2 ^ 63)) (key ≡ pos (2 ^ 63)) (pos (2 ^ 63) <ℤ key) → pos (2 ^ 63) ≤ℤ key
-  by Less h = absurd (out (record { sfits = omega (arith, ints, h, high) }))
-  by Equal h = omega (arith, ints, h)
-  by Greater h = omega (arith, ints, h)
+not_below key out high = by (int_cmp key (pos (2 ^ 63))) (int_ranked key (pos (2 ^ 63)) (int_cmp key (pos (2 ^ 63)))
+    refl) where
+      by : (o : Ordering) → MatchOrdering o (key <ℤ pos (2 ^ 63)) (key ≡ pos (2 ^ 63)) (pos (2 ^ 63) <ℤ key)
+          → pos (2 ^ 63) ≤ℤ key
+      by Less h = absurd (out (record { sfits = omega (arith, ints, h, high) }))
+      by Equal h = omega (arith, ints, h)
+      by Greater h = omega (arith, ints, h)
 
 pub returns-in-Ok : goal.returns-in-Ok
 returns-in-Ok c =

@@ -11,4 +11,5 @@ pub returns-clause-absent : goal.returns-clause-absent
 returns-clause-absent c = found_absent
 
 pub returns-clause-open_on : goal.returns-clause-open_on
-returns-clause-open_on c = λ odd held w found. let h = (is_open odd held w found).headed in look_open odd held h.gate h.tests ∙ ap (λ (g : ℕ). Ok (Open g)) h.generation_is
+returns-clause-open_on c = λ odd held w found. let h = (is_open odd held w found).headed
+    in look_open odd held h.gate h.tests ∙ ap (λ (g : ℕ). Ok (Open g)) h.generation_is

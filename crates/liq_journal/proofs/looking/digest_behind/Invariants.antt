@@ -9,7 +9,8 @@ invariant-loop-done g l = record {
   looked : Looked g.D.Disk.at l.fn.disk l.disk;
   still : (g.D.Disk.at l.disk).faults ≡ (g.D.Disk.at l.fn.disk).faults;
   within : l.done ≤ l.size;
-  read : IfSome (g.D.Disk.at l.fn.disk).seen (λ held. l.place + l.size ≤ length held → Holds256 l.hasher (l.fields ++ piece l.place l.done held));
+  read : IfSome (g.D.Disk.at l.fn.disk).seen (λ held. l.place + l.size ≤ length held
+      → Holds256 l.hasher (l.fields ++ piece l.place l.done held));
 }
 
 abbrev pub decreases-loop-done : goal.decreases-loop-done

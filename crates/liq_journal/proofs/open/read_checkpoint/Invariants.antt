@@ -9,7 +9,8 @@ invariant-loop-at g l = record {
   still : (g.D.Disk.at l.disk).faults ≡ (g.D.Disk.at l.fn.disk).faults;
   done : l.at ≡ l.place + length l.checkpoint.items;
   within : l.at ≤ l.end;
-  read : IfSome (g.D.Disk.at l.fn.disk).seen (λ held. l.place + l.size ≤ length held → l.checkpoint.items ≡ piece l.place (length l.checkpoint.items) held);
+  read : IfSome (g.D.Disk.at l.fn.disk).seen (λ held. l.place + l.size ≤ length held
+      → l.checkpoint.items ≡ piece l.place (length l.checkpoint.items) held);
 }
 
 abbrev pub decreases-loop-at : goal.decreases-loop-at

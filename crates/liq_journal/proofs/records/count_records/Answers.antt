@@ -14,24 +14,39 @@ loop-count-init g c = record {
 }
 
 pub returns-in-Ok-None-clause-looked : goal.returns-in-Ok-None-clause-looked
-returns-in-Ok-None-clause-looked g c = looked_on g.D.Disk.at c.args.disk.now c.loop-count.disk c.read_record.new.disk c.loop-count.invariant.looked c.read_record.ensures.looked
+returns-in-Ok-None-clause-looked g c = looked_on g.D.Disk.at c.args.disk.now c.loop-count.disk c.read_record.new.disk
+    c.loop-count.invariant.looked c.read_record.ensures.looked
 
 pub returns-in-Ok-None-clause-counted : goal.returns-in-Ok-None-clause-counted
-returns-in-Ok-None-clause-counted g c = told_end (g.D.Disk.at c.args.disk.now).seen (g.D.Disk.at c.loop-count.disk).seen c.loop-count.invariant.looked.same c.args.generation c.args.start c.loop-count.count (omega arith) c.loop-count.invariant.read (subst (λ (b : Option (List ℕ)). IfSome (g.D.Disk.at c.loop-count.disk).seen (λ held. IsTested c.args.generation (c.loop-count.count + 1) (c.args.start + 129 * c.loop-count.count) held b)) c.in-Ok-None.field-0-is c.in-Ok-None.ensures.tested)
+returns-in-Ok-None-clause-counted g c = told_end (g.D.Disk.at c.args.disk.now).seen (g.D.Disk.at c.loop-count.disk).seen
+    c.loop-count.invariant.looked.same c.args.generation c.args.start c.loop-count.count
+    (omega arith) c.loop-count.invariant.read
+    (subst (λ (b : Option (List ℕ)). IfSome (g.D.Disk.at c.loop-count.disk).seen (λ held. IsTested c.args.generation
+    (c.loop-count.count + 1) (c.args.start + 129 * c.loop-count.count) held b)) c.in-Ok-None.field-0-is
+    c.in-Ok-None.ensures.tested)
 
 pub returns-in-Err-clause-looked : goal.returns-in-Err-clause-looked
-returns-in-Err-clause-looked g c = looked_on g.D.Disk.at c.args.disk.now c.loop-count.disk c.read_record.new.disk c.loop-count.invariant.looked c.read_record.ensures.looked
+returns-in-Err-clause-looked g c = looked_on g.D.Disk.at c.args.disk.now c.loop-count.disk c.read_record.new.disk
+    c.loop-count.invariant.looked c.read_record.ensures.looked
 
 pub returns-in-Err-clause-fault : goal.returns-in-Err-clause-fault
-returns-in-Err-clause-fault g c = told_fault (g.D.Disk.at c.args.disk.now).seen (g.D.Disk.at c.loop-count.disk).seen c.loop-count.invariant.looked.same c.args.generation c.args.start c.loop-count.count c.in-Err.why (omega arith) c.loop-count.invariant.read c.in-Err.ensures.fault
+returns-in-Err-clause-fault g c = told_fault (g.D.Disk.at c.args.disk.now).seen (g.D.Disk.at c.loop-count.disk).seen
+    c.loop-count.invariant.looked.same c.args.generation c.args.start c.loop-count.count c.in-Err.why
+    (omega arith) c.loop-count.invariant.read c.in-Err.ensures.fault
 
 pub loop-count-preserved : goal.loop-count-preserved
 loop-count-preserved g c = record {
-  looked = looked_on g.D.Disk.at c.args.disk.now c.loop-count.disk c.read_record.new.disk c.loop-count.invariant.looked c.read_record.ensures.looked;
+  looked = looked_on g.D.Disk.at c.args.disk.now c.loop-count.disk c.read_record.new.disk c.loop-count.invariant.looked
+      c.read_record.ensures.looked;
   part = c.read_record.ensures.part;
   still = c.in-Ok-Some.ensures.cause ∙ c.loop-count.invariant.still;
-  read = told_more (g.D.Disk.at c.args.disk.now).seen (g.D.Disk.at c.loop-count.disk).seen c.loop-count.invariant.looked.same c.args.generation c.args.start c.loop-count.count c.in-Ok-Some.field-0-0 c.loop-count.invariant.read (subst (λ (b : Option (List ℕ)). IfSome (g.D.Disk.at c.loop-count.disk).seen (λ held. IsTested c.args.generation (c.loop-count.count + 1) (c.args.start + 129 * c.loop-count.count) held b)) c.in-Ok-Some.field-0-is c.in-Ok-Some.ensures.tested);
+  read = told_more (g.D.Disk.at c.args.disk.now).seen (g.D.Disk.at c.loop-count.disk).seen
+      c.loop-count.invariant.looked.same c.args.generation c.args.start c.loop-count.count c.in-Ok-Some.field-0-0
+      c.loop-count.invariant.read (subst (λ (b : Option (List ℕ)). IfSome (g.D.Disk.at c.loop-count.disk).seen
+      (λ held. IsTested c.args.generation (c.loop-count.count + 1) (c.args.start + 129 * c.loop-count.count) held b))
+      c.in-Ok-Some.field-0-is c.in-Ok-Some.ensures.tested);
 }
 
 pub returns-clause-counted : goal.returns-clause-counted
-returns-clause-counted g c = told_full (g.D.Disk.at c.args.disk.now).seen c.args.generation c.args.start c.loop-count.count (omega arith) c.loop-count.invariant.read
+returns-clause-counted g c = told_full (g.D.Disk.at c.args.disk.now).seen c.args.generation c.args.start
+    c.loop-count.count (omega arith) c.loop-count.invariant.read

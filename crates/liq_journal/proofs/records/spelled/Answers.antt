@@ -3,4 +3,5 @@ use Rattle.liq_journal.proofs.Bodies.{spells}
 use Rattle.liq_journal.proofs.records.spelled.Goals as goal
 
 pub returns-in_default : goal.returns-in_default
-returns-in_default c = spells c.args.generation c.args.index c.args.place c.args.raw.now.body c.args.raw.now.stored c.tested.result (search rules) c.tested.ensures
+returns-in_default c = spells c.args.generation c.args.index c.args.place c.args.raw.now.body c.args.raw.now.stored
+    c.tested.result (search rules) c.tested.ensures

@@ -21,16 +21,19 @@ pub hand_on-requires-clause-fits : goal.hand_on-requires-clause-fits
 hand_on-requires-clause-fits c = (due _ _ _ c.args.victim.now c.requires.planned c.lift.ensures.books).fits
 
 pub hand_on-requires-clause-coll : goal.hand_on-requires-clause-coll
-hand_on-requires-clause-coll c = omega (arith, (due _ _ _ c.args.victim.now c.requires.planned c.lift.ensures.books).coll, c.requires.within.coll)
+hand_on-requires-clause-coll c =
+    omega (arith, (due _ _ _ c.args.victim.now c.requires.planned c.lift.ensures.books).coll, c.requires.within.coll)
 
 pub hand_on-requires-clause-debt : goal.hand_on-requires-clause-debt
-hand_on-requires-clause-debt c = omega (arith, (due _ _ _ c.args.victim.now c.requires.planned c.lift.ensures.books).debt, c.requires.within.debt)
+hand_on-requires-clause-debt c =
+    omega (arith, (due _ _ _ c.args.victim.now c.requires.planned c.lift.ensures.books).debt, c.requires.within.debt)
 
 pub returns-clause-words : goal.returns-clause-words
 returns-clause-words c =
     elim c.if-one-gt0.branch [
       | then-one-gt0 w ↦
-          rw w.stability-is (w.offset.ensures.words ∙ sym (taken c.args.victim.now.one.offset_debt _ _ w.if-one-gt0.true))
+          rw w.stability-is (w.offset.ensures.words
+          ∙ sym (taken c.args.victim.now.one.offset_debt _ _ w.if-one-gt0.true))
       | else-one-gt0 w ↦
           rw w.stability-is (sym (not_taken c.args.victim.now.one.offset_debt _ _ w.if-one-gt0.false))
     ]
@@ -40,7 +43,8 @@ returns-clause-finished c =
     let with = finished_with c.args.stability.now.finished in
     elim c.if-one-gt0.branch [
       | then-one-gt0 w ↦
-          rw w.stability-is (w.offset.ensures.finished ∙ ap with (sym (taken c.args.victim.now.one.offset_debt _ _ w.if-one-gt0.true)))
+          rw w.stability-is (w.offset.ensures.finished
+          ∙ ap with (sym (taken c.args.victim.now.one.offset_debt _ _ w.if-one-gt0.true)))
       | else-one-gt0 w ↦
           rw w.stability-is (ap with (sym (not_taken c.args.victim.now.one.offset_debt _ _ w.if-one-gt0.false)))
     ]
@@ -50,8 +54,10 @@ returns-clause-spare c =
     elim c.if-one-gt0.branch [
       | then-one-gt0 w ↦
           rw w.stability-is
-          (ap (λ o. w.offset.new.self.spare + room_for o) (taken c.args.victim.now.one.offset_debt _ _ w.if-one-gt0.true) ∙ w.offset.ensures.spare)
+          (ap (λ o. w.offset.new.self.spare + room_for o) (taken c.args.victim.now.one.offset_debt _ _
+          w.if-one-gt0.true) ∙ w.offset.ensures.spare)
       | else-one-gt0 w ↦
           rw w.stability-is
-          (ap (λ o. c.args.stability.now.spare + room_for o) (not_taken c.args.victim.now.one.offset_debt _ _ w.if-one-gt0.false) ∙ omega arith)
+          (ap (λ o. c.args.stability.now.spare + room_for o) (not_taken c.args.victim.now.one.offset_debt _ _
+          w.if-one-gt0.false) ∙ omega arith)
     ]

@@ -11,7 +11,8 @@ use Rattle.liq_liquidation.proofs.laws.moments_follow_states.Goals as goal
 
 pub returns-clause-sound : goal.returns-clause-sound
 returns-clause-sound c = λ s sound market coll debt.
-    sound_from (market_of s) (books_of s) (pool_total s) market (sym (map-length (trove_row s) s.troves)) coll debt (record { stands = sound.troves; coll = refl; debt = refl })
+    sound_from (market_of s) (books_of s) (pool_total s) market (sym (map-length (trove_row s) s.troves)) coll debt
+    (record { stands = sound.troves; coll = refl; debt = refl })
 
 pub returns-clause-plan : goal.returns-clause-plan
 returns-clause-plan c = plan_is

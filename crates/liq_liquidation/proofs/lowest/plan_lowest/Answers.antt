@@ -25,4 +25,5 @@ returns-clause-state c = λ s parts sound.
     ∙ ap (λ (x : Table Trove). plan_from (moment_by (market_of s) (sums_words s) x words) n) parts.troves_are
     ∙ ap (λ (x : PoolWords). plan_from (moment_by (market_of s) (sums_words s) (trove_rows s) x) n) parts.words_are
     ∙ sym (plan_is s n sound) in
-    subst (λ (plan : Result (List Victim) Refusal). MatchResult c.lowest_from.result (λ v. plan ≡ Ok v.items) (IsFaultOf plan)) same c.lowest_from.ensures
+    subst (λ (plan : Result (List Victim) Refusal). MatchResult c.lowest_from.result (λ v. plan ≡ Ok v.items)
+    (IsFaultOf plan)) same c.lowest_from.ensures

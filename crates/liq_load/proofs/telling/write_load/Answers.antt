@@ -12,4 +12,5 @@ returns-clause-written g c =
     let done = c.in_ok-carried_out.ensures in
     line_written requests _ _ c.write_text.result (g.K.Sink.at c.args.out.now).held
     (g.K.Sink.at c.write_text.new.out).held done.1
-    (c.as_bytes.ensures.value ∙ c.in_ok-line.ensures (run opening requests).0 done.0) c.write_text.ensures.ok c.write_text.ensures.err
+    (c.as_bytes.ensures.value ∙ c.in_ok-line.ensures (run opening requests).0 done.0) c.write_text.ensures.ok
+    c.write_text.ensures.err

@@ -11,7 +11,8 @@ returns-in-Ok c =
     let core = c.args.market.now.core in
     let listed = λ (k : Core). (s : State) → StandsFor k s → k.list ≡ trove_order s in
     let saved =
-    subst (λ (bytes : List ℕ). IsSave bytes core.image core.records) (sym c.deref.ensures.value) c.in_ok-bytes.ensures in
+    subst (λ (bytes : List ℕ). IsSave bytes core.image core.records) (sym c.deref.ensures.value) c.in_ok-bytes.ensures
+    in
     let loaded = c.in-Ok.ensures.save core.image core.records saved in (
       same_content core c.in-Ok.again.core loaded.0 loaded.1
           (subst (λ (k : Core). StandsFor k (state_of k)) c.protocol-2.ensures c.protocols_stand.ensures)

@@ -10,6 +10,7 @@ use Rattle.liq_market.proofs.lists.wallet_accounts.Goals as goal
 pub returns : goal.returns
 returns c =
     items_from_collect {E = Unit {0}} (Ok c.in_ok-collect.field-0) c.in_ok-collect.ensures.ran
-    (YieldsList-from_map _ (λ row. (wallet_row row).0) (YieldsList-from_slice c.rows.result.now cc) refl (λ x r q k. search rules))
+    (YieldsList-from_map _ (λ row. (wallet_row row).0) (YieldsList-from_slice c.rows.result.now cc) refl
+    (λ x r q k. search rules))
     ∙ sym (map-map (λ (e : ℕ × Wallet). e.0) wallet_row c.rows.result.now)
     ∙ ap (λ (t : Table Wallet). keys_of t) c.rows.ensures

@@ -6,16 +6,31 @@ use Rattle.liq_order.proofs.Chained.{rows_from_next}
 use Rattle.liq_order.proofs.at_once.rows_of.Goals as goal
 
 pub push_reserved-requires : goal.push_reserved-requires
-push_reserved-requires c = omega (arith, c.loop-at.invariant.count, c.loop-at.invariant.room, c.loop-at-test.true, c.loop-at.auto.at-end)
+push_reserved-requires c = omega (
+  arith,
+  c.loop-at.invariant.count,
+  c.loop-at.invariant.room,
+  c.loop-at-test.true,
+  c.loop-at.auto.at-end,
+)
 
 pub loop-at-preserved : goal.loop-at-preserved
 loop-at-preserved c = record {
   rows =
       c.push_reserved.ensures.items
-      ∙ rows_from_next c.loop-at.at c.args.entries.now (pos 0, 0) (omega (arith, c.loop-at-test.true, c.loop-at.auto.at-end)) c.loop-at.rows.items c.loop-at.invariant.rows;
+      ∙ rows_from_next c.loop-at.at c.args.entries.now (pos 0, 0) (omega (
+        arith,
+        c.loop-at-test.true,
+        c.loop-at.auto.at-end,
+      )) c.loop-at.rows.items c.loop-at.invariant.rows;
   count = omega (arith, c.push_reserved.ensures.len, c.loop-at.invariant.count);
   room = omega (arith, c.push_reserved.ensures.capacity, c.loop-at.invariant.room);
 }
 
 pub returns : goal.returns
-returns c = c.loop-at.invariant.rows ∙ ap (λ (es : List Ranked). rows_from 0 es) (take_all c.loop-at.at c.args.entries.now (omega (arith, c.loop-at-test.false, c.loop-at.auto.at-end)))
+returns c = c.loop-at.invariant.rows
+    ∙ ap (λ (es : List Ranked). rows_from 0 es) (take_all c.loop-at.at c.args.entries.now (omega (
+      arith,
+      c.loop-at-test.false,
+      c.loop-at.auto.at-end,
+    )))

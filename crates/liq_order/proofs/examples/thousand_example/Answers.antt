@@ -30,7 +30,8 @@ loop-account-preserved g c =
     let steps = few (subst (λ k. IsTight list (k, n) c.checked_sub.result None) (sym c.from.ensures) hint) in
     let next : suc n ≡ n + 1 = omega arith in
     record {
-      list = put ∙ ap (λ k. with_ranked list (k, n)) c.from.ensures ∙ ap (λ l. with_ranked l (entry n n)) is ∙ rising_more n ∙ ap (λ k. rising k) next;
+      list = put ∙ ap (λ k. with_ranked list (k, n)) c.from.ensures ∙ ap (λ l. with_ranked l (entry n n)) is
+          ∙ rising_more n ∙ ap (λ k. rising k) next;
       room = omega (arith, c.insert.ensures.room, c.loop-account.invariant.room);
       steps = omega (arith, steps, c.loop-account.invariant.steps);
     }

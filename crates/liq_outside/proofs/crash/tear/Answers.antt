@@ -20,26 +20,57 @@ loop-note-init c = record {
 
 pub loop-note-preserved-in-Tried : goal.loop-note-preserved-in-Tried
 loop-note-preserved-in-Tried c =
-    let steps = last_step c.loop-note.notes.items c.pop.new.self.items c.in-Some.note c.in-Some.ensures.items ∙ ap (λ (m : Made). step_of m ∷ steps_of c.pop.new.self.items) c.in-Tried.is in
-    back_tried c.args.bytes.now.items (steps_of c.args.notes.items) c.requires c.loop-note.bytes.items c.tear_range.new.bytes.items (steps_of c.loop-note.notes.items) (steps_of c.pop.new.self.items) c.loop-note.least c.in-Tried.at c.in-Tried.count c.loop-note.invariant c.tear_range.ensures.torn steps
+    let steps = last_step c.loop-note.notes.items c.pop.new.self.items c.in-Some.note c.in-Some.ensures.items
+    ∙ ap (λ (m : Made). step_of m ∷ steps_of c.pop.new.self.items) c.in-Tried.is in
+    back_tried c.args.bytes.now.items (steps_of c.args.notes.items) c.requires c.loop-note.bytes.items
+    c.tear_range.new.bytes.items (steps_of c.loop-note.notes.items) (steps_of c.pop.new.self.items) c.loop-note.least
+    c.in-Tried.at c.in-Tried.count c.loop-note.invariant c.tear_range.ensures.torn steps
 
 pub loop-note-preserved : goal.loop-note-preserved
 loop-note-preserved c =
-    let steps = last_step c.loop-note.notes.items c.pop.new.self.items c.in-Some.note c.in-Some.ensures.items ∙ ap (λ (m : Made). step_of m ∷ steps_of c.pop.new.self.items) c.in-Wrote.is in
-    back_wrote c.args.bytes.now.items (steps_of c.args.notes.items) c.requires c.loop-note.bytes.items c.tear_range-in-Wrote.new.bytes.items (steps_of c.loop-note.notes.items) (steps_of c.pop.new.self.items) c.loop-note.least c.in-Wrote.at c.in-Wrote.count c.loop-note.invariant c.tear_range-in-Wrote.ensures.torn c.in-Wrote.over.items (c.min.result + c.len.result + c.saturating_sub-behind.result) steps (search rules)
+    let steps = last_step c.loop-note.notes.items c.pop.new.self.items c.in-Some.note c.in-Some.ensures.items
+    ∙ ap (λ (m : Made). step_of m ∷ steps_of c.pop.new.self.items) c.in-Wrote.is in
+    back_wrote c.args.bytes.now.items (steps_of c.args.notes.items) c.requires c.loop-note.bytes.items
+    c.tear_range-in-Wrote.new.bytes.items (steps_of c.loop-note.notes.items) (steps_of c.pop.new.self.items)
+    c.loop-note.least c.in-Wrote.at c.in-Wrote.count c.loop-note.invariant c.tear_range-in-Wrote.ensures.torn
+    c.in-Wrote.over.items (c.min.result + c.len.result + c.saturating_sub-behind.result) steps (search rules)
 
 pub returns-in-1 : goal.returns-in-1
 returns-in-1 c =
-    let left = λ (is : synced_length c.args.bytes.now.items (steps_of c.args.notes.items) ≡ c.loop-note.least). subst (λ (l : List ℕ). MayBeLeft c.args.bytes.now.items (steps_of c.args.notes.items) l) (sym c.truncate.ensures.items) (cut_back c.args.bytes.now.items (steps_of c.args.notes.items) c.loop-note.bytes.items (steps_of c.loop-note.notes.items) c.loop-note.least c.loop-note.least c.requires c.loop-note.invariant is (omega arith)) in
+    let left = λ (is : synced_length c.args.bytes.now.items (steps_of c.args.notes.items) ≡ c.loop-note.least).
+    subst (λ (l : List ℕ). MayBeLeft c.args.bytes.now.items (steps_of c.args.notes.items) l)
+    (sym c.truncate.ensures.items) (cut_back c.args.bytes.now.items (steps_of c.args.notes.items)
+    c.loop-note.bytes.items (steps_of c.loop-note.notes.items) c.loop-note.least c.loop-note.least c.requires
+    c.loop-note.invariant is (omega arith)) in
     elim c.match-pop.branch [
-      | in-Some+in-Synced w ↦ left (ended c.args.bytes.now.items (steps_of c.args.notes.items) c.loop-note.bytes.items (steps_of c.loop-note.notes.items) c.loop-note.least c.loop-note.invariant (inr (steps_of c.pop.new.self.items, last_step c.loop-note.notes.items c.pop.new.self.items w.in-Some.note w.in-Some.ensures.items ∙ ap (λ (m : Made). step_of m ∷ steps_of c.pop.new.self.items) w.in-Synced.is)))
-      | in_default w ↦ let none = w.in_default.ensures.cases in left (ended c.args.bytes.now.items (steps_of c.args.notes.items) c.loop-note.bytes.items (steps_of c.loop-note.notes.items) c.loop-note.least c.loop-note.invariant (inl (ap steps_of (nil_from_length c.loop-note.notes.items (search (rules, w.in_default.ensures.cases))))))
+      | in-Some+in-Synced w ↦ left (ended c.args.bytes.now.items (steps_of c.args.notes.items) c.loop-note.bytes.items
+          (steps_of c.loop-note.notes.items) c.loop-note.least c.loop-note.invariant (inr (
+            steps_of c.pop.new.self.items,
+            last_step c.loop-note.notes.items c.pop.new.self.items w.in-Some.note w.in-Some.ensures.items
+                ∙ ap (λ (m : Made). step_of m ∷ steps_of c.pop.new.self.items) w.in-Synced.is,
+          )))
+      | in_default w ↦ let none = w.in_default.ensures.cases
+          in left (ended c.args.bytes.now.items (steps_of c.args.notes.items) c.loop-note.bytes.items
+          (steps_of c.loop-note.notes.items) c.loop-note.least c.loop-note.invariant
+          (inl (ap steps_of (nil_from_length c.loop-note.notes.items (search (rules, w.in_default.ensures.cases))))))
     ]
 
 pub returns-in-2 : goal.returns-in-2
 returns-in-2 c =
-    let left = λ (is : synced_length c.args.bytes.now.items (steps_of c.args.notes.items) ≡ c.loop-note.least). subst (λ (l : List ℕ). MayBeLeft c.args.bytes.now.items (steps_of c.args.notes.items) l) (sym c.truncate-in-2.ensures.items) (cut_back c.args.bytes.now.items (steps_of c.args.notes.items) c.loop-note.bytes.items (steps_of c.loop-note.notes.items) c.loop-note.least (c.loop-note.least + c.saturating_sub-more.result / 2) c.requires c.loop-note.invariant is (omega arith)) in
+    let left = λ (is : synced_length c.args.bytes.now.items (steps_of c.args.notes.items) ≡ c.loop-note.least).
+    subst (λ (l : List ℕ). MayBeLeft c.args.bytes.now.items (steps_of c.args.notes.items) l)
+    (sym c.truncate-in-2.ensures.items) (cut_back c.args.bytes.now.items (steps_of c.args.notes.items)
+    c.loop-note.bytes.items (steps_of c.loop-note.notes.items) c.loop-note.least (c.loop-note.least
+    + c.saturating_sub-more.result / 2) c.requires c.loop-note.invariant is (omega arith)) in
     elim c.match-pop.branch [
-      | in-Some+in-Synced w ↦ left (ended c.args.bytes.now.items (steps_of c.args.notes.items) c.loop-note.bytes.items (steps_of c.loop-note.notes.items) c.loop-note.least c.loop-note.invariant (inr (steps_of c.pop.new.self.items, last_step c.loop-note.notes.items c.pop.new.self.items w.in-Some.note w.in-Some.ensures.items ∙ ap (λ (m : Made). step_of m ∷ steps_of c.pop.new.self.items) w.in-Synced.is)))
-      | in_default w ↦ let none = w.in_default.ensures.cases in left (ended c.args.bytes.now.items (steps_of c.args.notes.items) c.loop-note.bytes.items (steps_of c.loop-note.notes.items) c.loop-note.least c.loop-note.invariant (inl (ap steps_of (nil_from_length c.loop-note.notes.items (search (rules, w.in_default.ensures.cases))))))
+      | in-Some+in-Synced w ↦ left (ended c.args.bytes.now.items (steps_of c.args.notes.items) c.loop-note.bytes.items
+          (steps_of c.loop-note.notes.items) c.loop-note.least c.loop-note.invariant (inr (
+            steps_of c.pop.new.self.items,
+            last_step c.loop-note.notes.items c.pop.new.self.items w.in-Some.note w.in-Some.ensures.items
+                ∙ ap (λ (m : Made). step_of m ∷ steps_of c.pop.new.self.items) w.in-Synced.is,
+          )))
+      | in_default w ↦ let none = w.in_default.ensures.cases
+          in left (ended c.args.bytes.now.items (steps_of c.args.notes.items) c.loop-note.bytes.items
+          (steps_of c.loop-note.notes.items) c.loop-note.least c.loop-note.invariant
+          (inl (ap steps_of (nil_from_length c.loop-note.notes.items (search (rules, w.in_default.ensures.cases))))))
     ]

@@ -9,7 +9,8 @@ invariant-loop-count g l = record {
   same : g.V.Device.held l.device ≡ g.V.Device.held l.fn.device;
   kept : g.V.Device.synced l.device ≡ g.V.Device.synced l.fn.device;
   none_failed : g.V.Device.failures l.device ≡ g.V.Device.failures l.fn.device;
-  read : l.at + length l.fn.buf ≤ 2 ^ 64 → IfSome (g.V.Device.held l.fn.device) (λ old. (l.count ≤ length old - l.at) × (take l.count l.buf ≡ take l.count (drop l.at old)));
+  read : l.at + length l.fn.buf ≤ 2 ^ 64 → IfSome (g.V.Device.held l.fn.device) (λ old. (l.count ≤ length old - l.at)
+      × (take l.count l.buf ≡ take l.count (drop l.at old)));
 }
 
 abbrev pub decreases-loop-count : goal.decreases-loop-count

@@ -10,7 +10,8 @@ invariant-loop-count g l = record {
   telling : is_some (g.V.Device.held l.device) ≡ is_some (g.V.Device.held l.fn.device);
   kept : g.V.Device.synced l.device ≡ g.V.Device.synced l.fn.device;
   none_failed : g.V.Device.failures l.device ≡ g.V.Device.failures l.fn.device;
-  written : (old : List ℕ) → g.V.Device.held l.fn.device ≡ Some old → l.at ≤ length old → g.V.Device.held l.device ≡ Some (overwritten old l.at (take l.count l.bytes));
+  written : (old : List ℕ) → g.V.Device.held l.fn.device ≡ Some old → l.at ≤ length old → g.V.Device.held l.device
+      ≡ Some (overwritten old l.at (take l.count l.bytes));
 }
 
 abbrev pub decreases-loop-count : goal.decreases-loop-count

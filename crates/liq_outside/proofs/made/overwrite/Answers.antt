@@ -11,7 +11,8 @@ returns-in-Ok-clause-written c =
     let bytes : List ℕ = c.args.bytes.now in
     let inside = c.min-stop.result - c.args.at in
     let grown = c.in_ok-extend_from_slice-2.ensures.items ∙ ap (λ (l : List ℕ). held ++ l) (take_rest bytes inside) in
-    c.replace.ensures ∙ laid held bytes c.extend_from_slice-2.new.self.items (take inside bytes) c.args.at inside c.requires.inside (omega (arith, c.min-stop.ensures, c.len-len.ensures)) grown refl
+    c.replace.ensures ∙ laid held bytes c.extend_from_slice-2.new.self.items (take inside bytes) c.args.at inside
+    c.requires.inside (omega (arith, c.min-stop.ensures, c.len-len.ensures)) grown refl
 
 pub returns-in-Ok-clause-noted : goal.returns-in-Ok-clause-noted
 returns-in-Ok-clause-noted c =
@@ -22,11 +23,16 @@ returns-in-Ok-clause-noted c =
     c.in_ok-extend_from_slice.ensures.items
     ∙ ap (λ (l : List ℕ). l ++ take part (drop c.args.at c.deref.result.now)) c.new-over.ensures.items
     ∙ ap (λ (l : List ℕ). take part (drop c.args.at l)) c.deref.ensures.value
-    ∙ replaced held c.args.at (length c.args.bytes.now) c.min-stop.result (omega (arith, c.min-stop.ensures, c.len-len.ensures)) in
+    ∙ replaced held c.args.at (length c.args.bytes.now) c.min-stop.result (omega (
+      arith,
+      c.min-stop.ensures,
+      c.len-len.ensures,
+    )) in
     (note.0, note.1, note.2 ∙ ap (Wrote c.args.at (length c.args.bytes.now)) over)
 
 pub returns-in-Err-clause-not_written : goal.returns-in-Err-clause-not_written
 returns-in-Err-clause-not_written c =
     let held : List ℕ = c.args.held.now.items in
     let long : c.len-len.result ≡ length held = omega (arith, c.len-len.ensures) in
-    c.truncate.ensures.items ∙ ap (λ (n : ℕ). take n c.extend_from_slice-2.new.self.items) long ∙ ap (take (length held)) c.in_ok-extend_from_slice-2.ensures.items ∙ take-append_seam held _
+    c.truncate.ensures.items ∙ ap (λ (n : ℕ). take n c.extend_from_slice-2.new.self.items) long
+    ∙ ap (take (length held)) c.in_ok-extend_from_slice-2.ensures.items ∙ take-append_seam held _

@@ -17,6 +17,7 @@ returns-clause-rotated c =
 pub returns-clause-from_version_1 : goal.returns-clause-from_version_1
 returns-clause-from_version_1 c =
     let checkpoint = spelling (rotated_at 1000000000) in
-    made_rotation (opening_with LIM_OF_VERSION_1) rotate checkpoint (opening_formed LIM_OF_VERSION_1) (omega arith) refl refl
+    made_rotation (opening_with LIM_OF_VERSION_1) rotate checkpoint (opening_formed LIM_OF_VERSION_1)
+    (omega arith) refl refl
     refl
     (rotated_read LIM (inr refl) 1000000000 (omega arith) checkpoint refl) refl

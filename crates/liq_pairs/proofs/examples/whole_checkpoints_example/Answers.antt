@@ -29,7 +29,8 @@ returns-clause-another c =
 
 pub returns-clause-unsound : goal.returns-clause-unsound
 returns-clause-unsound c =
-    read_as (beginning 2 (spelling (rotated_at 0))) LIM 0 (inr refl) (omega arith) (λ first. absurd (omega (arith, first)))
+    read_as (beginning 2 (spelling (rotated_at 0))) LIM 0 (inr refl) (omega arith)
+    (λ first. absurd (omega (arith, first)))
     refl
 
 pub returns-clause-foreign : goal.returns-clause-foreign

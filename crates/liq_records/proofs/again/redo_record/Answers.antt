@@ -7,11 +7,15 @@ use Rattle.liq_records.proofs.again.redo_record.Goals as goal
 
 pub returns-in-Err-clause-replayed : goal.returns-in-Err-clause-replayed
 returns-in-Err-clause-replayed g c held w s k told journal recorded stands =
-    let room : c.args.index ≤ length w.commands = (let h = slice_get_within w.commands (c.args.index - 1) k recorded in omega arith) in
+    let room : c.args.index ≤ length w.commands = (let h = slice_get_within w.commands (c.args.index - 1) k recorded
+    in omega arith) in
     unread s k c.args.index c.args.protocol.now c.in-Err.why (c.in-Err.ensures.readable held w told journal room)
 
 pub returns-clause-replayed : goal.returns-clause-replayed
 returns-clause-replayed g c held w s k told journal recorded stands =
-    let room : c.args.index ≤ length w.commands = (let h = slice_get_within w.commands (c.args.index - 1) k recorded in omega arith) in
-    let same = same_record w.commands (c.args.index - 1) c.in-Ok.command k (c.in-Ok.ensures.command held w told journal room) recorded in
-    subst (λ (d : Command). IsOutcome s d c.args.index c.redo.new.protocol c.redo.result) same (c.redo.ensures.outcome s stands)
+    let room : c.args.index ≤ length w.commands = (let h = slice_get_within w.commands (c.args.index - 1) k recorded
+    in omega arith) in
+    let same = same_record w.commands (c.args.index - 1) c.in-Ok.command k (c.in-Ok.ensures.command held w told journal
+    room) recorded in
+    subst (λ (d : Command). IsOutcome s d c.args.index c.redo.new.protocol c.redo.result) same
+    (c.redo.ensures.outcome s stands)

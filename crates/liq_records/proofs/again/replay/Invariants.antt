@@ -16,5 +16,7 @@ invariant-loop-done g l = record {
   still : (g.D.Disk.at l.journal.disk).faults ≡ (g.D.Disk.at l.fn.journal.disk).faults;
   counted : l.protocol.records ≡ l.fn.protocol.records + l.done;
   generation : l.protocol.image.generation ≡ l.fn.protocol.image.generation;
-  reached : (held : List ℕ) (w : Written) (s : State) → (g.D.Disk.at l.fn.journal.disk).seen ≡ Some held → IsJournalOf l.fn.journal.generation l.fn.journal.start held w → length w.commands ≡ l.fn.journal.count → StandsFor l.fn.protocol s → Reached s w.commands l.done l.protocol;
+  reached : (held : List ℕ) (w : Written) (s : State) → (g.D.Disk.at l.fn.journal.disk).seen ≡ Some held
+      → IsJournalOf l.fn.journal.generation l.fn.journal.start held w → length w.commands ≡ l.fn.journal.count
+      → StandsFor l.fn.protocol s → Reached s w.commands l.done l.protocol;
 }

@@ -23,12 +23,16 @@ loop-cut-init g c =
     record {
       parts = ap (λ (l : List Cut). fold cut_parts p l) same;
       fit = subst (λ (l : List Cut). CutsFit p l) (sym same) covered.cuts.fit;
-      claims = subst (λ (l : List Cut). AllByRecursion (HasRoomToClose c.args.surplus.now) l) (sym same) c.requires.room.1;
+      claims = subst (λ (l : List Cut). AllByRecursion (HasRoomToClose c.args.surplus.now) l)
+          (sym same) c.requires.room.1;
       surplus_room = refl;
       trove_room = refl;
       order_room = ap (λ (l : List Cut). c.args.order.now.room + count_by (λ (cut : Cut). cut.full) l) same;
-      close = subst (λ (l : List Cut). CloseButLast l) (sym same) (planned_close p wallet c.args.plan.now c.requires.planned);
-      spent = subst (λ (l : List Cut). Spent c.args.plan.now.cuts l c.args.hint.now (length c.args.order.now.entries) c.args.order.now.entries c.args.steps.now c.args.steps.now) (sym same) (spent_none c.args.plan.now.cuts c.args.hint.now c.args.order.now.entries c.args.steps.now);
+      close = subst (λ (l : List Cut). CloseButLast l) (sym same) (planned_close p wallet c.args.plan.now
+          c.requires.planned);
+      spent = subst (λ (l : List Cut). Spent c.args.plan.now.cuts l c.args.hint.now (length c.args.order.now.entries)
+          c.args.order.now.entries c.args.steps.now c.args.steps.now) (sym same)
+          (spent_none c.args.plan.now.cuts c.args.hint.now c.args.order.now.entries c.args.steps.now);
     }
 
 -- the cut that is next, and those behind it
@@ -41,13 +45,16 @@ next_cut list i h = drop-cons list i no_cut h ∙ ap (λ k. get_or list i no_cut
 pub take_down-requires-clause-fits : goal.take_down-requires-clause-fits
 take_down-requires-clause-fits g c =
     let now = parts_of c.loop-cut.pools c.loop-cut.surplus c.loop-cut.troves c.loop-cut.order in
-    let fit = subst (λ (l : List Cut). CutsFit now l) (next_cut c.as_slice-cut-items.result.now c.loop-cut.cut-index c.loop-cut-test.true) c.loop-cut.invariant.fit in
+    let fit = subst (λ (l : List Cut). CutsFit now l) (next_cut c.as_slice-cut-items.result.now c.loop-cut.cut-index
+    c.loop-cut-test.true) c.loop-cut.invariant.fit in
     fit.0
 
 pub take_down-requires-clause-room : goal.take_down-requires-clause-room
 take_down-requires-clause-room g c full =
     let cut = get_or c.as_slice-cut-items.result.now c.loop-cut.cut-index no_cut in
-    let claims = subst (λ (l : List Cut). AllByRecursion (HasRoomToClose c.args.surplus.now) l) (next_cut c.as_slice-cut-items.result.now c.loop-cut.cut-index c.loop-cut-test.true) c.loop-cut.invariant.claims in
+    let claims = subst (λ (l : List Cut). AllByRecursion (HasRoomToClose c.args.surplus.now) l)
+    (next_cut c.as_slice-cut-items.result.now c.loop-cut.cut-index c.loop-cut-test.true) c.loop-cut.invariant.claims
+    in
     subst (λ (room : List ℕ). Contains room cut.account) (sym c.loop-cut.invariant.surplus_room) (claims.0 full)
 
 pub loop-cut-preserved : goal.loop-cut-preserved
@@ -59,11 +66,13 @@ loop-cut-preserved g c =
     let next = next_cut items i c.loop-cut-test.true in
     let made = c.take_down.ensures.parts in
     let fit = subst (λ (l : List Cut). CutsFit now l) next c.loop-cut.invariant.fit in
-    let claims = subst (λ (l : List Cut). AllByRecursion (HasRoomToClose c.args.surplus.now) l) next c.loop-cut.invariant.claims in
+    let claims = subst (λ (l : List Cut). AllByRecursion (HasRoomToClose c.args.surplus.now) l) next
+    c.loop-cut.invariant.claims in
     let room = sum_by-cons (λ (x : Cut). cond x.full 1 0) cut (drop (i + 1) items) in
     let rooms = ap (λ (l : List Cut). count_by (λ (x : Cut). x.full) l) next in
     let close = subst (λ (l : List Cut). CloseButLast l) next c.loop-cut.invariant.close in
-    let spent = subst (λ (l : List Cut). Spent c.args.plan.now.cuts l c.args.hint.now (length c.args.order.now.entries) c.loop-cut.order.entries c.args.steps.now c.loop-cut.steps) next c.loop-cut.invariant.spent in
+    let spent = subst (λ (l : List Cut). Spent c.args.plan.now.cuts l c.args.hint.now (length c.args.order.now.entries)
+    c.loop-cut.order.entries c.args.steps.now c.loop-cut.steps) next c.loop-cut.invariant.spent in
     record {
       parts =
           ap (λ (q : Parts). fold cut_parts q (drop (i + 1) items)) made
@@ -75,13 +84,16 @@ loop-cut-preserved g c =
       trove_room = c.take_down.ensures.trove_room ∙ c.loop-cut.invariant.trove_room;
       order_room = omega (arith, c.take_down.ensures.order_room, room, rooms, c.loop-cut.invariant.order_room);
       close = close_next cut (drop (i + 1) items) close;
-      spent = spent_more c.args.plan.now.cuts cut (drop (i + 1) items) c.args.hint.now (length c.args.order.now.entries) c.loop-cut.order.entries c.take_down.new.order.entries c.args.steps.now c.loop-cut.steps c.take_down.new.steps close spent c.take_down.ensures.takes;
+      spent = spent_more c.args.plan.now.cuts cut (drop (i + 1) items) c.args.hint.now (length c.args.order.now.entries)
+          c.loop-cut.order.entries c.take_down.new.order.entries c.args.steps.now c.loop-cut.steps c.take_down.new.steps
+          close spent c.take_down.ensures.takes;
     }
 
 -- ---- what is left to do
 
 -- the parts of now, where no cut is left
-all_cut : (now start : Parts) (items cuts : List Cut) (i : ℕ) → length items ≤ i → fold cut_parts now (drop i items) ≡ fold cut_parts start cuts → now ≡ fold cut_parts start cuts
+all_cut : (now start : Parts) (items cuts : List Cut) (i : ℕ) → length items ≤ i → fold cut_parts now (drop i items)
+    ≡ fold cut_parts start cuts → now ≡ fold cut_parts start cuts
 all_cut now start items cuts i h e = sym (ap (λ (l : List Cut). fold cut_parts now l) (drop_all i items h)) ∙ e
 
 pub overflow_add-pools : goal.overflow_add-pools
@@ -90,7 +102,8 @@ overflow_add-pools g c =
     let wallet = wallet_in c.args.wallets.now.rows c.args.account in
     let covered = planned_covered p wallet c.args.plan.now c.requires.sound c.requires.planned in
     let now = parts_of c.loop-cut.pools c.loop-cut.surplus c.loop-cut.troves c.loop-cut.order in
-    let done = all_cut now p c.as_slice-cut-items.result.now c.args.plan.now.cuts c.loop-cut.cut-index c.loop-cut-test.false c.loop-cut.invariant.parts in
+    let done = all_cut now p c.as_slice-cut-items.result.now c.args.plan.now.cuts c.loop-cut.cut-index
+    c.loop-cut-test.false c.loop-cut.invariant.parts in
     let fees = ap (λ (q : Parts). q.pools.fee_coll) done ∙ covered.cuts.fees in
     let drawn = covered.cuts.coll in
     record { fits = omega (arith, fees, covered.drawn, covered.fee, drawn, c.requires.sound.coll) }
@@ -132,11 +145,13 @@ returns-clause-parts g c =
     let p = parts_of c.args.pools.now c.args.surplus.now c.args.troves.now c.args.order.now in
     let now = parts_of c.loop-cut.pools c.loop-cut.surplus c.loop-cut.troves c.loop-cut.order in
     ap (λ (q : Parts). record q { pools = record q.pools { fee_coll = q.pools.fee_coll + c.args.plan.now.fee } })
-    (all_cut now p c.as_slice-cut-items.result.now c.args.plan.now.cuts c.loop-cut.cut-index c.loop-cut-test.false c.loop-cut.invariant.parts)
+    (all_cut now p c.as_slice-cut-items.result.now c.args.plan.now.cuts c.loop-cut.cut-index c.loop-cut-test.false
+    c.loop-cut.invariant.parts)
 
 pub returns-clause-order_room : goal.returns-clause-order_room
 returns-clause-order_room g c =
-    let none = ap (λ (l : List Cut). count_by (λ (x : Cut). x.full) l) (drop_all c.loop-cut.cut-index c.as_slice-cut-items.result.now c.loop-cut-test.false) in
+    let none = ap (λ (l : List Cut). count_by (λ (x : Cut). x.full) l)
+    (drop_all c.loop-cut.cut-index c.as_slice-cut-items.result.now c.loop-cut-test.false) in
     omega (arith, none, c.loop-cut.invariant.order_room)
 
 -- ---- the steps
@@ -144,9 +159,11 @@ returns-clause-order_room g c =
 pub returns-clause-few : goal.returns-clause-few
 returns-clause-few g c =
     let none = drop_all c.loop-cut.cut-index c.as_slice-cut-items.result.now c.loop-cut-test.false in
-    (subst (λ (l : List Cut). Spent c.args.plan.now.cuts l c.args.hint.now (length c.args.order.now.entries) c.loop-cut.order.entries c.args.steps.now c.loop-cut.steps) none c.loop-cut.invariant.spent).0
+    (subst (λ (l : List Cut). Spent c.args.plan.now.cuts l c.args.hint.now (length c.args.order.now.entries)
+    c.loop-cut.order.entries c.args.steps.now c.loop-cut.steps) none c.loop-cut.invariant.spent).0
 
 pub returns-clause-any : goal.returns-clause-any
 returns-clause-any g c =
     let none = drop_all c.loop-cut.cut-index c.as_slice-cut-items.result.now c.loop-cut-test.false in
-    (subst (λ (l : List Cut). Spent c.args.plan.now.cuts l c.args.hint.now (length c.args.order.now.entries) c.loop-cut.order.entries c.args.steps.now c.loop-cut.steps) none c.loop-cut.invariant.spent).1
+    (subst (λ (l : List Cut). Spent c.args.plan.now.cuts l c.args.hint.now (length c.args.order.now.entries)
+    c.loop-cut.order.entries c.args.steps.now c.loop-cut.steps) none c.loop-cut.invariant.spent).1

@@ -18,26 +18,38 @@ pub come_to-requires-clause-drawn : goal.come_to-requires-clause-drawn
 come_to-requires-clause-drawn c =
     let m = c.args.m.now in
     let visits = visited_by m.price c.args.troves.now.sums c.args.troves.now.table.rows c.args.order.now.entries in
-    let within = subst (λ (l : List Cut). IsDrawnWithin m.price l) (sym c.in_ok-walk.ensures.cuts) (drawn_within m.price m.troves c.args.amount visits) in
-    less_at m.price (drawn c.in_ok-walk.walk.cuts) (2 ^ 64) (omega (arith, within, c.in_ok-walk.ensures.wanted, c.in_ok-check_asked.ensures.worth))
+    let within = subst (λ (l : List Cut). IsDrawnWithin m.price l) (sym c.in_ok-walk.ensures.cuts)
+    (drawn_within m.price m.troves c.args.amount visits) in
+    less_at m.price (drawn c.in_ok-walk.walk.cuts) (2 ^ 64) (omega (
+      arith,
+      within,
+      c.in_ok-walk.ensures.wanted,
+      c.in_ok-check_asked.ensures.worth,
+    ))
 
 pub returns-in_err-check_asked : goal.returns-in_err-check_asked
 returns-in_err-check_asked c =
-    let visits = visited_by c.args.m.now.price c.args.troves.now.sums c.args.troves.now.table.rows c.args.order.now.entries in
+    let visits = visited_by c.args.m.now.price c.args.troves.now.sums c.args.troves.now.table.rows
+    c.args.order.now.entries in
     let p = err_from_is_err_and c.from_residual.result c.from_residual.ensures.1 in
     rw (p.1, p.2)
-    (asked_refuses c.args.m.now c.args.wallet.now visits c.args.amount c.args.bound _ (sym c.check_asked.ensures.refused ∙ c.in_err-check_asked.was))
+    (asked_refuses c.args.m.now c.args.wallet.now visits c.args.amount c.args.bound _ (sym c.check_asked.ensures.refused
+    ∙ c.in_err-check_asked.was))
 
 pub returns-in_err-come_to : goal.returns-in_err-come_to
 returns-in_err-come_to c =
-    let visits = visited_by c.args.m.now.price c.args.troves.now.sums c.args.troves.now.table.rows c.args.order.now.entries in
+    let visits = visited_by c.args.m.now.price c.args.troves.now.sums c.args.troves.now.table.rows
+    c.args.order.now.entries in
     let p = err_from_is_err_and c.from_residual-in_err-come_to.result c.from_residual-in_err-come_to.ensures.1 in
     rw (p.1, p.2)
-    (behind_asked c.args.m.now c.args.wallet.now visits c.args.amount c.args.bound _ (sym c.check_asked.ensures.refused ∙ c.in_ok-check_asked.was) c.in_ok-walk.walk.cuts c.in_ok-walk.ensures.cuts _ c.in_ok-walk.ensures.first
+    (behind_asked c.args.m.now c.args.wallet.now visits c.args.amount c.args.bound _ (sym c.check_asked.ensures.refused
+    ∙ c.in_ok-check_asked.was) c.in_ok-walk.walk.cuts c.in_ok-walk.ensures.cuts _ c.in_ok-walk.ensures.first
     ∙ sym c.come_to.ensures ∙ c.in_err-come_to.was)
 
 pub returns : goal.returns
 returns c =
-    let visits = visited_by c.args.m.now.price c.args.troves.now.sums c.args.troves.now.table.rows c.args.order.now.entries in
-    behind_asked c.args.m.now c.args.wallet.now visits c.args.amount c.args.bound _ (sym c.check_asked.ensures.refused ∙ c.in_ok-check_asked.was) c.in_ok-walk.walk.cuts c.in_ok-walk.ensures.cuts _ c.in_ok-walk.ensures.first
+    let visits = visited_by c.args.m.now.price c.args.troves.now.sums c.args.troves.now.table.rows
+    c.args.order.now.entries in
+    behind_asked c.args.m.now c.args.wallet.now visits c.args.amount c.args.bound _ (sym c.check_asked.ensures.refused
+    ∙ c.in_ok-check_asked.was) c.in_ok-walk.walk.cuts c.in_ok-walk.ensures.cuts _ c.in_ok-walk.ensures.first
     ∙ sym c.come_to.ensures ∙ c.in_ok-come_to.was

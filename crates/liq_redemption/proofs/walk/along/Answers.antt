@@ -7,38 +7,49 @@ use Rattle.liq_redemption.proofs.Taking.{visits, cuts_step, first_step, cuts_don
 use Rattle.liq_redemption.proofs.walk.along.Goals as goal
 
 pub before-next-requires : goal.before-next-requires
-before-next-requires c = is_listed c.args.order.now.entries c.loop-next.next c.in-Some.account c.in-Some.is c.loop-next.invariant.next
+before-next-requires c = is_listed c.args.order.now.entries c.loop-next.next c.in-Some.account c.in-Some.is
+    c.loop-next.invariant.next
 
 pub returns-then-walk-eq0-clause-cuts : goal.returns-then-walk-eq0-clause-cuts
 returns-then-walk-eq0-clause-cuts c =
     let walk = c.loop-next.walk in
-    let ahead = visits c.args.price c.args.troves.now.sums c.args.troves.now.table.rows (ahead_of (from_last c.args.order.now.entries) c.loop-next.next) in
-    sym (append-nil walk.cuts) ∙ ap (λ (l : List Cut). walk.cuts ++ l) (sym (nothing_wanted c.args.price walk.troves walk.wanted ahead c.if-walk-eq0.true)) ∙ c.loop-next.invariant.cuts
+    let ahead = visits c.args.price c.args.troves.now.sums c.args.troves.now.table.rows
+    (ahead_of (from_last c.args.order.now.entries) c.loop-next.next) in
+    sym (append-nil walk.cuts)
+    ∙ ap (λ (l : List Cut). walk.cuts ++ l) (sym (nothing_wanted c.args.price walk.troves walk.wanted ahead
+    c.if-walk-eq0.true)) ∙ c.loop-next.invariant.cuts
 
 pub returns-then-not-branch-clause-cuts : goal.returns-then-not-branch-clause-cuts
 returns-then-not-branch-clause-cuts c =
     let accounts = from_last c.args.order.now.entries in
     let next = ahead_of accounts (before_in c.args.order.now.entries c.in-Some.account) in
-    let is = step_on c.args.order.now.entries c.loop-next.next c.in-Some.account c.requires.distinct c.in-Some.is c.loop-next.invariant.next in
+    let is = step_on c.args.order.now.entries c.loop-next.next c.in-Some.account c.requires.distinct c.in-Some.is
+    c.loop-next.invariant.next in
     let on = c.in_ok-pass.field-0 in
     let ahead = visits c.args.price c.args.troves.now.sums c.args.troves.now.table.rows next in
-    let all = cuts_step c.args.price c.args.troves.now.sums c.args.troves.now.table.rows c.in-Some.account (ahead_of accounts c.loop-next.next) next is c.loop-next.walk c.pass.new.self on (c.in_ok-pass.ensures.cuts ahead) _ c.loop-next.invariant.cuts in
+    let all = cuts_step c.args.price c.args.troves.now.sums c.args.troves.now.table.rows c.in-Some.account
+    (ahead_of accounts c.loop-next.next) next is c.loop-next.walk c.pass.new.self on (c.in_ok-pass.ensures.cuts ahead)
+    _ c.loop-next.invariant.cuts in
     sym (cuts_done c.args.price c.pass.new.self on ahead c.if-not-branch.true) ∙ all
 
 pub returns-then-not-branch-clause-first : goal.returns-then-not-branch-clause-first
 returns-then-not-branch-clause-first c nothing =
     let accounts = from_last c.args.order.now.entries in
     let next = ahead_of accounts (before_in c.args.order.now.entries c.in-Some.account) in
-    let is = step_on c.args.order.now.entries c.loop-next.next c.in-Some.account c.requires.distinct c.in-Some.is c.loop-next.invariant.next in
+    let is = step_on c.args.order.now.entries c.loop-next.next c.in-Some.account c.requires.distinct c.in-Some.is
+    c.loop-next.invariant.next in
     let on = c.in_ok-pass.field-0 in
     let ahead = visits c.args.price c.args.troves.now.sums c.args.troves.now.table.rows next in
-    let first = first_step c.args.price c.args.troves.now.sums c.args.troves.now.table.rows c.in-Some.account (ahead_of accounts c.loop-next.next) next is c.loop-next.walk c.pass.new.self on (c.in_ok-pass.ensures.first ahead) _ c.loop-next.invariant.first in
+    let first = first_step c.args.price c.args.troves.now.sums c.args.troves.now.table.rows c.in-Some.account
+    (ahead_of accounts c.loop-next.next) next is c.loop-next.walk c.pass.new.self on
+    (c.in_ok-pass.ensures.first ahead) _ c.loop-next.invariant.first in
     sym (ap (λ b. first_net_of c.pass.new.self (ahead_where b ahead)) c.if-not-branch.true) ∙ first
 
 pub loop-next-smaller : goal.loop-next-smaller
 loop-next-smaller c =
     let accounts = from_last c.args.order.now.entries in
-    let is = step_on c.args.order.now.entries c.loop-next.next c.in-Some.account c.requires.distinct c.in-Some.is c.loop-next.invariant.next in
+    let is = step_on c.args.order.now.entries c.loop-next.next c.in-Some.account c.requires.distinct c.in-Some.is
+    c.loop-next.invariant.next in
     let long = ap (λ (l : List ℕ). length l) is in
     let same = ap (λ o. length (ahead_of accounts o)) c.before-next.ensures in
     omega (arith, long, same)
@@ -48,7 +59,8 @@ loop-next-preserved c =
     let entries = c.args.order.now.entries in
     let accounts = from_last entries in
     let next = ahead_of accounts c.before-next.result in
-    let is = step_on entries c.loop-next.next c.in-Some.account c.requires.distinct c.in-Some.is c.loop-next.invariant.next ∙ ap (λ o. c.in-Some.account ∷ ahead_of accounts o) (sym c.before-next.ensures) in
+    let is = step_on entries c.loop-next.next c.in-Some.account c.requires.distinct c.in-Some.is
+    c.loop-next.invariant.next ∙ ap (λ o. c.in-Some.account ∷ ahead_of accounts o) (sym c.before-next.ensures) in
     let on = c.in_ok-pass.field-0 in
     let ahead = visits c.args.price c.args.troves.now.sums c.args.troves.now.table.rows next in
     record {
@@ -56,8 +68,12 @@ loop-next-preserved c =
       wanted = c.in_ok-pass.ensures.wanted ∙ c.loop-next.invariant.wanted;
       cuts =
           sym (ap (λ b. all_cuts c.args.price c.pass.new.self (ahead_where b ahead)) c.if-not-branch.false)
-          ∙ cuts_step c.args.price c.args.troves.now.sums c.args.troves.now.table.rows c.in-Some.account (ahead_of accounts c.loop-next.next) next is c.loop-next.walk c.pass.new.self on (c.in_ok-pass.ensures.cuts ahead) _ c.loop-next.invariant.cuts;
+          ∙ cuts_step c.args.price c.args.troves.now.sums c.args.troves.now.table.rows c.in-Some.account
+          (ahead_of accounts c.loop-next.next) next is c.loop-next.walk c.pass.new.self on
+          (c.in_ok-pass.ensures.cuts ahead) _ c.loop-next.invariant.cuts;
       first =
           sym (ap (λ b. first_net_of c.pass.new.self (ahead_where b ahead)) c.if-not-branch.false)
-          ∙ first_step c.args.price c.args.troves.now.sums c.args.troves.now.table.rows c.in-Some.account (ahead_of accounts c.loop-next.next) next is c.loop-next.walk c.pass.new.self on (c.in_ok-pass.ensures.first ahead) _ c.loop-next.invariant.first;
+          ∙ first_step c.args.price c.args.troves.now.sums c.args.troves.now.table.rows c.in-Some.account
+          (ahead_of accounts c.loop-next.next) next is c.loop-next.walk c.pass.new.self on
+          (c.in_ok-pass.ensures.first ahead) _ c.loop-next.invariant.first;
     }

@@ -10,8 +10,12 @@ abbrev pub invariant-loop-next : goal.invariant-loop-next
 invariant-loop-next l = record {
   next : l.next ≡ first_of (ahead_of (from_last l.order.entries) l.next);
   wanted : redeemed l.walk.cuts + l.walk.wanted ≡ l.amount;
-  cuts : all_cuts l.price l.walk (visits l.price l.troves.sums l.troves.table.rows (ahead_of (from_last l.order.entries) l.next)) ≡ cuts l.price l.count l.amount (visited_by l.price l.troves.sums l.troves.table.rows l.order.entries);
-  first : first_net_of l.walk (visits l.price l.troves.sums l.troves.table.rows (ahead_of (from_last l.order.entries) l.next)) ≡ first_net (visited_by l.price l.troves.sums l.troves.table.rows l.order.entries);
+  cuts : all_cuts l.price l.walk (visits l.price l.troves.sums l.troves.table.rows
+      (ahead_of (from_last l.order.entries) l.next)) ≡ cuts l.price l.count l.amount
+      (visited_by l.price l.troves.sums l.troves.table.rows l.order.entries);
+  first : first_net_of l.walk (visits l.price l.troves.sums l.troves.table.rows
+      (ahead_of (from_last l.order.entries) l.next))
+      ≡ first_net (visited_by l.price l.troves.sums l.troves.table.rows l.order.entries);
 }
 
 abbrev pub decreases-loop-next : goal.decreases-loop-next

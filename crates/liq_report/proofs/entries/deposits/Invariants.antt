@@ -7,4 +7,5 @@ use Rattle.liq_report.proofs.entries.deposits.Given as goal
 
 abbrev pub invariant-loop-row : goal.invariant-loop-row
 invariant-loop-row l =
-    AreListed l.values.items (map (λ (row : DepositRow). deposit_text (state_of l.protocol) row.account) (take l.row-index l.rows))
+    AreListed l.values.items (map (λ (row : DepositRow). deposit_text (state_of l.protocol) row.account)
+    (take l.row-index l.rows))

@@ -7,4 +7,5 @@ use Rattle.liq_report.proofs.entries.position.Goals as goal
 pub returns : goal.returns
 returns c =
     let s = state_of c.args.protocol.now in
-    c.deposit_in.ensures ∙ ap deposit_words (sym (c.query-reply.ensures s c.protocols_stand.ensures) ∙ deposit_told s c.args.account c.requires)
+    c.deposit_in.ensures ∙ ap deposit_words (sym (c.query-reply.ensures s c.protocols_stand.ensures)
+    ∙ deposit_told s c.args.account c.requires)

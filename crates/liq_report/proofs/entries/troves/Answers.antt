@@ -17,4 +17,5 @@ loop-row-preserved c =
 pub returns : goal.returns
 returns c =
     all_listed (λ (row : TroveRow). trove_text (sums_words (state_of c.args.protocol.now)) (trove_row row))
-    c.loop-row.values.items c.args.rows.now c.loop-row.row-index (Array c.loop-row.values) c.loop-row-test.false c.loop-row.invariant (view-Array c.loop-row.values)
+    c.loop-row.values.items c.args.rows.now c.loop-row.row-index (Array c.loop-row.values) c.loop-row-test.false
+    c.loop-row.invariant (view-Array c.loop-row.values)

@@ -9,4 +9,5 @@ use Rattle.liq_report.proofs.entries.troves.Given as goal
 
 abbrev pub invariant-loop-row : goal.invariant-loop-row
 invariant-loop-row l =
-    AreListed l.values.items (map (λ (row : TroveRow). trove_text (sums_words (state_of l.protocol)) (trove_row row)) (take l.row-index l.rows))
+    AreListed l.values.items (map (λ (row : TroveRow). trove_text (sums_words (state_of l.protocol)) (trove_row row))
+    (take l.row-index l.rows))

@@ -9,5 +9,6 @@ use Rattle.liq_report.proofs.totals.pool.Goals as goal
 pub returns : goal.returns
 returns c =
     subst (λ (w : PoolWords). IfOk c.pool_value.result (HasText (object_text (
-    (codes "epoch", decimal w.epoch) ∷ (codes "p", string_text (decimal w.p)) ∷ (codes "scale", decimal w.scale) ∷ (codes "sum", string_text (decimal w.sum)) ∷ []))))
+    (codes "epoch", decimal w.epoch) ∷ (codes "p", string_text (decimal w.p)) ∷ (codes "scale", decimal w.scale)
+    ∷ (codes "sum", string_text (decimal w.sum)) ∷ []))))
     (c.pool_words-words.ensures (state_of c.args.protocol.now) c.protocols_stand.ensures) c.pool_value.ensures

@@ -11,6 +11,8 @@ returns c =
     let sum_is : c.deref-2.result.now ≡ decimal c.args.sum = search rules in
     IfOk-weaker c.pool_object.result _ _ (λ value is.
     has_text value _ _
-    (is ∙ ap₂ (λ (a b : List ℕ). object (member (codes "epoch") (number (unsigned c.args.epoch)) (member (codes "p") (string a) (member (codes "scale") (number (unsigned c.args.scale)) (member (codes "sum") (string b) no_members))))) p_is sum_is)
+    (is ∙ ap₂ (λ (a b : List ℕ). object (member (codes "epoch") (number (unsigned c.args.epoch))
+    (member (codes "p") (string a) (member (codes "scale") (number (unsigned c.args.scale)) (member (codes "sum")
+    (string b) no_members))))) p_is sum_is)
     refl (pool_written c.args.epoch c.args.p c.args.scale c.args.sum (search rules) (search rules)))
     c.pool_object.ensures

@@ -7,5 +7,6 @@ use Rattle.liq_report.proofs.totals.system.Goals as goal
 
 pub returns : goal.returns
 returns c = IfOk-weaker c.system_object.result _ _ (λ value is.
-    has_text value _ (system_text (state_of c.args.protocol.now)) is refl (totals_written c.totals.result ∙ ap totals_text c.totals.ensures))
+    has_text value _ (system_text (state_of c.args.protocol.now)) is refl (totals_written c.totals.result
+    ∙ ap totals_text c.totals.ensures))
     c.system_object.ensures

@@ -9,7 +9,8 @@ use Rattle.liq_review.proofs.engine.engine_rows.Given as goal
 
 abbrev pub invariant-loop-account : goal.invariant-loop-account
 invariant-loop-account l = record {
-  rows : (s : State) → StandsFor l.protocol s → l.rows.items ++ map (paid_row s) l.account-iterator ≡ map (paid_row s) l.paid.entries;
+  rows : (s : State) → StandsFor l.protocol s → l.rows.items ++ map (paid_row s) l.account-iterator
+      ≡ map (paid_row s) l.paid.entries;
   accounts : accounts_of l.rows.items ++ keys_of l.account-iterator ≡ keys_of l.paid.entries;
   pays : AllByRecursion (Pays l.protocol) l.account-iterator;
 }

@@ -10,5 +10,6 @@ returns c =
     let rows = c.args.rows.now in
     let whole = flat_map line_of rows in
     c.in_ok-put_last.ensures
-    ∙ ap (λ (t : List ℕ). t ++ last_line c.count_within.result (length rows)) (no_more line_of c.loop-row.text.items rows c.loop-row.row-index whole c.loop-row-test.false c.loop-row.invariant)
+    ∙ ap (λ (t : List ℕ). t ++ last_line c.count_within.result (length rows))
+    (no_more line_of c.loop-row.text.items rows c.loop-row.row-index whole c.loop-row-test.false c.loop-row.invariant)
     ∙ ap (λ n. whole ++ last_line n (length rows)) c.count_within.ensures

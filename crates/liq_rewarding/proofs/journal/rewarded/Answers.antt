@@ -27,11 +27,13 @@ returns-clause-text c =
     let past = past_in c.events.result.now in
     let accounts = c.deref.result.now in
     let minute : c.in_ok-rewards.rewards.minute ≡ minute_after start commands =
-    c.in_ok-rewards.ensures.minute ∙ c.minute_of.ensures made.state made.stands ∙ sym (last_minute commands 1 start made.state made.replays) in
+    c.in_ok-rewards.ensures.minute ∙ c.minute_of.ensures made.state made.stands
+    ∙ sym (last_minute commands 1 start made.state made.replays) in
     let same_past : past ≡ past_after [] start commands =
     ap past_in (c.events.ensures ∙ made.notes_are) ∙ past_along commands start [] in
     let owners : accounts ≡ owners_of (events start commands) =
-    c.deref.ensures.value ∙ c.in_ok-accounts.ensures ∙ ap (λ (notes : List Note). owners_of (events_in notes)) (c.events-2.ensures ∙ made.notes_are)
+    c.deref.ensures.value ∙ c.in_ok-accounts.ensures ∙ ap (λ (notes : List Note). owners_of (events_in notes))
+    (c.events-2.ensures ∙ made.notes_are)
     ∙ ap owners_of (events_along commands start) in
     c.in_ok-rewards_text.ensures.text past c.in_ok-rewards.ensures.kept
     ∙ ap (λ (t : List ℕ). t ++ told lines c.in_ok-rewards.rewards.minute past accounts) c.new-text.ensures.items

@@ -8,12 +8,16 @@ loop-line-preserved c =
     let less = c.loop-line-test.true in
     let tags = c.in_ok-answer.ensures.tags in
     record {
-      tags = tags_next lines i _ c.loop-line.tags.entries c.answer.new.tags.entries _ less tags c.loop-line.invariant.tags;
-      text = replies_next lines i _ c.loop-line.tags.entries c.answer.new.tags.entries c.loop-line.text.items c.answer.new.text.items _ less tags c.in_ok-answer.ensures.text c.loop-line.invariant.text;
+      tags = tags_next lines i _ c.loop-line.tags.entries c.answer.new.tags.entries _ less tags
+          c.loop-line.invariant.tags;
+      text = replies_next lines i _ c.loop-line.tags.entries c.answer.new.tags.entries c.loop-line.text.items
+          c.answer.new.text.items _ less tags c.in_ok-answer.ensures.text c.loop-line.invariant.text;
     }
 
 pub returns-clause-tags : goal.returns-clause-tags
-returns-clause-tags c = tags_last c.args.lines.now c.loop-line.line-index c.loop-line.tags.entries _ c.loop-line-test.false c.loop-line.invariant.tags
+returns-clause-tags c = tags_last c.args.lines.now c.loop-line.line-index c.loop-line.tags.entries _
+    c.loop-line-test.false c.loop-line.invariant.tags
 
 pub returns-clause-text : goal.returns-clause-text
-returns-clause-text c = replies_last c.args.lines.now c.loop-line.line-index c.loop-line.tags.entries c.loop-line.text.items _ c.loop-line-test.false c.loop-line.invariant.text
+returns-clause-text c = replies_last c.args.lines.now c.loop-line.line-index c.loop-line.tags.entries
+    c.loop-line.text.items _ c.loop-line-test.false c.loop-line.invariant.text

@@ -6,5 +6,6 @@ use Rattle.liq_rewarding.proofs.tags.answered.Given as goal
 abbrev pub invariant-loop-line : goal.invariant-loop-line
 invariant-loop-line l = record {
   tags : fold with_tag l.tags.entries (drop l.line-index l.lines) ≡ tags_of l.lines;
-  text : l.text.items ++ replies l.tags.entries (drop l.line-index l.lines) ≡ l.initial.text.items ++ replies [] l.lines;
+  text : l.text.items ++ replies l.tags.entries (drop l.line-index l.lines) ≡ l.initial.text.items
+      ++ replies [] l.lines;
 }

@@ -7,4 +7,6 @@ use Rattle.liq_rewarding.proofs.text.put_rows.Given as goal
 
 abbrev pub invariant-loop-account : goal.invariant-loop-account
 invariant-loop-account l =
-    (past : List Timed) → IsKeptOf l.rewards past → l.text.items ++ flat_map (row_line l.tags.entries l.rewards.minute past) (drop l.account-index l.accounts) ≡ l.initial.text.items ++ flat_map (row_line l.tags.entries l.rewards.minute past) l.accounts
+    (past : List Timed) → IsKeptOf l.rewards past
+    → l.text.items ++ flat_map (row_line l.tags.entries l.rewards.minute past) (drop l.account-index l.accounts)
+    ≡ l.initial.text.items ++ flat_map (row_line l.tags.entries l.rewards.minute past) l.accounts

@@ -9,4 +9,5 @@ use Rattle.liq_rewards.proofs.lines.tag_line.Goals as goal
 pub returns-in_err-verb : goal.returns-in_err-verb
 returns-in_err-verb c =
     let words = pieces_of c.args.line.now in
-    c.from_residual.ensures ∙ none_from (line_of words) (λ l e. c.in_err-verb.ensures (ap length (line_takes words l e).3))
+    c.from_residual.ensures
+    ∙ none_from (line_of words) (λ l e. c.in_err-verb.ensures (ap length (line_takes words l e).3))

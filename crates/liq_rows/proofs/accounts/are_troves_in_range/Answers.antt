@@ -11,6 +11,7 @@ use Rattle.liq_rows.proofs.accounts.are_troves_in_range.Goals as goal
 
 pub returns : goal.returns
 returns c =
-    all_from_yields_List (λ (row : TroveRow). nat_lt row.account ACCOUNTS) _ _ _ c.all.ensures.ran (YieldsList-from_slice c.rows.result.now cc) (λ x b q k. search (rules, tests))
+    all_from_yields_List (λ (row : TroveRow). nat_lt row.account ACCOUNTS) _ _ _ c.all.ensures.ran
+    (YieldsList-from_slice c.rows.result.now cc) (λ x b q k. search (rules, tests))
     ∙ all-part trove_row (λ e. e.0) (λ k. nat_lt k ACCOUNTS) c.rows.result.now
     ∙ ap (λ t. has_keys_in_range t) c.rows.ensures

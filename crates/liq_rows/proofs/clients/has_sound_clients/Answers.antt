@@ -11,6 +11,7 @@ use Rattle.liq_rows.proofs.clients.has_sound_clients.Goals as goal
 
 pub returns : goal.returns
 returns c =
-    all_from_yields_List (λ (row : ClientRow). is_sound_client (client_row row).1) _ _ _ c.all.ensures.ran (YieldsList-from_slice c.rows.result.now cc) (λ x b q k. search (rules, tests))
+    all_from_yields_List (λ (row : ClientRow). is_sound_client (client_row row).1) _ _ _ c.all.ensures.ran
+    (YieldsList-from_slice c.rows.result.now cc) (λ x b q k. search (rules, tests))
     ∙ all-part client_row (λ e. e.1) is_sound_client c.rows.result.now
     ∙ ap (λ t. list_all is_sound_client (values_of t)) c.rows.ensures

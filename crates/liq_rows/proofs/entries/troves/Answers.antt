@@ -5,5 +5,6 @@ use Rattle.liq_rows.proofs.entries.troves.Goals as goal
 
 pub returns : goal.returns
 returns c =
-    items_from_collect {E = Unit {0}} (Ok c.in_ok-collect.field-0) c.in_ok-collect.ensures.ran (YieldsList-from_map _ trove_row (YieldsList-from_slice c.rows.result.now cc) refl (λ x r q k. search rules))
+    items_from_collect {E = Unit {0}} (Ok c.in_ok-collect.field-0) c.in_ok-collect.ensures.ran
+    (YieldsList-from_map _ trove_row (YieldsList-from_slice c.rows.result.now cc) refl (λ x r q k. search rules))
     ∙ c.rows.ensures

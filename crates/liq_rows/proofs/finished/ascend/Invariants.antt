@@ -6,4 +6,5 @@ use Rattle.liq_rows.proofs.finished.ascend.Given as goal
 
 abbrev pub invariant-loop-at : goal.invariant-loop-at
 invariant-loop-at l =
-    (k j : ℕ) → j ≡ k + 1 → j < l.at → place_order (key (get_or l.finished k no_sum)) (key (get_or l.finished j no_sum)) ≡ Less
+    (k j : ℕ) → j ≡ k + 1 → j < l.at
+    → place_order (key (get_or l.finished k no_sum)) (key (get_or l.finished j no_sum)) ≡ Less

@@ -13,11 +13,13 @@ returns-in-Ok c =
     let place : Place = (c.args.epoch, c.args.scale) in
     let by_key = c.in-Ok.ensures.position key (answers_always _ _ _ (λ f a r g called. search rules)) in
     ap (λ o. unwrap_or o 0)
-    (sym (found place_order_total key sum place (is_place place) (λ q. sym (order-place place q)) c.args.finished.now c.in-Ok.at no_sum c.requires (omega (arith, c.in-Ok.ensures.bound)) (by_key no_sum)))
+    (sym (found place_order_total key sum place (is_place place) (λ q. sym (order-place place q)) c.args.finished.now
+    c.in-Ok.at no_sum c.requires (omega (arith, c.in-Ok.ensures.bound)) (by_key no_sum)))
 
 pub returns-in-Err : goal.returns-in-Err
 returns-in-Err c =
     let place : Place = (c.args.epoch, c.args.scale) in
     let by_key = c.in-Err.ensures.position key (answers_always _ _ _ (λ f a r g called. search rules)) in
     ap (λ o. unwrap_or o 0)
-    (sym (not_found place_order_total key sum place (is_place place) (λ q. sym (order-place place q)) c.args.finished.now c.in-Err.field-0 c.requires by_key))
+    (sym (not_found place_order_total key sum place (is_place place) (λ q. sym (order-place place q))
+    c.args.finished.now c.in-Err.field-0 c.requires by_key))

@@ -11,6 +11,7 @@ use Rattle.liq_rows.proofs.pool.are_sound_sums.Goals as goal
 pub returns : goal.returns
 returns c =
     let sound = is_sound_sum c.args.now in
-    all_from_yields_List (λ (row : FinishedSum). sound (finished_row row)) _ _ _ c.all.ensures.ran (YieldsList-from_slice c.rows.result.now cc) (λ x b q k. search (rules, tests))
+    all_from_yields_List (λ (row : FinishedSum). sound (finished_row row)) _ _ _ c.all.ensures.ran
+    (YieldsList-from_slice c.rows.result.now cc) (λ x b q k. search (rules, tests))
     ∙ sym (list_all-map sound finished_row c.rows.result.now)
     ∙ ap (λ t. list_all sound t) c.rows.ensures

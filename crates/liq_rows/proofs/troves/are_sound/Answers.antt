@@ -12,6 +12,7 @@ use Rattle.liq_rows.proofs.troves.are_sound.Goals as goal
 pub returns : goal.returns
 returns c =
     let sound = is_sound_trove c.args.sum_coll c.args.sum_debt in
-    all_from_yields_List (λ (row : TroveRow). sound (trove_row row).1) _ _ _ c.all.ensures.ran (YieldsList-from_slice c.rows.result.now cc) (λ x b q k. search (rules, tests))
+    all_from_yields_List (λ (row : TroveRow). sound (trove_row row).1) _ _ _ c.all.ensures.ran
+    (YieldsList-from_slice c.rows.result.now cc) (λ x b q k. search (rules, tests))
     ∙ all-part trove_row (λ e. e.1) sound c.rows.result.now
     ∙ ap (λ t. list_all sound (values_of t)) c.rows.ensures

@@ -16,6 +16,8 @@ returns c s client number within next few bytes is long =
     let further : nat_lt GENERATIONS_MOST (s.generation + 1) ≡ false = grind (arith, nat_tests, few) in
     let above : nat_lt CHECKPOINT_BYTES_MOST bytes ≡ true = grind (arith, nat_tests, long) in
     refused_room s command (AmountLimit bytes CHECKPOINT_BYTES_MOST) within next refl
-    (ap (λ b. cond b (Some (AmountLimit (s.generation + 1) GENERATIONS_MOST)) (cond (nat_lt CHECKPOINT_BYTES_MOST (checkpoint_length (image (after s command)))) (Some (AmountLimit (checkpoint_length (image (after s command))) CHECKPOINT_BYTES_MOST)) None)) further
+    (ap (λ b. cond b (Some (AmountLimit (s.generation + 1) GENERATIONS_MOST))
+    (cond (nat_lt CHECKPOINT_BYTES_MOST (checkpoint_length (image (after s command))))
+    (Some (AmountLimit (checkpoint_length (image (after s command))) CHECKPOINT_BYTES_MOST)) None)) further
     ∙ ap (λ n. cond (nat_lt CHECKPOINT_BYTES_MOST n) (Some (AmountLimit n CHECKPOINT_BYTES_MOST)) None) (sym is)
     ∙ ap (λ b. cond b (Some (AmountLimit bytes CHECKPOINT_BYTES_MOST)) None) above)

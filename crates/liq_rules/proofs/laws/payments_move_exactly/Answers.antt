@@ -8,14 +8,20 @@ returns-clause-paid c s account coll lusd h = wallet_here s.wallets account _ h
 
 pub returns-clause-paid_others : goal.returns-clause-paid_others
 returns-clause-paid_others c s account coll lusd other n =
-    wallet_other s.wallets account other (record { coll = (wallet_of s account).coll + coll; lusd = (wallet_of s account).lusd + lusd }) n
+    wallet_other s.wallets account other (record {
+      coll = (wallet_of s account).coll + coll;
+      lusd = (wallet_of s account).lusd + lusd;
+    }) n
 
 pub returns-clause-charged : goal.returns-clause-charged
 returns-clause-charged c s account coll lusd h = wallet_here s.wallets account _ h
 
 pub returns-clause-charged_others : goal.returns-clause-charged_others
 returns-clause-charged_others c s account coll lusd other n =
-    wallet_other s.wallets account other (record { coll = (wallet_of s account).coll - coll; lusd = (wallet_of s account).lusd - lusd }) n
+    wallet_other s.wallets account other (record {
+      coll = (wallet_of s account).coll - coll;
+      lusd = (wallet_of s account).lusd - lusd;
+    }) n
 
 pub returns-clause-paid_coll : goal.returns-clause-paid_coll
 returns-clause-paid_coll c = paid_coll

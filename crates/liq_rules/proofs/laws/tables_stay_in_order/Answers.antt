@@ -8,4 +8,5 @@ returns-clause-step c s h request = (step-ascends s request (record { tables = h
 
 pub returns-clause-run : goal.returns-clause-run
 unfolding IsStrictlySortedBy
-returns-clause-run c limit requests = (run-ascends requests (opening_with limit) (record { tables = (tt, tt, tt, tt, tt) })).tables
+returns-clause-run c limit requests =
+    (run-ascends requests (opening_with limit) (record { tables = (tt, tt, tt, tt, tt) })).tables

@@ -12,11 +12,17 @@ returns-clause-query c number left =
     let old = c.args.reader.now in
     let size = c.in_ok-size.size in
     let whole : IsWholeLine size old = rw c.in_ok-size.was at c.requires in
-    request_taken old (take size old) c.pass.new.self left number (Ask c.in_ok-query.query) (subst (λ (line : List ℕ). IsRequest line (Ask c.in_ok-query.query)) c.line.ensures c.in_ok-query.ensures.found) whole.1 c.pass.ensures.rest
+    request_taken old (take size old) c.pass.new.self left number (Ask c.in_ok-query.query)
+    (subst (λ (line : List ℕ). IsRequest line (Ask c.in_ok-query.query)) c.line.ensures c.in_ok-query.ensures.found)
+    whole.1 c.pass.ensures.rest
 
 pub returns-clause-few : goal.returns-clause-few
 returns-clause-few c left =
     let old = c.args.reader.now in
     let size = c.in_ok-size.size in
     let whole : IsWholeLine size old = rw c.in_ok-size.was at c.requires in
-    ended_few old (take size old) c.pass.new.self left c.pass.ensures.rest (omega (arith, whole.0, length-take size old))
+    ended_few old (take size old) c.pass.new.self left c.pass.ensures.rest (omega (
+      arith,
+      whole.0,
+      length-take size old,
+    ))

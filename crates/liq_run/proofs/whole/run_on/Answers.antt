@@ -46,7 +46,8 @@ returns-in_default-clause-run g c l r told_l told_r start is =
     let was = g.K.Sink.at out in
     let now = g.K.Sink.at ran.new.out in
     went_well g.D.Disk.at c.args.left c.args.right start (state_formed l r start is) l r
-    (g.S.Source.at c.args.input.now).left (g.S.Source.at ran.new.input).left (Rose was.faults now.faults) was.shown now.shown ran.result.left
+    (g.S.Source.at c.args.input.now).left (g.S.Source.at ran.new.input).left (Rose was.faults now.faults) was.shown
+    now.shown ran.result.left
     ran.result.right ran.result.end was.held now.held c.in_default.not-Err
     (ran.ensures.run l r told_l told_r start is)
 

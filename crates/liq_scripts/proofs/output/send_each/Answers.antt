@@ -11,7 +11,11 @@ returns-in_err-send_part-clause-sends g c =
     let piece = sent_of g.E.Shown.entry c.args.part in
     let entries = c.args.entries.now in
     let fault = c.in_err-send_part.field-0.0 in
-    let within : c.loop-entry.entry-index < length entries = omega (arith, c.loop-entry-test.true, c.loop-entry.auto.entry-index-end) in
+    let within : c.loop-entry.entry-index < length entries = omega (
+      arith,
+      c.loop-entry-test.true,
+      c.loop-entry.auto.entry-index-end,
+    ) in
     sends_fault c.from_residual.result fault c.args.outbox.now (flat_map piece entries) c.send_part.new.outbox
     (at c.args.out.now).held (at c.send_part.new.out).held c.from_residual.ensures.1
     (each_cut piece entries fault c.loop-entry.entry-index c.entry-item.result c.args.outbox.now c.loop-entry.outbox
@@ -25,7 +29,11 @@ loop-entry-preserved g c =
     let at = g.K.Sink.at in
     let piece = sent_of g.E.Shown.entry c.args.part in
     let entries = c.args.entries.now in
-    let within : c.loop-entry.entry-index < length entries = omega (arith, c.loop-entry-test.true, c.loop-entry.auto.entry-index-end) in
+    let within : c.loop-entry.entry-index < length entries = omega (
+      arith,
+      c.loop-entry-test.true,
+      c.loop-entry.auto.entry-index-end,
+    ) in
     record {
       sent =
           each_more piece entries c.loop-entry.entry-index c.entry-item.result c.args.outbox.now c.loop-entry.outbox
@@ -41,7 +49,11 @@ pub returns-clause-sends : goal.returns-clause-sends
 returns-clause-sends g c =
     let at = g.K.Sink.at in
     let entries = c.args.entries.now in
-    let all : length entries ≤ c.loop-entry.entry-index = omega (arith, c.loop-entry-test.false, c.loop-entry.auto.entry-index-end) in
+    let all : length entries ≤ c.loop-entry.entry-index = omega (
+      arith,
+      c.loop-entry-test.false,
+      c.loop-entry.auto.entry-index-end,
+    ) in
     each_done (sent_of g.E.Shown.entry c.args.part) entries
     (Ok tt) c.loop-entry.entry-index c.args.outbox.now c.loop-entry.outbox (at c.args.out.now).held
     (at c.loop-entry.out).held all c.loop-entry.invariant.sent

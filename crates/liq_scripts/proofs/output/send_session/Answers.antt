@@ -10,8 +10,10 @@ use Rattle.liq_scripts.proofs.output.send_session.Goals as goal
 pub returns-then-not-has_entries-clause-sends : goal.returns-then-not-has_entries-clause-sends
 returns-then-not-has_entries-clause-sends g c =
     let before = (g.K.Sink.at c.args.out.now).held in
-    let none = own-none g.E.Shown.entry c.args.session c.args.entries.now (sym c.has_entries.ensures ∙ c.if-not-has_entries.true) in
-    subst (λ (own : List history.Entry). Sends (Ok tt) c.args.outbox.now (session_text c.args.session own) c.args.outbox.now before before) (sym none) (sends_nothing c.args.outbox.now before)
+    let none = own-none g.E.Shown.entry c.args.session c.args.entries.now (sym c.has_entries.ensures
+    ∙ c.if-not-has_entries.true) in
+    subst (λ (own : List history.Entry). Sends (Ok tt) c.args.outbox.now (session_text c.args.session own)
+    c.args.outbox.now before before) (sym none) (sends_nothing c.args.outbox.now before)
 
 pub returns-in_err-send-clause-sends : goal.returns-in_err-send-clause-sends
 returns-in_err-send-clause-sends g c =

@@ -12,18 +12,26 @@ title = codes "history" ++ 10 ∷ []
 
 -- the parts of the output, one behind the other
 parts : (history : List Entry) → (replies_text history ++ title) ++ history_text history ≡ served history
-parts history = append_assoc (replies_text history) title (history_text history) ∙ sym (append_assoc (replies_text history) (codes "history") (10 ∷ history_text history))
+parts history = append_assoc (replies_text history) title (history_text history)
+    ∙ sym (append_assoc (replies_text history) (codes "history") (10 ∷ history_text history))
 
 -- all parts were sent, or the last of them was cut
-sent_served : (result : Result (Unit {0}) Failed) (history : List Entry) (w w1 w2 w3 : List ℕ) (before mid mid' after : Option (List ℕ)) → Sends (Ok tt) w (replies_text history) w1 before mid → Sends (Ok tt) w1 title w2 mid mid' → Sends result w2 (history_text history) w3 mid' after → Sends result w (served history) w3 before after
+sent_served : (result : Result (Unit {0}) Failed) (history : List Entry) (w w1 w2 w3 : List ℕ)
+    (before mid mid' after : Option (List ℕ)) → Sends (Ok tt) w (replies_text history) w1 before mid
+    → Sends (Ok tt) w1 title w2 mid mid' → Sends result w2 (history_text history) w3 mid' after
+    → Sends result w (served history) w3 before after
 sent_served result history w w1 w2 w3 before mid mid' after replies heading entries =
     subst (λ (t : List ℕ). Sends result w t w3 before after) (parts history)
-    (sends_more result w (replies_text history ++ title) w2 (history_text history) w3 before mid' after (sends_more (Ok tt) w (replies_text history) w1 title w2 before mid mid' replies heading) entries)
+    (sends_more result w (replies_text history ++ title) w2 (history_text history) w3 before mid' after
+    (sends_more (Ok tt) w (replies_text history) w1 title w2 before mid mid' replies heading) entries)
 
 -- nothing is left to send
-flushed : (result : Result (Unit {0}) Failed) (history : List Entry) (w w1 w2 : List ℕ) (before mid after : Option (List ℕ)) → Sends (Ok tt) w (served history) w1 before mid → Sends result w1 [] w2 mid after → Sends result w (served history) w2 before after
+flushed : (result : Result (Unit {0}) Failed) (history : List Entry) (w w1 w2 : List ℕ) (before mid after : Option
+    (List ℕ)) → Sends (Ok tt) w (served history) w1 before mid → Sends result w1 [] w2 mid after
+    → Sends result w (served history) w2 before after
 flushed result history w w1 w2 before mid after sent flush =
-    subst (λ (t : List ℕ). Sends result w t w2 before after) (append-nil (served history)) (sends_more result w (served history) w1 [] w2 before mid after sent flush)
+    subst (λ (t : List ℕ). Sends result w t w2 before after) (append-nil (served history)) (sends_more result w
+    (served history) w1 [] w2 before mid after sent flush)
 
 pub returns-in_err-send_replies-clause-err : goal.returns-in_err-send_replies-clause-err
 returns-in_err-send_replies-clause-err g c =

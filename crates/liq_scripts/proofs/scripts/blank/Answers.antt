@@ -10,8 +10,12 @@ use Rattle.liq_scripts.proofs.scripts.blank.Goals as goal
 pub loop-before-preserved : goal.loop-before-preserved
 loop-before-preserved c =
     let before = c.loop-before.before in
-    let script = λ (requests : List Request). let s : Script = record { session = before + 1; requests = requests } in s in
+    let script = λ (requests : List Request). let s : Script = record {
+      session = before + 1;
+      requests = requests;
+    } in s in
     c.in_ok-push.ensures.items
     ∙ ap (λ (scripts : List Script). scripts ++ script c.new.result ∷ []) c.loop-before.invariant
-    ∙ ap (λ (requests : List Request). map (script_of []) (range_with_len 1 before) ++ script requests ∷ []) c.new.ensures
+    ∙ ap (λ (requests : List Request). map (script_of []) (range_with_len 1 before) ++ script requests
+    ∷ []) c.new.ensures
     ∙ sym (map-range_with_len_more (script_of []) 1 before (before + 1) (omega arith))

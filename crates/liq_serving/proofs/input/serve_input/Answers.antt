@@ -82,7 +82,8 @@ returns-clause-served g c =
     gathers.asked gathers.scripts g.K.Sink.at
     (g.S.Source.at c.args.input.now).left (g.S.Source.at c.read_scripts.new.input).left
     c.args.out.now c.write_end-finish.new.out c.args.left c.args.right
-    gathers.few gathers.read opening.opened (state_of store.core) (serves g c) c.serve_sessions-left.ensures (may_stay g)
+    gathers.few gathers.read opening.opened (state_of store.core) (serves g c) c.serve_sessions-left.ensures
+    (may_stay g)
     (record {
       left_leaves = opening.left_leaves;
       right_leaves = opening.right_leaves;
@@ -115,14 +116,16 @@ returns-in-Err-open-clause-rests g c = tt
 
 pub returns-clause-source : goal.returns-clause-source
 returns-clause-source g c =
-    let whole = reads_whole c.serve_sessions-left.result.end c.write_end-finish.result c.write_end-finish.ensures.finish in
+    let whole = reads_whole c.serve_sessions-left.result.end c.write_end-finish.result c.write_end-finish.ensures.finish
+    in
     subst (λ (r : Result (Unit {0}) Stop).
     ReadCause r (g.S.Source.at c.args.input.now).faults (g.S.Source.at c.read_scripts.new.input).faults)
     (sym whole) c.in-Ok-read_scripts.ensures.source
 
 pub returns-clause-unread : goal.returns-clause-unread
 returns-clause-unread g c stop is =
-    let whole = reads_whole c.serve_sessions-left.result.end c.write_end-finish.result c.write_end-finish.ensures.finish in
+    let whole = reads_whole c.serve_sessions-left.result.end c.write_end-finish.result c.write_end-finish.ensures.finish
+    in
     absurd (cc (rw is at whole))
 
 pub returns-clause-shown : goal.returns-clause-shown

@@ -9,7 +9,15 @@ loop-one-init g c = rw c.in_ok-lists.ensures.items tt
 pub loop-one-preserved : goal.loop-one-preserved
 loop-one-preserved g c =
     let room = c.in_ok-with_capacity.ensures in
-    rw (take_more _ _ c.one-item.result c.loop-one-test.true, c.in_ok-push.ensures.items) (all_zipped_more _ _ _ _ _ c.loop-one.invariant (room.items, rw (← c.one-item.is) (omega (arith, room.capacity, c.len.ensures))))
+    rw (take_more _ _ c.one-item.result c.loop-one-test.true, c.in_ok-push.ensures.items)
+    (all_zipped_more _ _ _ _ _ c.loop-one.invariant (
+      room.items,
+      rw (← c.one-item.is) (omega (
+        arith,
+        room.capacity,
+        c.len.ensures,
+      )),
+    ))
 
 pub returns : goal.returns
 returns g c = rw (take_all _ _ c.loop-one-test.false) at c.loop-one.invariant

@@ -6,10 +6,12 @@ use Rattle.liq_soundness.proofs.SoundTests.{sound_facts}
 use Rattle.liq_soundness.proofs.soundness.calls_take_what_is_there.Goals as goal
 
 pub returns-clause-adjust : goal.returns-clause-adjust
-returns-clause-adjust c s h account bound change own there r = change_covered s (finds s (sound_facts s h)) account bound change own there r
+returns-clause-adjust c s h account bound change own there r =
+    change_covered s (finds s (sound_facts s h)) account bound change own there r
 
 pub returns-clause-liquidate : goal.returns-clause-liquidate
-returns-clause-liquidate c s h account made own e there = ones_covered s (finds s (sound_facts s h)) account made own e there
+returns-clause-liquidate c s h account made own e there =
+    ones_covered s (finds s (sound_facts s h)) account made own e there
 
 pub returns-clause-lowest : goal.returns-clause-lowest
 returns-clause-lowest c s h count = lowest_stand count s (finds s (sound_facts s h))

@@ -7,7 +7,8 @@ pub returns-clause-run : goal.returns-clause-run
 returns-clause-run c s h requests = (run_follows requests s h).lawful
 
 pub returns-clause-opening : goal.returns-clause-opening
-returns-clause-opening c limit known requests = (run_follows requests (opening_with limit) (opening_sound limit known)).lawful
+returns-clause-opening c limit known requests =
+    (run_follows requests (opening_with limit) (opening_sound limit known)).lawful
 
 pub returns-clause-owners : goal.returns-clause-owners
 returns-clause-owners c s h requests = (run_follows requests s h).owners

@@ -64,4 +64,14 @@ pub returns-clause-stake_reached : goal.returns-clause-stake_reached
 returns-clause-stake_reached c = stake_reached_fits
 
 pub returns-clause-all_below : goal.returns-clause-all_below
-returns-clause-all_below c = (omega arith, omega arith, omega arith, omega arith, omega arith, omega arith, omega arith, omega arith, omega arith)
+returns-clause-all_below c = (
+  omega arith,
+  omega arith,
+  omega arith,
+  omega arith,
+  omega arith,
+  omega arith,
+  omega arith,
+  omega arith,
+  omega arith,
+)

@@ -8,4 +8,5 @@ pub returns-clause-state : goal.returns-clause-state
 returns-clause-state c s h = let f = sound_facts s h in conserved_by s f.stands f.balanced.homes
 
 pub returns-clause-run : goal.returns-clause-run
-returns-clause-run c s h requests = let f = sound_facts (run s requests).0 (run_sound requests s h) in conserved_by (run s requests).0 f.stands f.balanced.homes
+returns-clause-run c s h requests = let f = sound_facts (run s requests).0 (run_sound requests s h)
+    in conserved_by (run s requests).0 f.stands f.balanced.homes

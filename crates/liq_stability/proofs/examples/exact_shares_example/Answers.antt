@@ -7,6 +7,16 @@ unfolding least_from
 returns c = record {
   first = refl;
   second = refl;
-  first_within = record { balance_at_most = omega arith; gain_at_most = omega arith; balance_at_least = omega arith; gain_at_least = omega arith };
-  second_within = record { balance_at_most = omega arith; gain_at_most = omega arith; balance_at_least = omega arith; gain_at_least = omega arith };
+  first_within = record {
+    balance_at_most = omega arith;
+    gain_at_most = omega arith;
+    balance_at_least = omega arith;
+    gain_at_least = omega arith;
+  };
+  second_within = record {
+    balance_at_most = omega arith;
+    gain_at_most = omega arith;
+    balance_at_least = omega arith;
+    gain_at_least = omega arith;
+  };
 }

@@ -5,8 +5,185 @@ use Rattle.liq_stability.proofs.examples.lists_are_lawful_example.Goals as goal
 pub returns : goal.returns
 unfolding least_from
 returns c = record {
-  four_scales_on = (record { total = omega arith; coll = omega arith }, record { gain_is = refl; paid_is = omega arith; amount_is = refl }, (record { total = omega arith; coll = omega arith }, record { some = omega arith; within = omega arith; total_is = refl; coll_is = omega arith; rise_is = refl }, (record { total = omega arith; coll = omega arith }, record { gain_is = refl; paid_is = omega arith; amount_is = refl }, (record { total = omega arith; coll = omega arith }, record { some = omega arith; within = omega arith; total_is = refl; coll_is = omega arith; rise_is = refl }, (record { total = omega arith; coll = omega arith }, record { gain_is = refl; paid_is = omega arith; amount_is = refl }, (record { total = omega arith; coll = omega arith }, record { some = omega arith; within = omega arith; total_is = refl; coll_is = omega arith; rise_is = refl }, record { total = omega arith; coll = omega arith }))))));
-  shared_again = (record { total = omega arith; coll = omega arith }, record { gain_is = refl; paid_is = omega arith; amount_is = refl }, (record { total = omega arith; coll = omega arith }, record { gain_is = refl; paid_is = omega arith; amount_is = refl }, (record { total = omega arith; coll = omega arith }, record { some = omega arith; within = omega arith; total_is = refl; coll_is = omega arith; rise_is = refl }, (record { total = omega arith; coll = omega arith }, record { gain_is = refl; paid_is = omega arith; amount_is = refl }, (record { total = omega arith; coll = omega arith }, record { some = omega arith; within = omega arith; total_is = refl; coll_is = omega arith; rise_is = refl }, record { total = omega arith; coll = omega arith })))));
-  paid_out = (record { total = omega arith; coll = omega arith }, record { gain_is = refl; paid_is = omega arith; amount_is = refl }, (record { total = omega arith; coll = omega arith }, record { gain_is = refl; paid_is = omega arith; amount_is = refl }, (record { total = omega arith; coll = omega arith }, record { some = omega arith; within = omega arith; total_is = refl; coll_is = omega arith; rise_is = refl }, (record { total = omega arith; coll = omega arith }, record { gain_is = refl; paid_is = omega arith; amount_is = refl }, (record { total = omega arith; coll = omega arith }, record { some = omega arith; within = omega arith; total_is = refl; coll_is = omega arith; rise_is = refl }, record { total = omega arith; coll = omega arith })))));
-  begun_again = (record { total = omega arith; coll = omega arith }, record { gain_is = refl; paid_is = omega arith; amount_is = refl }, (record { total = omega arith; coll = omega arith }, record { some = omega arith; within = omega arith; total_is = refl; coll_is = omega arith; rise_is = refl }, (record { total = omega arith; coll = omega arith }, record { gain_is = refl; paid_is = omega arith; amount_is = refl }, (record { total = omega arith; coll = omega arith }, record { gain_is = refl; paid_is = omega arith; amount_is = refl }, (record { total = omega arith; coll = omega arith }, record { some = omega arith; within = omega arith; total_is = refl; coll_is = omega arith; rise_is = refl }, record { total = omega arith; coll = omega arith })))));
+  four_scales_on = (
+    record { total = omega arith; coll = omega arith },
+    record {
+      gain_is = refl;
+      paid_is = omega arith;
+      amount_is = refl;
+    },
+    (
+      record { total = omega arith; coll = omega arith },
+      record {
+        some = omega arith;
+        within = omega arith;
+        total_is = refl;
+        coll_is = omega arith;
+        rise_is = refl;
+      },
+      (
+        record { total = omega arith; coll = omega arith },
+        record {
+          gain_is = refl;
+          paid_is = omega arith;
+          amount_is = refl;
+        },
+        (
+          record { total = omega arith; coll = omega arith },
+          record {
+            some = omega arith;
+            within = omega arith;
+            total_is = refl;
+            coll_is = omega arith;
+            rise_is = refl;
+          },
+          (
+            record { total = omega arith; coll = omega arith },
+            record {
+              gain_is = refl;
+              paid_is = omega arith;
+              amount_is = refl;
+            },
+            (
+              record { total = omega arith; coll = omega arith },
+              record {
+                some = omega arith;
+                within = omega arith;
+                total_is = refl;
+                coll_is = omega arith;
+                rise_is = refl;
+              },
+              record {
+                total = omega arith;
+                coll = omega arith;
+              },
+            ),
+          ),
+        ),
+      ),
+    ),
+  );
+  shared_again = (
+    record { total = omega arith; coll = omega arith },
+    record {
+      gain_is = refl;
+      paid_is = omega arith;
+      amount_is = refl;
+    },
+    (
+      record { total = omega arith; coll = omega arith },
+      record {
+        gain_is = refl;
+        paid_is = omega arith;
+        amount_is = refl;
+      },
+      (
+        record { total = omega arith; coll = omega arith },
+        record { some = omega arith; within = omega arith; total_is = refl; coll_is = omega arith; rise_is = refl },
+        (
+          record { total = omega arith; coll = omega arith },
+          record {
+            gain_is = refl;
+            paid_is = omega arith;
+            amount_is = refl;
+          },
+          (
+            record { total = omega arith; coll = omega arith },
+            record {
+              some = omega arith;
+              within = omega arith;
+              total_is = refl;
+              coll_is = omega arith;
+              rise_is = refl;
+            },
+            record {
+              total = omega arith;
+              coll = omega arith;
+            },
+          ),
+        ),
+      ),
+    ),
+  );
+  paid_out = (
+    record { total = omega arith; coll = omega arith },
+    record {
+      gain_is = refl;
+      paid_is = omega arith;
+      amount_is = refl;
+    },
+    (
+      record { total = omega arith; coll = omega arith },
+      record {
+        gain_is = refl;
+        paid_is = omega arith;
+        amount_is = refl;
+      },
+      (
+        record { total = omega arith; coll = omega arith },
+        record { some = omega arith; within = omega arith; total_is = refl; coll_is = omega arith; rise_is = refl },
+        (
+          record { total = omega arith; coll = omega arith },
+          record {
+            gain_is = refl;
+            paid_is = omega arith;
+            amount_is = refl;
+          },
+          (
+            record { total = omega arith; coll = omega arith },
+            record {
+              some = omega arith;
+              within = omega arith;
+              total_is = refl;
+              coll_is = omega arith;
+              rise_is = refl;
+            },
+            record {
+              total = omega arith;
+              coll = omega arith;
+            },
+          ),
+        ),
+      ),
+    ),
+  );
+  begun_again = (
+    record { total = omega arith; coll = omega arith },
+    record {
+      gain_is = refl;
+      paid_is = omega arith;
+      amount_is = refl;
+    },
+    (
+      record { total = omega arith; coll = omega arith },
+      record {
+        some = omega arith;
+        within = omega arith;
+        total_is = refl;
+        coll_is = omega arith;
+        rise_is = refl;
+      },
+      (
+        record { total = omega arith; coll = omega arith },
+        record {
+          gain_is = refl;
+          paid_is = omega arith;
+          amount_is = refl;
+        },
+        (
+          record { total = omega arith; coll = omega arith },
+          record {
+            gain_is = refl;
+            paid_is = omega arith;
+            amount_is = refl;
+          },
+          (
+            record { total = omega arith; coll = omega arith },
+            record { some = omega arith; within = omega arith; total_is = refl; coll_is = omega arith; rise_is = refl },
+            record { total = omega arith; coll = omega arith },
+          ),
+        ),
+      ),
+    ),
+  );
 }

@@ -18,4 +18,5 @@ returns-clause-before c i offsets h = finished-before i offsets h
 pub returns-clause-shown : goal.returns-clause-shown
 returns-clause-shown c i offsets h place away =
     let shown = sum_shown i offsets h place in
-    sym (ap (λ b. cond b (sumat i offsets (place_of (prod i offsets))) (unwrap_or (lookup (is_place place) (finished_sums i offsets)) 0)) away) ∙ shown
+    sym (ap (λ b. cond b (sumat i offsets (place_of (prod i offsets)))
+    (unwrap_or (lookup (is_place place) (finished_sums i offsets)) 0)) away) ∙ shown

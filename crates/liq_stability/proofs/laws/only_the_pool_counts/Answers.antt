@@ -18,4 +18,5 @@ pub returns-clause-lawful : goal.returns-clause-lawful
 returns-clause-lawful c most s t same events h = lawful_alike most s t same events h
 
 pub returns-clause-promise : goal.returns-clause-promise
-returns-clause-promise c s events lawful same account = promise_alike s (after_events events) same account events (within_allowance LIM (omega arith) events lawful account)
+returns-clause-promise c s events lawful same account = promise_alike s (after_events events) same account events
+    (within_allowance LIM (omega arith) events lawful account)

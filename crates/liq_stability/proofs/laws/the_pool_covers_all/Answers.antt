@@ -14,7 +14,10 @@ pub returns-clause-one_den : goal.returns-clause-one_den
 returns-clause-one_den c most served events lawful account = one_den most served events lawful account
 
 pub returns-clause-caps : goal.returns-clause-caps
-returns-clause-caps c most served events lawful account d is = (balance_uncapped most served events lawful account d is, gain_uncapped most served events lawful account d is)
+returns-clause-caps c most served events lawful account d is = (
+  balance_uncapped most served events lawful account d is,
+  gain_uncapped most served events lawful account d is,
+)
 
 pub returns-clause-balances_held : goal.returns-clause-balances_held
 returns-clause-balances_held c most served events lawful = balances_held most served events lawful

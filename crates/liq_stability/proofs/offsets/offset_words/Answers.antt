@@ -17,17 +17,21 @@ returns-clause-product c =
     (product_tested _ (sound_product w c.args.debt 0 r.product r.sum r.some r.within r.total (omega arith)))
 
 -- the place stays exactly where the code says so
-same : (c : goal.After-then_some) → c.eq-stays.result ≡ is_place (place_of (words_in c.args.words.now)) (place_of (after_offset (words_in c.args.words.now) (offset_in c.args.words.now c.args.debt c.args.coll)))
+same : (c : goal.After-then_some) → c.eq-stays.result ≡ is_place (place_of (words_in c.args.words.now))
+    (place_of (after_offset (words_in c.args.words.now) (offset_in c.args.words.now c.args.debt c.args.coll)))
 same c =
     let w = c.args.words.now in
     c.eq-stays.ensures
     ∙ ap (λ n. w.epoch == n && w.scale == c.product_after-next.result.scale) c.product_after-next.ensures.epoch
-    ∙ ap (λ n. w.epoch == (after_offset (words_in w) (offset_in w c.args.debt 0)).epoch && w.scale == n) c.product_after-next.ensures.scale
+    ∙ ap (λ n. w.epoch == (after_offset (words_in w) (offset_in w c.args.debt 0)).epoch && w.scale
+    == n) c.product_after-next.ensures.scale
 
-grown : (c : goal.After-then_some) → c.args.words.now.sum + c.mul_div.result ≡ sum_with c.args.words.now c.args.debt c.args.coll
+grown : (c : goal.After-then_some) → c.args.words.now.sum + c.mul_div.result
+    ≡ sum_with c.args.words.now c.args.debt c.args.coll
 grown c =
     let w = c.args.words.now in
-    ap (λ n. w.sum + n) (c.mul_div.ensures ∙ ap (λ n. floor_of n w.p c.from-2.result) c.from.ensures ∙ ap (λ n. floor_of c.args.coll w.p n) c.from-2.ensures)
+    ap (λ n. w.sum + n) (c.mul_div.ensures ∙ ap (λ n. floor_of n w.p c.from-2.result) c.from.ensures
+    ∙ ap (λ n. floor_of c.args.coll w.p n) c.from-2.ensures)
 
 sum_is : (c : goal.After-then_some) → c.if-stays.after ≡ (words_after c.args.words.now c.args.debt c.args.coll).sum
 sum_is c =
@@ -41,9 +45,11 @@ pub returns-clause-sum : goal.returns-clause-sum
 returns-clause-sum c =
     let r = c.requires in
     let w = c.args.words.now in
-    let beside = beside_tested (words_after w c.args.debt c.args.coll).sum _ (sound_sum w c.args.debt c.args.coll r.product r.sum r.some r.within r.total r.worth) in
+    let beside = beside_tested (words_after w c.args.debt c.args.coll).sum _
+    (sound_sum w c.args.debt c.args.coll r.product r.sum r.some r.within r.total r.worth) in
     subst (λ n. IsTrue (is_sum_beside n c.product_after-next.result.p)) (sym (sum_is c))
-    (subst (λ p. IsTrue (is_sum_beside (words_after w c.args.debt c.args.coll).sum p)) (sym c.product_after-next.ensures.p) beside)
+    (subst (λ p. IsTrue (is_sum_beside (words_after w c.args.debt c.args.coll).sum p))
+    (sym c.product_after-next.ensures.p) beside)
 
 pub returns-clause-scale : goal.returns-clause-scale
 returns-clause-scale c =

@@ -13,7 +13,12 @@ use Rattle.liq_staking.proofs.answering.answer_stakers.Goals as goal
 
 pub loop-line-init : goal.loop-line-init
 loop-line-init c = record {
-  asked = record { fees = c.new.ensures; stakers = c.new-2.ensures.empty ∙ sym (no_stakers ACCOUNTS); least = refl; text = c.new-3.ensures.items };
+  asked = record {
+    fees = c.new.ensures;
+    stakers = c.new-2.ensures.empty ∙ sym (no_stakers ACCOUNTS);
+    least = refl;
+    text = c.new-3.ensures.items;
+  };
   way = begun c.args.fees.now;
   few = omega arith;
 }
@@ -24,8 +29,10 @@ loop-line-preserved c =
     let lines = c.args.lines.now in
     let i = c.loop-line.line-index in
     let h = c.loop-line.invariant in
-    let few : changes_in (answered_all fees (take i lines)).past < CHANGES_MOST = omega (arith, h.few, c.loop-line-test.true, c.requires.few) in
-    next_line fees lines i c.loop-line.asked c.answer.new.self _ c.loop-line-test.true h (c.in_ok-answer.ensures (answered_all fees (take i lines)) h.asked h.way few)
+    let few : changes_in (answered_all fees (take i lines)).past < CHANGES_MOST =
+    omega (arith, h.few, c.loop-line-test.true, c.requires.few) in
+    next_line fees lines i c.loop-line.asked c.answer.new.self _ c.loop-line-test.true h (c.in_ok-answer.ensures
+    (answered_all fees (take i lines)) h.asked h.way few)
 
 pub returns : goal.returns
 returns c =
@@ -34,5 +41,6 @@ returns c =
     let i = c.loop-line.line-index in
     let all : take i lines ≡ lines = take_all i lines c.loop-line-test.false in
     if_ok _ _ c.tell.result
-    (λ text told. told (answered_all fees (take i lines)) c.loop-line.invariant.asked c.loop-line.invariant.way ∙ ap (λ (ls : List StakeLine). told_of fees (answered_all fees ls)) all)
+    (λ text told. told (answered_all fees (take i lines)) c.loop-line.invariant.asked c.loop-line.invariant.way
+    ∙ ap (λ (ls : List StakeLine). told_of fees (answered_all fees ls)) all)
     c.tell.ensures

@@ -7,4 +7,5 @@ use Rattle.liq_staking.proofs.answering.put_rows.Given as goal
 
 abbrev pub invariant-loop-account : goal.invariant-loop-account
 invariant-loop-account l =
-    (past : List Happened) → IsKeptOf l.kept past → l.text.items ++ flat_map (row_line past) l.account-iterator ≡ l.initial.text.items ++ flat_map (row_line past) l.stakers.keys
+    (past : List Happened) → IsKeptOf l.kept past → l.text.items ++ flat_map (row_line past) l.account-iterator
+    ≡ l.initial.text.items ++ flat_map (row_line past) l.stakers.keys

@@ -14,4 +14,5 @@ pub returns : goal.returns
 returns c past h lawful =
     let some : 1 ≤ c.args.fee.0 + c.args.fee.1 = omega arith in
     let same = some_shared past c.args.fee some in
-    subst (λ (p : List Happened). IsKeptOf c.share.new.self p) (sym same) (c.share.ensures past h (subst IsLawful same lawful))
+    subst (λ (p : List Happened). IsKeptOf c.share.new.self p) (sym same) (c.share.ensures past h
+    (subst IsLawful same lawful))

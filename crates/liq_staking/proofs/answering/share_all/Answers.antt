@@ -11,7 +11,11 @@ pub share-requires : goal.share-requires
 share-requires c =
     let fees = c.args.fees.now in
     let i = c.loop-fee.fee-index in
-    ∥∥₁_map c.requires (λ k. (fold shared k.0 (take i fees), c.loop-fee.invariant k.0 k.1 k.2, one_more_lawful fees k.0 i _ c.loop-fee-test.true k.2))
+    ∥∥₁_map c.requires (λ k. (
+      fold shared k.0 (take i fees),
+      c.loop-fee.invariant k.0 k.1 k.2,
+      one_more_lawful fees k.0 i _ c.loop-fee-test.true k.2,
+    ))
 
 pub loop-fee-preserved : goal.loop-fee-preserved
 loop-fee-preserved c past h lawful =

@@ -6,4 +6,5 @@ use Rattle.liq_staking.specs.Asked.{shared}
 use Rattle.liq_staking.proofs.answering.share_all.Given as goal
 
 abbrev pub invariant-loop-fee : goal.invariant-loop-fee
-invariant-loop-fee l = (past : List Happened) → IsKeptOf l.initial.kept past → IsLawful (fold shared past l.fees) → IsKeptOf l.kept (fold shared past (take l.fee-index l.fees))
+invariant-loop-fee l = (past : List Happened) → IsKeptOf l.initial.kept past → IsLawful (fold shared past l.fees)
+    → IsKeptOf l.kept (fold shared past (take l.fee-index l.fees))

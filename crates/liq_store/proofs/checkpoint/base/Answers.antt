@@ -15,9 +15,12 @@ returns-then-generation-eq1-clause-begins c w same limit checkpoint = (
 
 pub returns-in-Ok-clause-begins : goal.returns-in-Ok-clause-begins
 returns-in-Ok-clause-begins c w same limit checkpoint =
-    begins_later w c.args.generation c.args.checkpoint.now (Ok c.in-Ok.image) c.begun.result c.if-generation-eq1.false same checkpoint c.in-Ok.ensures.exact (c.begun.ensures.begins w same limit)
+    begins_later w c.args.generation c.args.checkpoint.now (Ok c.in-Ok.image) c.begun.result c.if-generation-eq1.false
+    same checkpoint c.in-Ok.ensures.exact (c.begun.ensures.begins w same limit)
 
 pub returns-in-Err-Bad-clause-begins : goal.returns-in-Err-Bad-clause-begins
 returns-in-Err-Bad-clause-begins c w same limit checkpoint =
-    begins_later w c.args.generation c.args.checkpoint.now (Err c.in-Err-Bad.place) (Err c.misshapen.result) c.if-generation-eq1.false same checkpoint (rw c.in-Err-Bad.field-0-is at c.in-Err-Bad.ensures.exact)
-    (begins_badly w c.args.limit _ (bad_checkpoint w c.in-Err-Bad.place) c.misshapen.result (ap (bad_checkpoint w) (sym c.in-Err-Bad.place-is)) limit c.misshapen.ensures)
+    begins_later w c.args.generation c.args.checkpoint.now (Err c.in-Err-Bad.place) (Err c.misshapen.result)
+    c.if-generation-eq1.false same checkpoint (rw c.in-Err-Bad.field-0-is at c.in-Err-Bad.ensures.exact)
+    (begins_badly w c.args.limit _ (bad_checkpoint w c.in-Err-Bad.place) c.misshapen.result (ap (bad_checkpoint w)
+    (sym c.in-Err-Bad.place-is)) limit c.misshapen.ensures)

@@ -8,11 +8,13 @@ use Rattle.liq_store.proofs.preparing.prepare.Goals as goal
 pub returns-in-Ok-reserve-clause-ready : goal.returns-in-Ok-reserve-clause-ready
 returns-in-Ok-reserve-clause-ready c =
     let s = state_of c.args.protocol.now in
-    let is = (rw c.in-Ok-New.field-0-is at c.in-Ok-New.ensures) s (subst (λ (p : Core). StandsFor p (state_of p)) c.protocol.ensures c.protocols_stand.ensures) in (
+    let is = (rw c.in-Ok-New.field-0-is at c.in-Ok-New.ensures) s (subst (λ (p : Core). StandsFor p (state_of p))
+    c.protocol.ensures c.protocols_stand.ensures) in (
       is.0 ∙ c.unhinted.ensures.same,
       c.in-Ok-reserve.ensures.room,
       λ stays.
-          let allowed = sym (c.unhinted.ensures.ruling s) ∙ planned_allowed s c.unhinted.result c.in-Ok-New.planned is in
+          let allowed = sym (c.unhinted.ensures.ruling s)
+          ∙ planned_allowed s c.unhinted.result c.in-Ok-New.planned is in
           let few = allowed_few s c.args.command.now allowed (never_rotates c.args.command.now.call stays) in
           omega (arith, few, c.reserve.ensures.same.records),
     )

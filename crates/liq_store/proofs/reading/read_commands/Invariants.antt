@@ -13,5 +13,7 @@ invariant-loop-done g l = record {
   still : (g.D.Disk.at l.journal.disk).faults ≡ (g.D.Disk.at l.fn.journal.disk).faults;
   counted : length l.commands.items ≡ l.done;
   none_rotates : All (λ (c : Command). is_rotate c.call ≡ false) l.commands.items;
-  read : (held : List ℕ) (w : Written) → (g.D.Disk.at l.fn.journal.disk).seen ≡ Some held → IsJournalOf l.fn.journal.generation l.fn.journal.start held w → l.fn.journal.count ≤ length w.commands → l.commands.items ≡ take l.done w.commands;
+  read : (held : List ℕ) (w : Written) → (g.D.Disk.at l.fn.journal.disk).seen ≡ Some held
+      → IsJournalOf l.fn.journal.generation l.fn.journal.start held w → l.fn.journal.count ≤ length w.commands
+      → l.commands.items ≡ take l.done w.commands;
 }

@@ -15,9 +15,11 @@ use Rattle.liq_store.proofs.store.begin.Goals as goal
 -- what is said by the side that goes on is so by the store's
 shut_beside : {D : Type 0} (at : D → DiskAt) (store : Stored D) (side : Side) → store.side ≡ side
     → IfSome (at (disk_beside store)).seen (λ now. found_on (has_odd (other side)) now ≡ Absent → IsUnshut now → ⊥)
-    → IfSome (at (disk_beside store)).seen (λ now. found_on (has_odd (other store.side)) now ≡ Absent → IsUnshut now → ⊥)
+    → IfSome (at (disk_beside store)).seen (λ now. found_on (has_odd (other store.side)) now ≡ Absent
+    → IsUnshut now → ⊥)
 shut_beside at store side same shut =
-    subst (λ (x : Side). IfSome (at (disk_beside store)).seen (λ now. found_on (has_odd (other x)) now ≡ Absent → IsUnshut now → ⊥)) (sym same) shut
+    subst (λ (x : Side). IfSome (at (disk_beside store)).seen (λ now. found_on (has_odd (other x)) now ≡ Absent
+    → IsUnshut now → ⊥)) (sym same) shut
 
 pub go_on-requires : goal.go_on-requires
 go_on-requires g c = record {
@@ -36,28 +38,33 @@ go_on-requires-in-Nothing-right-2 g c = record {
 pub go_on-requires-in-Right : goal.go_on-requires-in-Right
 go_on-requires-in-Right g c =
     let left = subst (λ (d : Stood g.row.D.Denot). IsStoodOn g.D.Disk.at true d) c.in-Holding.is c.requires.left in
-    let right = subst (λ (d : Stood g.row.D.Denot). IsStoodOn g.D.Disk.at false d) c.in-Holding-right-2.is c.requires.right in
+    let right = subst (λ (d : Stood g.row.D.Denot). IsStoodOn g.D.Disk.at false d) c.in-Holding-right-2.is
+    c.requires.right in
     record {
       taken = right;
       aside = left;
-      earlier = later_than c.in-Holding.taken c.in-Holding-right-2.other c.in-Holding.protocol c.in-Holding-right-2.later Right left.counted right.counted (sym c.later_side.ensures ∙ c.in-Right.is);
+      earlier = later_than c.in-Holding.taken c.in-Holding-right-2.other c.in-Holding.protocol
+          c.in-Holding-right-2.later Right left.counted right.counted (sym c.later_side.ensures ∙ c.in-Right.is);
     }
 
 pub go_on-requires-in-Left : goal.go_on-requires-in-Left
 go_on-requires-in-Left g c =
     let left = subst (λ (d : Stood g.row.D.Denot). IsStoodOn g.D.Disk.at true d) c.in-Holding.is c.requires.left in
-    let right = subst (λ (d : Stood g.row.D.Denot). IsStoodOn g.D.Disk.at false d) c.in-Holding-right-2.is c.requires.right in
+    let right = subst (λ (d : Stood g.row.D.Denot). IsStoodOn g.D.Disk.at false d) c.in-Holding-right-2.is
+    c.requires.right in
     record {
       taken = left;
       aside = right;
-      earlier = later_than c.in-Holding.taken c.in-Holding-right-2.other c.in-Holding.protocol c.in-Holding-right-2.later Left left.counted right.counted (sym c.later_side.ensures ∙ c.in-Left.is);
+      earlier = later_than c.in-Holding.taken c.in-Holding-right-2.other c.in-Holding.protocol
+          c.in-Holding-right-2.later Left left.counted right.counted (sym c.later_side.ensures ∙ c.in-Left.is);
     }
 
 pub returns-in-Holding-right-clause-opened : goal.returns-in-Holding-right-clause-opened
 returns-in-Holding-right-clause-opened g c = rw (c.in-Nothing.is, c.in-Holding-right.is) c.go_on.ensures.opened
 
 pub returns-in-Nothing-right-2-clause-opened : goal.returns-in-Nothing-right-2-clause-opened
-returns-in-Nothing-right-2-clause-opened g c = rw (c.in-Holding.is, c.in-Nothing-right-2.is) c.go_on-in-Nothing-right-2.ensures.opened
+returns-in-Nothing-right-2-clause-opened g c =
+    rw (c.in-Holding.is, c.in-Nothing-right-2.is) c.go_on-in-Nothing-right-2.ensures.opened
 
 pub returns-in-Right-clause-opened : goal.returns-in-Right-clause-opened
 returns-in-Right-clause-opened g c = rw (c.in-Holding.is, c.in-Holding-right-2.is) c.go_on-in-Right.ensures.opened
@@ -68,7 +75,8 @@ returns-in-Left-clause-opened g c = rw (c.in-Holding.is, c.in-Holding-right-2.is
 pub begin_anew-requires : goal.begin_anew-requires
 begin_anew-requires g c =
     let left = subst (λ (d : Stood g.row.D.Denot). IsStoodOn g.D.Disk.at true d) c.in-Nothing.is c.requires.left in
-    let right = subst (λ (d : Stood g.row.D.Denot). IsStoodOn g.D.Disk.at false d) c.in-Nothing-right.is c.requires.right in
+    let right = subst (λ (d : Stood g.row.D.Denot). IsStoodOn g.D.Disk.at false d) c.in-Nothing-right.is
+    c.requires.right in
     record { left = left.told; right = right.told; rests = right.rests }
 
 pub returns-in-Nothing-right-clause-opened : goal.returns-in-Nothing-right-clause-opened
@@ -96,19 +104,23 @@ returns-in-Holding-right-clause-right g c =
 
 pub returns-in-Holding-right-clause-shut : goal.returns-in-Holding-right-clause-shut
 returns-in-Holding-right-clause-shut g c =
-    shut_beside g.D.Disk.at c.go_on.result Right (ap (λ (o : Stored g.row.D.Denot). o.side) c.go_on.ensures.store) c.go_on.ensures.shut
+    shut_beside g.D.Disk.at c.go_on.result Right (ap (λ (o : Stored g.row.D.Denot). o.side) c.go_on.ensures.store)
+    c.go_on.ensures.shut
 
 pub returns-in-Nothing-right-2-clause-left : goal.returns-in-Nothing-right-2-clause-left
 returns-in-Nothing-right-2-clause-left g c =
-    inl (ap (λ (o : Stored g.row.D.Denot). o.left) c.go_on-in-Nothing-right-2.ensures.store ∙ ap disk_of (sym c.in-Holding.is))
+    inl (ap (λ (o : Stored g.row.D.Denot). o.left) c.go_on-in-Nothing-right-2.ensures.store
+    ∙ ap disk_of (sym c.in-Holding.is))
 
 pub returns-in-Nothing-right-2-clause-right : goal.returns-in-Nothing-right-2-clause-right
 returns-in-Nothing-right-2-clause-right g c =
-    ap (λ (o : Stored g.row.D.Denot). o.right) c.go_on-in-Nothing-right-2.ensures.store ∙ ap disk_of (sym c.in-Nothing-right-2.is)
+    ap (λ (o : Stored g.row.D.Denot). o.right) c.go_on-in-Nothing-right-2.ensures.store
+    ∙ ap disk_of (sym c.in-Nothing-right-2.is)
 
 pub returns-in-Nothing-right-2-clause-shut : goal.returns-in-Nothing-right-2-clause-shut
 returns-in-Nothing-right-2-clause-shut g c =
-    shut_beside g.D.Disk.at c.go_on-in-Nothing-right-2.result Left (ap (λ (o : Stored g.row.D.Denot). o.side) c.go_on-in-Nothing-right-2.ensures.store) c.go_on-in-Nothing-right-2.ensures.shut
+    shut_beside g.D.Disk.at c.go_on-in-Nothing-right-2.result Left (ap (λ (o : Stored g.row.D.Denot). o.side)
+    c.go_on-in-Nothing-right-2.ensures.store) c.go_on-in-Nothing-right-2.ensures.shut
 
 pub returns-in-Right-clause-left : goal.returns-in-Right-clause-left
 returns-in-Right-clause-left g c =
@@ -120,7 +132,8 @@ returns-in-Right-clause-right g c =
 
 pub returns-in-Right-clause-shut : goal.returns-in-Right-clause-shut
 returns-in-Right-clause-shut g c =
-    shut_beside g.D.Disk.at c.go_on-in-Right.result Right (ap (λ (o : Stored g.row.D.Denot). o.side) c.go_on-in-Right.ensures.store) c.go_on-in-Right.ensures.shut
+    shut_beside g.D.Disk.at c.go_on-in-Right.result Right (ap (λ (o : Stored g.row.D.Denot). o.side)
+    c.go_on-in-Right.ensures.store) c.go_on-in-Right.ensures.shut
 
 pub returns-in-Left-clause-left : goal.returns-in-Left-clause-left
 returns-in-Left-clause-left g c =
@@ -132,4 +145,5 @@ returns-in-Left-clause-right g c =
 
 pub returns-in-Left-clause-shut : goal.returns-in-Left-clause-shut
 returns-in-Left-clause-shut g c =
-    shut_beside g.D.Disk.at c.go_on-in-Left.result Left (ap (λ (o : Stored g.row.D.Denot). o.side) c.go_on-in-Left.ensures.store) c.go_on-in-Left.ensures.shut
+    shut_beside g.D.Disk.at c.go_on-in-Left.result Left (ap (λ (o : Stored g.row.D.Denot). o.side)
+    c.go_on-in-Left.ensures.store) c.go_on-in-Left.ensures.shut

@@ -12,11 +12,17 @@ opens : (core : Core) (limit : ℕ) → limit ≡ LIM → StandsFor core (openin
 opens core limit same stands = subst (λ (n : ℕ). StandsFor core (opening_with n)) same stands
 
 pub begin_on-requires : goal.begin_on-requires
-begin_on-requires g c = begins_anew g.D.Disk.at c.args.left c.args.right c.in-Ok.taken c.with_limit-protocol.result c.in-Ok.ensures.known.0 c.in-Ok.ensures.known.3 (opens c.with_limit-protocol.result _ (c.limit.ensures.known ∙ c.in-Ok.ensures.known.1) c.with_limit-protocol.ensures) c.in-Ok.ensures.lasts.telling c.in-Ok.ensures.created c.in-Ok.ensures.settled c.in-Ok.ensures.durable c.requires.rests c.requires.right
+begin_on-requires g c = begins_anew g.D.Disk.at c.args.left c.args.right c.in-Ok.taken c.with_limit-protocol.result
+    c.in-Ok.ensures.known.0 c.in-Ok.ensures.known.3 (opens c.with_limit-protocol.result _ (c.limit.ensures.known
+    ∙ c.in-Ok.ensures.known.1) c.with_limit-protocol.ensures) c.in-Ok.ensures.lasts.telling c.in-Ok.ensures.created
+    c.in-Ok.ensures.settled c.in-Ok.ensures.durable c.requires.rests c.requires.right
 
 pub returns-in-Ok-clause-opened : goal.returns-in-Ok-clause-opened
 returns-in-Ok-clause-opened g c =
-    rw c.begin_on.ensures (anew_opened g.D.Disk.at c.args.left c.args.right c.in-Ok.taken c.with_limit-protocol.result (opens c.with_limit-protocol.result _ (c.limit.ensures.known ∙ c.in-Ok.ensures.known.1) c.with_limit-protocol.ensures) c.in-Ok.ensures.cause c.in-Ok.ensures.known.2 c.in-Ok.ensures.created c.requires.left c.requires.right)
+    rw c.begin_on.ensures (anew_opened g.D.Disk.at c.args.left c.args.right c.in-Ok.taken c.with_limit-protocol.result
+    (opens c.with_limit-protocol.result _ (c.limit.ensures.known
+    ∙ c.in-Ok.ensures.known.1) c.with_limit-protocol.ensures) c.in-Ok.ensures.cause c.in-Ok.ensures.known.2
+    c.in-Ok.ensures.created c.requires.left c.requires.right)
 
 pub returns-in-Ok-clause-left : goal.returns-in-Ok-clause-left
 returns-in-Ok-clause-left g c =

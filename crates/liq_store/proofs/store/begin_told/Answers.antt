@@ -14,16 +14,19 @@ use Rattle.liq_store.proofs.store.begin_told.Goals as goal
 
 pub returns-in-Ok-clause-opened : goal.returns-in-Ok-clause-opened
 returns-in-Ok-clause-opened g c =
-    listed_opened c.in-Ok.store c.with_list.result c.with_list.ensures.store c.with_list.ensures.err g.D.Disk.at (disk_of c.args.left) (disk_of c.args.right) c.in-Ok.ensures.opened
+    listed_opened c.in-Ok.store c.with_list.result c.with_list.ensures.store c.with_list.ensures.err g.D.Disk.at
+    (disk_of c.args.left) (disk_of c.args.right) c.in-Ok.ensures.opened
 
 pub returns-in-Ok-clause-shut : goal.returns-in-Ok-clause-shut
 returns-in-Ok-clause-shut g c =
     still_so c.in-Ok.store c.with_list.result c.with_list.ensures.store c.with_list.ensures.err
-    (λ store. IfSome (g.D.Disk.at (disk_beside store)).seen (λ now. found_on (has_odd (other store.side)) now ≡ Absent → IsUnshut now → ⊥)) (λ changes. c.in-Ok.ensures.shut)
+    (λ store. IfSome (g.D.Disk.at (disk_beside store)).seen (λ now. found_on (has_odd (other store.side)) now ≡ Absent
+    → IsUnshut now → ⊥)) (λ changes. c.in-Ok.ensures.shut)
 
 pub returns-in-Ok-clause-cause : goal.returns-in-Ok-clause-cause
 returns-in-Ok-clause-cause g c =
-    unlisted c.in-Ok.store c.with_list.result c.with_list.ensures.store c.with_list.ensures.err g.D.Disk.at (disk_of c.args.left) (disk_of c.args.right) c.in-Ok.ensures.opened
+    unlisted c.in-Ok.store c.with_list.result c.with_list.ensures.store c.with_list.ensures.err g.D.Disk.at
+    (disk_of c.args.left) (disk_of c.args.right) c.in-Ok.ensures.opened
 
 pub returns-in-Ok-clause-rests : goal.returns-in-Ok-clause-rests
 returns-in-Ok-clause-rests g c =
@@ -32,15 +35,21 @@ returns-in-Ok-clause-rests g c =
 
 pub returns-in-Ok-clause-told : goal.returns-in-Ok-clause-told
 returns-in-Ok-clause-told g c =
-    by_core c.in-Ok.store c.with_list.result c.with_list.ensures.store c.with_list.ensures.err (λ core changes. changes ≡ told_whole core.image core.list) c.with_list.ensures.told
+    by_core c.in-Ok.store c.with_list.result c.with_list.ensures.store c.with_list.ensures.err (λ core changes. changes
+    ≡ told_whole core.image core.list) c.with_list.ensures.told
 
 pub returns-in-Ok-clause-followed : goal.returns-in-Ok-clause-followed
 returns-in-Ok-clause-followed g c =
-    by_core c.in-Ok.store c.with_list.result c.with_list.ensures.store c.with_list.ensures.err (λ core changes. (s : State) → StandsFor core s → all_followed (view_of opening) changes ≡ view_of s) c.with_list.ensures.followed
+    by_core c.in-Ok.store c.with_list.result c.with_list.ensures.store c.with_list.ensures.err (λ core changes.
+    (s : State) → StandsFor core s → all_followed (view_of opening) changes ≡ view_of s) c.with_list.ensures.followed
 
 pub returns-in-Ok-clause-left : goal.returns-in-Ok-clause-left
 returns-in-Ok-clause-left g c =
-    subst (BeginsLeft g.D.Disk.at c.args.left c.args.right) (sym (same_disks c.in-Ok.store c.with_list.result c.with_list.ensures.store c.with_list.ensures.err).0) c.in-Ok.ensures.left
+    subst (BeginsLeft g.D.Disk.at c.args.left c.args.right)
+    (sym (same_disks c.in-Ok.store c.with_list.result c.with_list.ensures.store c.with_list.ensures.err).0)
+    c.in-Ok.ensures.left
 
 pub returns-in-Ok-clause-right : goal.returns-in-Ok-clause-right
-returns-in-Ok-clause-right g c = (same_disks c.in-Ok.store c.with_list.result c.with_list.ensures.store c.with_list.ensures.err).1 ∙ c.in-Ok.ensures.right
+returns-in-Ok-clause-right g c =
+    (same_disks c.in-Ok.store c.with_list.result c.with_list.ensures.store c.with_list.ensures.err).1
+    ∙ c.in-Ok.ensures.right

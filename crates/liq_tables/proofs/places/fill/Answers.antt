@@ -9,5 +9,10 @@ returns-in_ok-resize-clause-kept c k =
     let page = c.args.page.now in
     ap (λ (l : List ℕ). get_or l k NONE)
     (c.in_ok-resize.ensures.items
-    ∙ ap (λ (l : List ℕ). l ++ replicate (KEYS - page.len) NONE) (take_all KEYS page.items (omega (arith, c.if-len.true, c.len.ensures, page.ok.0))))
+    ∙ ap (λ (l : List ℕ). l ++ replicate (KEYS - page.len) NONE) (take_all KEYS page.items (omega (
+      arith,
+      c.if-len.true,
+      c.len.ensures,
+      page.ok.0,
+    ))))
     ∙ padded page.items (KEYS - page.len) k

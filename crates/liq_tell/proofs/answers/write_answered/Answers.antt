@@ -7,7 +7,8 @@ use Rattle.liq_tell.proofs.answers.write_answered.Goals as goal
 
 pub returns-in-Ok-clause-written : goal.returns-in-Ok-clause-written
 returns-in-Ok-clause-written g c s is =
-    text_written (Ok (asked_text c.args.asked.now c.args.limit c.args.commands.now)) _ c.write_text.result _ _ (ap Ok (sym (c.deref.ensures.value ∙ c.in-Ok.ensures.text))) c.write_text.ensures.ok c.write_text.ensures.err
+    text_written (Ok (asked_text c.args.asked.now c.args.limit c.args.commands.now)) _ c.write_text.result _ _
+    (ap Ok (sym (c.deref.ensures.value ∙ c.in-Ok.ensures.text))) c.write_text.ensures.ok c.write_text.ensures.err
 
 pub returns-in-Ok-clause-no_disk : goal.returns-in-Ok-clause-no_disk
 returns-in-Ok-clause-no_disk g c = by_sink _ c.write_text.result DiskFault c.write_text.ensures.err (λ e. cc)

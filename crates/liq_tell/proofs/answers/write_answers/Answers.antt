@@ -16,6 +16,9 @@ returns-clause-written g c held w s told found stands from_one leads =
     let whole = c.in_ok-whole.ensures.found held w s told found stands from_one leads in
     let are : c.deref.result.now ≡ w.commands = c.deref.ensures.value ∙ whole.2 in
     let led : replay 1 (opening_with c.in_ok-whole.whole.limit) c.deref.result.now ≡ Ok s =
-    ap (replay 1 (opening_with c.in_ok-whole.whole.limit)) are ∙ ap (λ (limit : ℕ). replay 1 (opening_with limit) w.commands) whole.1 ∙ whole.3 in
-    let wrote = subst (λ (limit : ℕ). WritesText (Ok (asked_text asked limit c.deref.result.now)) end before now) whole.1 (c.write_answered.ensures.written s led) in
-    subst (λ (commands : List Command). WritesAnswers s commands asked end before now) are (answers_written s c.deref.result.now asked end before now whole.0 wrote)
+    ap (replay 1 (opening_with c.in_ok-whole.whole.limit)) are
+    ∙ ap (λ (limit : ℕ). replay 1 (opening_with limit) w.commands) whole.1 ∙ whole.3 in
+    let wrote = subst (λ (limit : ℕ). WritesText (Ok (asked_text asked limit c.deref.result.now)) end before now)
+    whole.1 (c.write_answered.ensures.written s led) in
+    subst (λ (commands : List Command). WritesAnswers s commands asked end before now) are
+    (answers_written s c.deref.result.now asked end before now whole.0 wrote)

@@ -15,7 +15,10 @@ returns-clause-written g c held w s told found stands from_one leads =
     let whole = c.in_ok-whole.ensures.found held w s told found stands from_one leads in
     let are : c.deref.result.now ≡ w.commands = c.deref.ensures.value ∙ whole.2 in
     let led : replay 1 (opening_with c.in_ok-whole.whole.limit) c.deref.result.now ≡ Ok s =
-    ap (replay 1 (opening_with c.in_ok-whole.whole.limit)) are ∙ ap (λ (limit : ℕ). replay 1 (opening_with limit) w.commands) whole.1 ∙ whole.3 in
+    ap (replay 1 (opening_with c.in_ok-whole.whole.limit)) are
+    ∙ ap (λ (limit : ℕ). replay 1 (opening_with limit) w.commands) whole.1 ∙ whole.3 in
     let wrote = c.write_review.ensures.written s (sym whole.1) led in
-    let reviewed_so = subst (λ (limit : ℕ). WritesText (reviewed limit c.deref.result.now) end before now) whole.1 wrote.0 in
-    subst (λ (commands : List Command). WritesAudit s commands end before now) are (audit_reviewed s c.deref.result.now end before now whole.0 reviewed_so wrote.1)
+    let reviewed_so = subst (λ (limit : ℕ). WritesText (reviewed limit c.deref.result.now) end before now) whole.1
+    wrote.0 in
+    subst (λ (commands : List Command). WritesAudit s commands end before now) are
+    (audit_reviewed s c.deref.result.now end before now whole.0 reviewed_so wrote.1)

@@ -13,8 +13,10 @@ use Rattle.liq_tell.proofs.audit.write_review.Goals as goal
 pub returns-in-Ok-clause-written : goal.returns-in-Ok-clause-written
 returns-in-Ok-clause-written g c s same is =
     let e = c.in-Ok.ensures in (
-      text_written (reviewed c.args.limit c.args.commands.now) _ c.write_text.result _ _ (e.text ∙ ap Ok (sym c.deref.ensures.value)) c.write_text.ensures.ok c.write_text.ensures.err,
-      audit_holds c.write_text.result s c.args.commands.now (subst (λ (limit : ℕ). AuditAlong limit s c.args.commands.now) (sym same) (e.shares s is, e.within s is)),
+      text_written (reviewed c.args.limit c.args.commands.now) _ c.write_text.result _ _ (e.text
+          ∙ ap Ok (sym c.deref.ensures.value)) c.write_text.ensures.ok c.write_text.ensures.err,
+      audit_holds c.write_text.result s c.args.commands.now
+          (subst (λ (limit : ℕ). AuditAlong limit s c.args.commands.now) (sym same) (e.shares s is, e.within s is)),
     )
 
 pub returns-in-Ok-clause-no_disk : goal.returns-in-Ok-clause-no_disk
@@ -27,7 +29,8 @@ pub returns-in-Err-clause-written : goal.returns-in-Err-clause-written
 returns-in-Err-clause-written g c s same is =
     let held = (g.K.Sink.at c.args.out.now).held in
     let commands = c.args.commands.now in
-    subst (λ (halt : Halt). WritesText (reviewed c.args.limit commands) (Err halt) held held × AuditHolds (Err halt) s commands) (sym c.halt_on.ensures)
+    subst (λ (halt : Halt). WritesText (reviewed c.args.limit commands) (Err halt) held held
+    × AuditHolds (Err halt) s commands) (sym c.halt_on.ensures)
     (not_reviewed c.args.limit commands s c.args.side c.in-Err.fault held is c.in-Err.ensures.fault, tt)
 
 pub returns-in-Err-clause-no_disk : goal.returns-in-Err-clause-no_disk
@@ -39,4 +42,5 @@ returns-in-Err-clause-no_source g c is = (no_fault c.args.side c.in-Err.fault).1
 pub returns-in-Err-clause-sink : goal.returns-in-Err-clause-sink
 returns-in-Err-clause-sink g c =
     let count = (g.K.Sink.at c.args.out.now).faults in
-    subst (λ (halt : Halt). let end : Result (Unit {0}) Halt = Err halt in WriteCause end count count) (sym c.halt_on.ensures) (no_cause c.args.side c.in-Err.fault count)
+    subst (λ (halt : Halt). let end : Result (Unit {0}) Halt = Err halt
+    in WriteCause end count count) (sym c.halt_on.ensures) (no_cause c.args.side c.in-Err.fault count)

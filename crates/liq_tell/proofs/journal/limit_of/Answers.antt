@@ -6,4 +6,5 @@ use Rattle.liq_tell.proofs.journal.limit_of.Goals as goal
 
 pub returns-clause-one_of_two : goal.returns-clause-one_of_two
 returns-clause-one_of_two c =
-    subst (λ (limit : ℕ). IsLimit limit) (sym c.limit.ensures) (sound_facts (state_of c.args.protocol.now) c.protocols_are_sound_states.ensures).ranges.limit
+    subst (λ (limit : ℕ). IsLimit limit) (sym c.limit.ensures) (sound_facts (state_of c.args.protocol.now)
+    c.protocols_are_sound_states.ensures).ranges.limit

@@ -7,7 +7,8 @@ use Rattle.liq_tell.proofs.state.write_standing.Goals as goal
 
 pub returns-clause-written : goal.returns-clause-written
 returns-clause-written g c s stands =
-    text_written (Ok (standing s)) _ c.write_text.result _ _ (ap Ok (sym (c.deref.ensures.value ∙ c.in_ok-text.ensures s stands))) c.write_text.ensures.ok c.write_text.ensures.err
+    text_written (Ok (standing s)) _ c.write_text.result _ _ (ap Ok (sym (c.deref.ensures.value
+    ∙ c.in_ok-text.ensures s stands))) c.write_text.ensures.ok c.write_text.ensures.err
 
 pub returns-clause-no_disk : goal.returns-clause-no_disk
 returns-clause-no_disk g c = by_sink _ c.write_text.result DiskFault c.write_text.ensures.err (λ e. cc)

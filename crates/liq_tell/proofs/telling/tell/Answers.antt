@@ -74,7 +74,9 @@ returns-clause-told g c l r told_l told_r start is =
     let holds = opened.commands l r taken.0 told_l told_r taken.1 in
     let limit_is = c.journals_keep_their_limit.ensures.pair l r start is in
     let leads : start.generation ≡ 1 → replay 1 (opening_with start.limit) holds.written.commands ≡ Ok start =
-    λ one. ap (replay 1 (opening_with start.limit)) holds.are ∙ ap (λ (limit : ℕ). replay 1 (opening_with limit) (commands_on l r)) limit_is ∙ c.commands_lead_to_the_state.ensures.first l r start is one in
+    λ one. ap (replay 1 (opening_with start.limit)) holds.are
+    ∙ ap (λ (limit : ℕ). replay 1 (opening_with limit) (commands_on l r)) limit_is
+    ∙ c.commands_lead_to_the_state.ensures.first l r start is one in
     let written = wrote.ensures.written taken.0 holds.written start taken.1 holds.found stands from_one leads in
     let so = subst (λ (commands : List Command). WritesTold what start commands end (sink_at c.args.out.now).held
     (sink_at wrote.new.out).held) holds.are written in (
@@ -86,7 +88,8 @@ returns-clause-told g c l r told_l told_r start is =
     )
 
 pub returns-clause-damaged : goal.returns-clause-damaged
-returns-clause-damaged g c l r told_l told_r side damage is = absurd (cc ((c.in-Ok.ensures.opened.state l r told_l told_r).1, is))
+returns-clause-damaged g c l r told_l told_r side damage is =
+    absurd (cc ((c.in-Ok.ensures.opened.state l r told_l told_r).1, is))
 
 pub returns-in-Err-clause-past : goal.returns-in-Err-clause-past
 returns-in-Err-clause-past g c l r told_l told_r start is =
@@ -96,7 +99,8 @@ returns-in-Err-clause-past g c l r told_l told_r start is =
     subst (λ (e : Ending g.row.D.Denot). LeavesOfRun disk_at c.args.left c.args.right
     (IsFaultOfTelling e.end) l r start [] e.left e.right) (sym c.unopened.ensures)
     (unopened_past disk_at g.met.D.Disk.seen_may_stay fault.why fault.left fault.right c.args.left c.args.right
-    opens.not_opened opens.left_time opens.right_time opens.rests opens.recovers opens.left_leaves opens.right_leaves l r start told_l told_r is)
+    opens.not_opened opens.left_time opens.right_time opens.rests opens.recovers opens.left_leaves opens.right_leaves l
+    r start told_l told_r is)
 
 pub returns-clause-past : goal.returns-clause-past
 returns-clause-past g c l r told_l told_r start is only_l only_r kept =

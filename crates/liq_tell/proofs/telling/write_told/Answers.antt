@@ -34,7 +34,9 @@ returns-in-Answers-clause-written g c held w s told found stands from_one leads 
     (wrote.ensures.written held w s told found stands from_one leads)
 
 pub returns-in-State-clause-ends : goal.returns-in-State-clause-ends
-returns-in-State-clause-ends g c = may_end c.args.what.now c.write_standing.result c.write_standing.ensures.no_source c.write_standing.ensures.no_number
+returns-in-State-clause-ends g c = may_end c.args.what.now c.write_standing.result c.write_standing.ensures.no_source
+    c.write_standing.ensures.no_number
 
 pub returns-in-Report-clause-ends : goal.returns-in-Report-clause-ends
-returns-in-Report-clause-ends g c = may_end c.args.what.now c.write_report.result c.write_report.ensures.no_source c.write_report.ensures.no_number
+returns-in-Report-clause-ends g c = may_end c.args.what.now c.write_report.result c.write_report.ensures.no_source
+    c.write_report.ensures.no_number

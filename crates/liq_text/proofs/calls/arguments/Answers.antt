@@ -34,13 +34,15 @@ pub returns-in-Withdraw : goal.returns-in-Withdraw
 returns-in-Withdraw c = cc (arguments_read verbs.Withdraw c.args.words.now.has_failed (pieces_left c.args.words.now))
 
 pub returns-in-GainToTrove : goal.returns-in-GainToTrove
-returns-in-GainToTrove c = cc (arguments_read verbs.GainToTrove c.args.words.now.has_failed (pieces_left c.args.words.now))
+returns-in-GainToTrove c = cc (arguments_read verbs.GainToTrove c.args.words.now.has_failed
+    (pieces_left c.args.words.now))
 
 pub returns-in-Liquidate : goal.returns-in-Liquidate
 returns-in-Liquidate c = cc (arguments_read verbs.Liquidate c.args.words.now.has_failed (pieces_left c.args.words.now))
 
 pub returns-in-LiquidateLowest : goal.returns-in-LiquidateLowest
-returns-in-LiquidateLowest c = cc (arguments_read verbs.LiquidateLowest c.args.words.now.has_failed (pieces_left c.args.words.now))
+returns-in-LiquidateLowest c = cc (arguments_read verbs.LiquidateLowest c.args.words.now.has_failed
+    (pieces_left c.args.words.now))
 
 pub returns-in-Redeem : goal.returns-in-Redeem
 returns-in-Redeem c = cc (arguments_read verbs.Redeem c.args.words.now.has_failed (pieces_left c.args.words.now))

@@ -17,13 +17,17 @@ unfolding unless
 returns-in_err-call c =
     let words = pieces_of c.args.line.now in
     let client : Some c.in_ok-client.client ≡ account_of (first_word words) = cc (c.in_ok-client.was) in
-    let call : ◌≡◌ {A = Option Call} None (unless (fails a_number false (others words)) (call_of (others (others words)))) = cc (c.in_err-call.was) in
-    c.from_residual-in_err-call.ensures ∙ command_read words (Some c.in_ok-client.client) c.number-number.result None false (no_question (first_word words) c.in_ok-client.client client) client (cc) call
+    let call : ◌≡◌ {A = Option Call} None (unless (fails a_number false (others words))
+    (call_of (others (others words)))) = cc (c.in_err-call.was) in
+    c.from_residual-in_err-call.ensures ∙ command_read words (Some c.in_ok-client.client) c.number-number.result None
+    false (no_question (first_word words) c.in_ok-client.client client) client (cc) call
 
 pub returns : goal.returns
 unfolding unless
 returns c =
     let words = pieces_of c.args.line.now in
     let client : Some c.in_ok-client.client ≡ account_of (first_word words) = cc (c.in_ok-client.was) in
-    let call : Some c.in_ok-call.call ≡ unless (fails a_number false (others words)) (call_of (others (others words))) = cc (c.in_ok-call.was) in
-    command_read words (Some c.in_ok-client.client) c.number-number.result (Some c.in_ok-call.call) false (no_question (first_word words) c.in_ok-client.client client) client (cc) call
+    let call : Some c.in_ok-call.call ≡ unless (fails a_number false (others words)) (call_of (others (others words))) =
+    cc (c.in_ok-call.was) in
+    command_read words (Some c.in_ok-client.client) c.number-number.result (Some c.in_ok-call.call) false
+    (no_question (first_word words) c.in_ok-client.client client) client (cc) call

@@ -3,7 +3,11 @@ use Rattle.liq_text.proofs.PieceLaws.{one_word, more_words, words_behind}
 use Rattle.liq_text.proofs.pieces.four_words.Goals as goal
 
 pub returns-in_err-rest : goal.returns-in_err-rest
-returns-in_err-rest c = rw c.from_residual.ensures (λ four. omega (arith, four, one_word _ _ _ c.split_first.ensures c.in_err-rest.was))
+returns-in_err-rest c = rw c.from_residual.ensures (λ four. omega (
+  arith,
+  four,
+  one_word _ _ _ c.split_first.ensures c.in_err-rest.was,
+))
 
 pub returns-in_err-rest-2 : goal.returns-in_err-rest-2
 returns-in_err-rest-2 c = rw c.from_residual-in_err-rest-2.ensures (λ four. omega (

@@ -10,4 +10,5 @@ returns-in-None c = pieces_of-one c.args.line.now c.in-None.ensures.first
 
 pub returns-in-Some : goal.returns-in-Some
 unfolding rest_pieces pieces_of
-returns-in-Some c = to_the_end c.args.line.now (c.in-Some.at + 1) (pieces_of-more c.args.line.now c.in-Some.at c.in-Some.ensures.first)
+returns-in-Some c = to_the_end c.args.line.now (c.in-Some.at + 1) (pieces_of-more c.args.line.now c.in-Some.at
+    c.in-Some.ensures.first)

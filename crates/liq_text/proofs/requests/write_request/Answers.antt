@@ -9,8 +9,11 @@ use Rattle.liq_text.proofs.requests.write_request.Goals as goal
 pub returns-clause-ok : goal.returns-clause-ok
 returns-clause-ok c = λ hints.
     appends_line c.args.out.now.items c.put_request.new.out.items c.args.request.now
-    (c.put_request.ensures.items ∙ ap (λ (x : List ℕ). x ++ join_with_byte 32 (map piece_of (request_words c.args.request.now))) c.reserve.ensures.items)
+    (c.put_request.ensures.items
+    ∙ ap (λ (x : List ℕ). x ++ join_with_byte 32 (map piece_of (request_words c.args.request.now)))
+    c.reserve.ensures.items)
     c.put_request.ensures.range hints
 
 pub returns-clause-written : goal.returns-clause-written
-returns-clause-written c = c.put_request.ensures.items ∙ ap (λ (x : List ℕ). x ++ line_of c.args.request.now) c.reserve.ensures.items
+returns-clause-written c = c.put_request.ensures.items
+    ∙ ap (λ (x : List ℕ). x ++ line_of c.args.request.now) c.reserve.ensures.items

@@ -18,15 +18,25 @@ returns-then-is_empty c =
 pub returns-in_err-number : goal.returns-in_err-number
 returns-in_err-number c =
     c.from_residual.ensures
-    ∙ number_of-broken c.args.word.now c.loop-byte.byte-index c.loop-byte-test.true (λ digit. omega (arith, c.in_err-number.ensures digit, c.loop-byte.invariant.value))
+    ∙ number_of-broken c.args.word.now c.loop-byte.byte-index c.loop-byte-test.true (λ digit. omega (
+      arith,
+      c.in_err-number.ensures digit,
+      c.loop-byte.invariant.value,
+    ))
 
 pub loop-byte-preserved : goal.loop-byte-preserved
 loop-byte-preserved c =
     let word : List ℕ = c.args.word.now in
     record {
-      digits = digits_more 10 word c.loop-byte.byte-index c.loop-byte-test.true c.loop-byte.invariant.digits c.in_ok-number.ensures.0;
+      digits = digits_more 10 word c.loop-byte.byte-index c.loop-byte-test.true c.loop-byte.invariant.digits
+          c.in_ok-number.ensures.0;
       fits = c.in_ok-number.ensures.2;
-      value = omega (arith, c.in_ok-number.ensures.1, c.loop-byte.invariant.value, digits_value_more 10 word c.loop-byte.byte-index c.loop-byte-test.true);
+      value = omega (
+        arith,
+        c.in_ok-number.ensures.1,
+        c.loop-byte.invariant.value,
+        digits_value_more 10 word c.loop-byte.byte-index c.loop-byte-test.true,
+      );
     }
 
 pub returns : goal.returns
@@ -37,5 +47,8 @@ returns c =
     let some : 0 < length word = search rules in
     ap Some value
     ∙ number_of-digits word some
-    (λ zero. let short : 1 < length word → ⊥ = λ long. cc (c.has_leading_zero.ensures.1 (long, zero), c.if-has_leading_zero.false) in omega (arith, some, short))
+    (λ zero. let short : 1 < length word → ⊥ = λ long. cc (
+      c.has_leading_zero.ensures.1 (long, zero),
+      c.if-has_leading_zero.false,
+    ) in omega (arith, some, short))
     (subst (AllDigits 10) whole c.loop-byte.invariant.digits) (omega (arith, value, c.loop-byte.invariant.fits))

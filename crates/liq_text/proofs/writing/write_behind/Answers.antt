@@ -6,7 +6,10 @@ use Rattle.liq_text.proofs.writing.write_behind.Goals as goal
 pub loop-left-init : goal.loop-left-init
 loop-left-init c = record {
   within = omega arith;
-  text = nothing_behind c.args.text.now c.args.numbers.now 210 (length c.args.numbers.now) (omega (arith, c.requires.room)) (omega arith);
+  text = nothing_behind c.args.text.now c.args.numbers.now 210 (length c.args.numbers.now) (omega (
+    arith,
+    c.requires.room,
+  )) (omega arith);
   start = omega arith;
   short = omega arith;
 }
@@ -14,25 +17,64 @@ loop-left-init c = record {
 pub write_digits-start-requires : goal.write_digits-start-requires
 write_digits-start-requires c =
     let i = c.loop-left.left - 1 in
-    let digits : length (decimal (get_or c.args.numbers.now i 0)) ≤ 20 = number_short (get_or c.args.numbers.now i 0) (omega (arith, c.type_inv.numbers i)) in
-    (omega (arith, digits, c.requires.few, c.loop-left.invariant.short, c.loop-left-test.true), omega (arith, c.requires.room, c.loop-left.invariant.start, c.loop-left.auto.text))
+    let digits : length (decimal (get_or c.args.numbers.now i 0)) ≤ 20 = number_short (get_or c.args.numbers.now i 0)
+    (omega (arith, c.type_inv.numbers i)) in (
+      omega (arith, digits, c.requires.few, c.loop-left.invariant.short, c.loop-left-test.true),
+      omega (arith, c.requires.room, c.loop-left.invariant.start, c.loop-left.auto.text),
+    )
 
 pub overflow_sub-start : goal.overflow_sub-start
 overflow_sub-start c =
     let i = c.loop-left.left - 1 in
-    let digits : length (decimal (get_or c.args.numbers.now i 0)) ≤ 20 = number_short (get_or c.args.numbers.now i 0) (omega (arith, c.type_inv.numbers i)) in
-    omega (arith, digits, c.requires.few, c.loop-left.invariant.short, c.loop-left-test.true, c.write_digits-start.ensures.start)
+    let digits : length (decimal (get_or c.args.numbers.now i 0)) ≤ 20 = number_short (get_or c.args.numbers.now i 0)
+    (omega (arith, c.type_inv.numbers i)) in
+    omega (
+      arith,
+      digits,
+      c.requires.few,
+      c.loop-left.invariant.short,
+      c.loop-left-test.true,
+      c.write_digits-start.ensures.start,
+    )
 
 pub loop-left-preserved : goal.loop-left-preserved
 loop-left-preserved c =
     let i = c.loop-left.left - 1 in
-    let digits : length (decimal (get_or c.args.numbers.now i 0)) ≤ 20 = number_short (get_or c.args.numbers.now i 0) (omega (arith, c.type_inv.numbers i)) in
+    let digits : length (decimal (get_or c.args.numbers.now i 0)) ≤ 20 = number_short (get_or c.args.numbers.now i 0)
+    (omega (arith, c.type_inv.numbers i)) in
     record {
       within = omega (arith, c.loop-left.invariant.within);
-      text = put_before c.loop-left.text c.write_digits-start.new.buf c.loop-left.start c.write_digits-start.result (c.write_digits-start.result - 1) c.loop-left.left i c.args.numbers.now
-          (omega (arith, c.loop-left-test.true)) c.loop-left.invariant.within c.loop-left.invariant.text c.write_digits-start.ensures.written
-          (omega (arith, digits, c.requires.few, c.loop-left.invariant.short, c.loop-left-test.true, c.write_digits-start.ensures.start))
-          (omega (arith, digits, c.requires.few, c.requires.room, c.loop-left.invariant.start, c.loop-left.invariant.short, c.loop-left-test.true, c.write_digits-start.ensures.start, c.loop-left.auto.text, c.write_digits-start.auto.buf));
+      text = put_before c.loop-left.text c.write_digits-start.new.buf c.loop-left.start c.write_digits-start.result
+          (c.write_digits-start.result - 1) c.loop-left.left i c.args.numbers.now
+          (omega (arith, c.loop-left-test.true)) c.loop-left.invariant.within c.loop-left.invariant.text
+          c.write_digits-start.ensures.written
+          (omega (
+            arith,
+            digits,
+            c.requires.few,
+            c.loop-left.invariant.short,
+            c.loop-left-test.true,
+            c.write_digits-start.ensures.start,
+          ))
+          (omega (
+            arith,
+            digits,
+            c.requires.few,
+            c.requires.room,
+            c.loop-left.invariant.start,
+            c.loop-left.invariant.short,
+            c.loop-left-test.true,
+            c.write_digits-start.ensures.start,
+            c.loop-left.auto.text,
+            c.write_digits-start.auto.buf,
+          ));
       start = omega (arith, c.loop-left.invariant.start, c.write_digits-start.ensures.start);
-      short = omega (arith, digits, c.requires.few, c.loop-left.invariant.short, c.loop-left-test.true, c.write_digits-start.ensures.start);
+      short = omega (
+        arith,
+        digits,
+        c.requires.few,
+        c.loop-left.invariant.short,
+        c.loop-left-test.true,
+        c.write_digits-start.ensures.start,
+      );
     }

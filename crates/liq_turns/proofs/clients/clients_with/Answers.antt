@@ -7,7 +7,8 @@ use Rattle.liq_turns.proofs.clients.clients_with.Goals as goal
 pub returns-in-Some : goal.returns-in-Some
 returns-in-Some c row =
     let there = sym c.get.ensures.row ∙ ap option_copied c.in-Some.is in
-    let same = length_again c.args.clients.now.rows c.args.client row c.in-Some.field-0.now c.get.ensures.ascend there in
+    let same = length_again c.args.clients.now.rows c.args.client row c.in-Some.field-0.now c.get.ensures.ascend there
+    in
     omega (arith, same, c.count-count.ensures)
 
 pub returns-in-None : goal.returns-in-None

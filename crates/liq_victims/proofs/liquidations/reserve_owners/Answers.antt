@@ -8,11 +8,13 @@ use Rattle.liq_victims.proofs.liquidations.reserve_owners.Goals as goal
 abbrev HasOwner : WithRoom ℕ → Victim → Type 0
 HasOwner table v = HasRoom table v.account
 
-room_kept : (old new : WithRoom ℕ) → KeepsRoom old new → (vs : List Victim) → AllByRecursion (HasOwner old) vs → AllByRecursion (HasOwner new) vs
+room_kept : (old new : WithRoom ℕ) → KeepsRoom old new → (vs : List Victim) → AllByRecursion (HasOwner old) vs
+    → AllByRecursion (HasOwner new) vs
 room_kept old new kept [] h = tt
 room_kept old new kept (v ∷ vs) h = (kept v.account h.0, room_kept old new kept vs h.1)
 
-one_more : (P : Victim → Type 0) (vs : List Victim) (i : ℕ) → i < length vs → AllByRecursion P (take i vs) → P (get_or vs i no_victim) → AllByRecursion P (take (suc i) vs)
+one_more : (P : Victim → Type 0) (vs : List Victim) (i : ℕ) → i < length vs → AllByRecursion P (take i vs)
+    → P (get_or vs i no_victim) → AllByRecursion P (take (suc i) vs)
 one_more P [] i within h here = tt
 one_more P (v ∷ vs) zero within h here = (here, tt)
 one_more P (v ∷ vs) (suc i) within h here = (h.0, one_more P vs i (omega (arith, within)) h.1 here)
@@ -27,5 +29,7 @@ loop-victim-preserved c =
       kept = λ key had. c.reserve_owner.ensures.kept key (c.loop-victim.invariant.kept key had);
       room =
           subst (λ k. AllByRecursion (HasOwner new) (take k vs)) (sym (add-one i))
-          (one_more (HasOwner new) vs i c.loop-victim-test.true (room_kept c.loop-victim.surplus new c.reserve_owner.ensures.kept (take i vs) c.loop-victim.invariant.room) c.in_ok-reserve_owner.ensures.room);
+          (one_more (HasOwner new) vs i c.loop-victim-test.true
+          (room_kept c.loop-victim.surplus new c.reserve_owner.ensures.kept (take i vs) c.loop-victim.invariant.room)
+          c.in_ok-reserve_owner.ensures.room);
     }

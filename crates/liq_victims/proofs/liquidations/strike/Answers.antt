@@ -15,9 +15,11 @@ use Rattle.liq_victims.proofs.Striking.{no_victim, all_at, walked, victim_there,
 use Rattle.liq_victims.proofs.liquidations.strike.Goals as goal
 
 -- what stands before the victim at an index
-finds_before : (s : State) → IsSoundState s → (liquidator : ℕ) → liquidator < ACCOUNTS → (vs : List Victim) → AreVictims s liquidator vs → (i : ℕ) → Finds (all_liquidated s liquidator (take i vs))
+finds_before : (s : State) → IsSoundState s → (liquidator : ℕ) → liquidator < ACCOUNTS → (vs : List Victim)
+    → AreVictims s liquidator vs → (i : ℕ) → Finds (all_liquidated s liquidator (take i vs))
 finds_before s h liquidator k vs victims i =
-    finds_after s (all_liquidated s liquidator (take i vs)) (walked liquidator k vs s (finds s (sound_facts s h)) victims i)
+    finds_after s (all_liquidated s liquidator (take i vs)) (walked liquidator k vs s (finds s (sound_facts s h))
+    victims i)
 
 pub apply_one-requires-clause-planned : goal.apply_one-requires-clause-planned
 apply_one-requires-clause-planned c =
@@ -25,9 +27,11 @@ apply_one-requires-clause-planned c =
     let vs = c.args.victims.now in
     let i = c.loop-victim.victim-index in
     let kept = c.loop-victim.invariant.kept q.0 q.1 q.2 q.3 in
-    planned_kept (all_liquidated q.0 c.args.liquidator (take i vs)) (finds_before q.0 q.1 c.args.liquidator c.requires.range vs q.2 i) (get_or vs i no_victim)
+    planned_kept (all_liquidated q.0 c.args.liquidator (take i vs)) (finds_before q.0 q.1 c.args.liquidator
+    c.requires.range vs q.2 i) (get_or vs i no_victim)
     (victim_there c.args.liquidator c.requires.range vs q.0 q.2 i c.loop-victim-test.true) c.args.liquidator
-    c.loop-victim.wallets c.loop-victim.pools c.loop-victim.surplus c.loop-victim.troves c.loop-victim.order c.loop-victim.stability kept
+    c.loop-victim.wallets c.loop-victim.pools c.loop-victim.surplus c.loop-victim.troves c.loop-victim.order
+    c.loop-victim.stability kept
 
 pub apply_one-requires-clause-within : goal.apply_one-requires-clause-within
 apply_one-requires-clause-within c =
@@ -37,10 +41,12 @@ apply_one-requires-clause-within c =
     let kept = c.loop-victim.invariant.kept q.0 q.1 q.2 q.3 in
     let t = all_liquidated q.0 c.args.liquidator (take i vs) in
     let facts = sound_facts q.0 q.1 in
-    let fit = places_fit q.0 facts t (3 * i) (omega (arith, c.requires.few, c.loop-victim-test.true)) (walked c.args.liquidator c.requires.range vs q.0 (finds q.0 facts) q.2 i) in
+    let fit = places_fit q.0 facts t (3 * i) (omega (arith, c.requires.few, c.loop-victim-test.true))
+    (walked c.args.liquidator c.requires.range vs q.0 (finds q.0 facts) q.2 i) in
     within_kept t (finds_before q.0 q.1 c.args.liquidator c.requires.range vs q.2 i) (get_or vs i no_victim)
     (victim_there c.args.liquidator c.requires.range vs q.0 q.2 i c.loop-victim-test.true) c.args.liquidator
-    c.loop-victim.wallets c.loop-victim.pools c.loop-victim.surplus c.loop-victim.troves c.loop-victim.order c.loop-victim.stability kept fit.0 fit.1
+    c.loop-victim.wallets c.loop-victim.pools c.loop-victim.surplus c.loop-victim.troves c.loop-victim.order
+    c.loop-victim.stability kept fit.0 fit.1
 
 pub apply_one-requires-clause-room : goal.apply_one-requires-clause-room
 apply_one-requires-clause-room c =
@@ -49,7 +55,8 @@ apply_one-requires-clause-room c =
     let h = c.loop-victim.invariant in
     record {
       wallet = subst (λ (keys : List ℕ). Contains keys c.args.liquidator) (sym h.wallets) c.requires.wallet;
-      owner = subst (λ (keys : List ℕ). Contains keys (get_or vs i no_victim).account) (sym h.owners) (all_at (λ v. Contains c.args.surplus.now.room v.account) vs c.requires.owners i c.loop-victim-test.true);
+      owner = subst (λ (keys : List ℕ). Contains keys (get_or vs i no_victim).account) (sym h.owners)
+          (all_at (λ v. Contains c.args.surplus.now.room v.account) vs c.requires.owners i c.loop-victim-test.true);
       offset = λ some. omega (arith, h.finished, c.loop-victim-test.true);
     }
 
@@ -59,9 +66,11 @@ apply_one-requires-clause-listed c =
     let vs = c.args.victims.now in
     let i = c.loop-victim.victim-index in
     let kept = c.loop-victim.invariant.kept q.0 q.1 q.2 q.3 in
-    listed_kept (all_liquidated q.0 c.args.liquidator (take i vs)) (finds_before q.0 q.1 c.args.liquidator c.requires.range vs q.2 i) (get_or vs i no_victim)
+    listed_kept (all_liquidated q.0 c.args.liquidator (take i vs)) (finds_before q.0 q.1 c.args.liquidator
+    c.requires.range vs q.2 i) (get_or vs i no_victim)
     (victim_there c.args.liquidator c.requires.range vs q.0 q.2 i c.loop-victim-test.true) c.args.liquidator
-    c.loop-victim.wallets c.loop-victim.pools c.loop-victim.surplus c.loop-victim.troves c.loop-victim.order c.loop-victim.stability kept
+    c.loop-victim.wallets c.loop-victim.pools c.loop-victim.surplus c.loop-victim.troves c.loop-victim.order
+    c.loop-victim.stability kept
 
 pub loop-victim-preserved : goal.loop-victim-preserved
 loop-victim-preserved c =
@@ -73,14 +82,24 @@ loop-victim-preserved c =
     record {
       wallets = e.wallets_room ∙ h.wallets;
       owners = e.surplus_room ∙ h.owners;
-      finished = omega (arith, h.finished, e.spare, room_few (finished_in c.loop-victim.stability.words (get_or vs i no_victim).one));
+      finished = omega (
+        arith,
+        h.finished,
+        e.spare,
+        room_few (finished_in c.loop-victim.stability.words
+            (get_or vs i no_victim).one),
+      );
       kept = λ s sound victims begun.
           subst (λ (t : State). AreKept t n.wallets n.pools n.surplus n.troves n.order n.stability)
-          (sym (ap (λ m. all_liquidated s c.args.liquidator (take m vs)) (add-one i) ∙ one_more c.args.liquidator c.requires.range vs s i c.loop-victim-test.true))
-          (kept_next (all_liquidated s c.args.liquidator (take i vs)) (finds_before s sound c.args.liquidator c.requires.range vs victims i) (get_or vs i no_victim)
+          (sym (ap (λ m. all_liquidated s c.args.liquidator (take m vs)) (add-one i)
+          ∙ one_more c.args.liquidator c.requires.range vs s i c.loop-victim-test.true))
+          (kept_next (all_liquidated s c.args.liquidator (take i vs)) (finds_before s sound c.args.liquidator
+          c.requires.range vs victims i) (get_or vs i no_victim)
           (victim_there c.args.liquidator c.requires.range vs s victims i c.loop-victim-test.true) c.args.liquidator
-          c.loop-victim.wallets c.loop-victim.pools c.loop-victim.surplus c.loop-victim.troves c.loop-victim.order c.loop-victim.stability (h.kept s sound victims begun)
-          n.wallets n.pools n.surplus n.troves n.order n.stability e.wallets e.books e.pools e.surplus e.order e.words e.finished e.deposits);
+          c.loop-victim.wallets c.loop-victim.pools c.loop-victim.surplus c.loop-victim.troves c.loop-victim.order
+          c.loop-victim.stability (h.kept s sound victims begun)
+          n.wallets n.pools n.surplus n.troves n.order n.stability e.wallets e.books e.pools e.surplus e.order e.words
+          e.finished e.deposits);
     }
 
 pub returns : goal.returns
@@ -88,5 +107,6 @@ returns c s sound victims begun =
     let vs = c.args.victims.now in
     let i = c.loop-victim.victim-index in
     let whole : take i vs ≡ vs = take_all i vs (omega (arith, c.loop-victim-test.false)) in
-    subst (λ (l : List Victim). AreKept (all_liquidated s c.args.liquidator l) c.loop-victim.wallets c.loop-victim.pools c.loop-victim.surplus c.loop-victim.troves c.loop-victim.order c.loop-victim.stability) whole
+    subst (λ (l : List Victim). AreKept (all_liquidated s c.args.liquidator l) c.loop-victim.wallets c.loop-victim.pools
+    c.loop-victim.surplus c.loop-victim.troves c.loop-victim.order c.loop-victim.stability) whole
     (c.loop-victim.invariant.kept s sound victims begun)

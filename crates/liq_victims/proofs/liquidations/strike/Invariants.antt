@@ -10,6 +10,8 @@ invariant-loop-victim l = record {
   wallets : l.wallets.room ≡ l.fn.wallets.room;
   owners : l.surplus.room ≡ l.fn.surplus.room;
   finished : length l.victims ≤ l.stability.spare + l.victim-index;
-  kept : (s : State) → IsSoundState s → AreVictims s l.liquidator l.victims → AreKept s l.fn.wallets l.fn.pools l.fn.surplus l.fn.troves l.fn.order l.fn.stability
-      → AreKept (all_liquidated s l.liquidator (take l.victim-index l.victims)) l.wallets l.pools l.surplus l.troves l.order l.stability;
+  kept : (s : State) → IsSoundState s → AreVictims s l.liquidator l.victims
+      → AreKept s l.fn.wallets l.fn.pools l.fn.surplus l.fn.troves l.fn.order l.fn.stability
+      → AreKept (all_liquidated s l.liquidator (take l.victim-index l.victims)) l.wallets l.pools l.surplus l.troves
+      l.order l.stability;
 }

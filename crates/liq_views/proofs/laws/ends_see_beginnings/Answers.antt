@@ -7,7 +7,8 @@ use Rattle.liq_views.proofs.laws.ends_see_beginnings.Goals as goal
 pub returns-clause-begins : goal.returns-clause-begins
 returns-clause-begins c x views h publisher reader i j at there knows =
     let begins = h.begins i publisher at in
-    let log_is : h.log ≡ publisher.seen = begins.1 ∙ whole publisher.seen begins.0 (ap after_all (sym begins.1) ∙ sym h.made ∙ knows) in
+    let log_is : h.log ≡ publisher.seen = begins.1 ∙ whole publisher.seen begins.0 (ap after_all (sym begins.1)
+    ∙ sym h.made ∙ knows) in
     subst (λ (l : List Given). StartsWith l reader.seen) log_is (h.begins j reader there)
 
 pub returns-clause-looked : goal.returns-clause-looked

@@ -5,7 +5,8 @@ use Rattle.test_rewards.proofs.tests.a_deposit_is_taken_out.Goals as goal
 
 pub withdraw-requires-clause-may : goal.withdraw-requires-clause-may
 withdraw-requires-clause-may g c =
-    let one : IsKeptOf c.provide.new.rewards taken_1 = c.provide.ensures.kept [] c.new-rewards.ensures.kept taken_may_1 in
+    let one : IsKeptOf c.provide.new.rewards taken_1 = c.provide.ensures.kept [] c.new-rewards.ensures.kept taken_may_1
+    in
     let two : IsKeptOf c.provide-2.new.rewards taken_2 = c.provide-2.ensures.kept taken_1 one taken_may_2 in
     ∣ (taken_2, two, taken_may_3) ∣₁
 

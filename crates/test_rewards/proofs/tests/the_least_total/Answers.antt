@@ -5,5 +5,6 @@ use Rattle.test_rewards.proofs.tests.the_least_total.Goals as goal
 
 pub provide-requires-2-clause-may : goal.provide-requires-2-clause-may
 provide-requires-2-clause-may g c =
-    let one : IsKeptOf c.provide.new.rewards least_1 = c.provide.ensures.kept [] c.new-rewards.ensures.kept least_may_1 in
+    let one : IsKeptOf c.provide.new.rewards least_1 = c.provide.ensures.kept [] c.new-rewards.ensures.kept least_may_1
+    in
     ∣ (least_1, c.to_minute.ensures.kept least_1 one, least_may_2) ∣₁

@@ -5,7 +5,8 @@ use Rattle.test_rewards.proofs.tests.two_deposits_share.Goals as goal
 
 pub offset-requires-clause-may : goal.offset-requires-clause-may
 offset-requires-clause-may g c =
-    let one : IsKeptOf c.provide.new.rewards shared_1 = c.provide.ensures.kept [] c.new-rewards.ensures.kept shared_may_1 in
+    let one : IsKeptOf c.provide.new.rewards shared_1 =
+    c.provide.ensures.kept [] c.new-rewards.ensures.kept shared_may_1 in
     let two : IsKeptOf c.provide-2.new.rewards shared_2 = c.provide-2.ensures.kept shared_1 one shared_may_2 in
     ∣ (shared_2, two, shared_may_3) ∣₁
 

@@ -10,14 +10,16 @@ use std::alloc::{AllocError, Global};
 use std::sync::Wait;
 use std::thread::{Threads, join};
 
-/// A lock round an empty ledger that has room for so many entries, and a clerk for each seat, the first one last.
+/// A lock round an empty ledger that has room for so many entries, and a clerk for each seat, the
+/// first one last.
 pub fn open(
     alloc: Global,
     seats: u32,
     room: usize,
 ) -> Result<(Lock<Ledger>, Vec<Clerk>), AllocError>
     requires { 0 < seats }
-    ensures { IfOk result (λ made. All (λ clerk. seat_id clerk.seat ≡ lock_id made.0) made.1.items) }
+    ensures { IfOk result (λ made. All (λ clerk. seat_id clerk.seat
+        ≡ lock_id made.0) made.1.items) }
 {
     let clerks = Vec::with_capacity(alloc, seats as usize)?;
     let entries = Vec::with_capacity(alloc, room)?;
@@ -104,7 +106,8 @@ pub fn at_once<R: Threads + Wait + Sync>(
             seat
         },
         move || -> LockSeat<Entry>
-            requires { IsSync R.row × (seat_id next.seat ≡ lock_id lock.now) × All (λ clerk. seat_id clerk.seat ≡ lock_id lock.now) others.items }
+            requires { IsSync R.row × (seat_id next.seat ≡ lock_id lock.now)
+                × All (λ clerk. seat_id clerk.seat ≡ lock_id lock.now) others.items }
             ensures { seat_id result ≡ lock_id lock.entry.now }
         { at_once(rt, lock, next, others, times) },
     );

@@ -22,7 +22,8 @@ const FINDERS: u32 = 4;
 /// So many looks at most, which no run needs.
 const LOOKS: u32 = 20_000_000;
 
-/// In version `number` the list has two accounts, which follow from the number. Each version has two others.
+/// In version `number` the list has two accounts, which follow from the number. Each version has
+/// two others.
 fn pair_of(number: u64) -> (u32, u32) {
     let first = (number % 1000) as u32;
     (first, first + 1000)
@@ -59,8 +60,8 @@ fn hint_of(number: u64) -> Hint {
     }
 }
 
-/// A finder in a thread, the number that it saw last, and how many looks were shut, went back or gave another hint than that
-/// of the version which they named.
+/// A finder in a thread, the number that it saw last, and how many looks were shut, went back or
+/// gave another hint than that of the version which they named.
 #[derive(Drop)]
 struct Watcher {
     finder: Finder,
@@ -69,7 +70,8 @@ struct Watcher {
 }
 
 impl Watcher {
-    /// Looks until the last version is there. The first time that it sees a version while there is more to publish, it is counted.
+    /// Looks until the last version is there. The first time that it sees a version while there is
+    /// more to publish, it is counted.
     fn watch(&mut self, met: &AtomicU32) {
         let mut is_met = false;
         for _ in 0..LOOKS {
@@ -121,7 +123,8 @@ fn publish_all<R: Wait>(rt: &R, publisher: &mut Publisher, met: &AtomicU32) -> u
     refused
 }
 
-/// What was seen: refused publications (and finders that did not look in between), odd looks, and how many finders see the last version at the end.
+/// What was seen: refused publications (and finders that did not look in between), odd looks, and
+/// how many finders see the last version at the end.
 #[derive(Clone, Copy)]
 struct Seen {
     refused: u32,

@@ -64,7 +64,8 @@ pub const IN_SESSIONS: [(&[u8], u8, &[u8]); 9] = [
     ),
 ];
 
-/// Lines with the greatest account word as a hint, which is read as no hint, and how they are written again.
+/// Lines with the greatest account word as a hint, which is read as no hint, and how they are
+/// written again.
 pub const ABSENT_HINTS: [(&[u8], &[u8]); 4] = [
     (b"1 1 open 1 2 3 4 4294967295 9", b"1 1 open 1 2 3 4 - 9"),
     (

@@ -13,12 +13,14 @@ use Rattle.liq_book.proofs.Telling.{entry_more, nothing_more, nothing_told}
 use Rattle.liq_book.proofs.book.Book.call.Goals as goal
 
 -- there is room for one more, where room was made
-room_made : {T E : Type 0} (made : Result T E) (len capacity : ℕ) → is_err made ≡ false → OnOk made (len + 1 ≤ capacity) → len < capacity
+room_made : {T E : Type 0} (made : Result T E) (len capacity : ℕ) → is_err made ≡ false → OnOk made (len + 1 ≤ capacity)
+    → len < capacity
 room_made (Ok x) len capacity ok room = let more : len + 1 ≤ capacity = room in omega arith
 room_made (Err e) len capacity ok room = let differ : true ≡ false = ok in absurd (cc)
 
 pub enter-requires-clause-room : goal.enter-requires-clause-room
-enter-requires-clause-room g c = room_made c.try_reserve.result _ _ (sym c.is_err.ensures.value ∙ c.if-is_err.false) c.try_reserve.ensures.ok
+enter-requires-clause-room g c = room_made c.try_reserve.result _ _ (sym c.is_err.ensures.value
+    ∙ c.if-is_err.false) c.try_reserve.ensures.ok
 
 pub enter-requires-clause-calls : goal.enter-requires-clause-calls
 enter-requires-clause-calls g c =
@@ -27,46 +29,86 @@ enter-requires-clause-calls g c =
 
 pub invariant_of-self-in-Reply : goal.invariant_of-self-in-Reply
 invariant_of-self-in-Reply g c =
-    let going : c.forget_opening.new.store.stopped ≡ None = goes _ (λ sum is. let no = (c.in-Reply.ensures.store.stopped sum is).0 in cc) in
+    let going : c.forget_opening.new.store.stopped ≡ None =
+    goes _ (λ sum is. let no = (c.in-Reply.ensures.store.stopped sum is).0 in cc) in
     let book = forgets _ g.met.D.Disk.seen_may_stay _ _ _ _ _ _ _ _ c.forget_opening.ensures.store c.self.invariant.0 in
     rw (c.in-Reply.ensures.entered, c.try_reserve.ensures.items) (
       enters _ g.met.D.Disk.seen_may_stay _ _ _ _ _ _ _ _ _ _ _
-          book (omega (arith, c.if-len-eq-ENTRIES_MOST.false, c.len.ensures, c.self.invariant.0.few, c.self.inside.entries.ok.0)) (rw (← c.self.view_is) at c.requires.calls) going
+          book (omega (
+            arith,
+            c.if-len-eq-ENTRIES_MOST.false,
+            c.len.ensures,
+            c.self.invariant.0.few,
+            c.self.inside.entries.ok.0,
+          )) (rw (← c.self.view_is) at c.requires.calls) going
           c.forget_opening.ensures.order c.in-Reply.ensures.store,
-      entry_more _ c.forget_opening.new.store _ _ _ c.self.inside.halt _ _ _ (nothing_more _ _ c.forget_opening.new.store _ _ c.self.inside.halt _ _ c.self.invariant.1 (rw (c.as_slice.ensures.value, c.try_reserve.ensures.items) at c.forget_opening.ensures.changes))
-          (subst (λ (core : Core). IsSoundImage core.image core.records) c.protocol.ensures c.protocols_are_sound.ensures) book.state (c.in-Reply.ensures.store.tells _ book.state),
+      entry_more _ c.forget_opening.new.store _ _ _ c.self.inside.halt _ _ _
+          (nothing_more _ _ c.forget_opening.new.store _ _ c.self.inside.halt _ _ c.self.invariant.1
+          (rw (c.as_slice.ensures.value, c.try_reserve.ensures.items) at c.forget_opening.ensures.changes))
+          (subst (λ (core : Core). IsSoundImage core.image core.records) c.protocol.ensures
+          c.protocols_are_sound.ensures) book.state (c.in-Reply.ensures.store.tells _ book.state),
     )
 
 pub invariant_of-self-in-DiskFault : goal.invariant_of-self-in-DiskFault
 invariant_of-self-in-DiskFault g c =
-    let going : c.forget_opening.new.store.stopped ≡ None = goes _ (λ sum is. let no = (c.in-DiskFault.ensures.store.stopped sum is).0 in cc) in
+    let going : c.forget_opening.new.store.stopped ≡ None =
+    goes _ (λ sum is. let no = (c.in-DiskFault.ensures.store.stopped sum is).0 in cc) in
     let book = forgets _ g.met.D.Disk.seen_may_stay _ _ _ _ _ _ _ _ c.forget_opening.ensures.store c.self.invariant.0 in
     let sum : ℕ = sum_of (faults_in g.D.Disk.at c.enter.new.store) in
-    let stopped : c.enter.new.store.stopped ≡ Some sum = c.in-DiskFault.ensures.store.stops ∙ ap (λ o. stopped_after o answer.DiskFault (faults_in g.D.Disk.at c.enter.new.store)) going in
-    let halt = c.halt_by-self-inside.ensures ∙ ap (option_map (λ sum. record { session = c.args.session; request = c.args.request.now; faults = sum })) (c.stopped.ensures.sum ∙ stopped) in
+    let stopped : c.enter.new.store.stopped ≡ Some sum = c.in-DiskFault.ensures.store.stops
+    ∙ ap (λ o. stopped_after o answer.DiskFault (faults_in g.D.Disk.at c.enter.new.store)) going in
+    let halt = c.halt_by-self-inside.ensures
+    ∙ ap (option_map (λ sum. record { session = c.args.session; request = c.args.request.now; faults = sum }))
+    (c.stopped.ensures.sum ∙ stopped) in
     rw (c.in-DiskFault.ensures.entered, c.try_reserve.ensures.items, halt) (
       halts _ g.met.D.Disk.seen_may_stay _ _ _ _ _ _ _ c.args.request.now c.args.session sum book going
           c.forget_opening.ensures.order c.in-DiskFault.ensures.store stopped,
-      nothing_more _ c.forget_opening.new.store c.enter.new.store _ c.self.inside.halt _ _ _ (nothing_more _ _ c.forget_opening.new.store _ _ c.self.inside.halt _ _ c.self.invariant.1 (rw (c.as_slice.ensures.value, c.try_reserve.ensures.items) at c.forget_opening.ensures.changes))
-          (inl (nothing_told c.forget_opening.new.store c.enter.new.store (state_of_book g.O.Origin.state (record { store = c.forget_opening.new.store; entries = c.self.inside.entries.items; halt = c.self.inside.halt })) c.args.request.now answer.DiskFault (λ reply is. cc) (c.in-DiskFault.ensures.store.tells _ book.state))),
+      nothing_more _ c.forget_opening.new.store c.enter.new.store _ c.self.inside.halt _ _ _
+          (nothing_more _ _ c.forget_opening.new.store _ _ c.self.inside.halt _ _ c.self.invariant.1
+          (rw (c.as_slice.ensures.value, c.try_reserve.ensures.items) at c.forget_opening.ensures.changes))
+          (inl (nothing_told c.forget_opening.new.store c.enter.new.store (state_of_book g.O.Origin.state
+          (record {
+            store = c.forget_opening.new.store;
+            entries = c.self.inside.entries.items;
+            halt = c.self.inside.halt;
+          })) c.args.request.now answer.DiskFault (λ reply is. cc)
+          (c.in-DiskFault.ensures.store.tells _ book.state))),
     )
 
 pub invariant_of-self-in_default : goal.invariant_of-self-in_default
 invariant_of-self-in_default g c =
     let book = forgets _ g.met.D.Disk.seen_may_stay _ _ _ _ _ _ _ _ c.forget_opening.ensures.store c.self.invariant.0 in
-    rw (entries_stay c.args.session c.args.calls c.args.request.now c.enter.result _ _ c.in_default.not-Reply c.enter.ensures.entered, c.try_reserve.ensures.items) (
+    rw (
+      entries_stay c.args.session c.args.calls c.args.request.now c.enter.result _ _ c.in_default.not-Reply
+          c.enter.ensures.entered,
+      c.try_reserve.ensures.items,
+    ) (
       others _ g.met.D.Disk.seen_may_stay _ _ _ _ _ _ _ c.args.request.now c.enter.result
           book c.forget_opening.ensures.order c.enter.ensures.store c.in_default.not-Reply c.in_default.not-DiskFault,
-      nothing_more _ c.forget_opening.new.store c.enter.new.store _ c.self.inside.halt _ _ _ (nothing_more _ _ c.forget_opening.new.store _ _ c.self.inside.halt _ _ c.self.invariant.1 (rw (c.as_slice.ensures.value, c.try_reserve.ensures.items) at c.forget_opening.ensures.changes))
-          (inl (nothing_told c.forget_opening.new.store c.enter.new.store (state_of_book g.O.Origin.state (record { store = c.forget_opening.new.store; entries = c.self.inside.entries.items; halt = c.self.inside.halt })) c.args.request.now c.enter.result c.in_default.not-Reply (c.enter.ensures.store.tells _ book.state))),
+      nothing_more _ c.forget_opening.new.store c.enter.new.store _ c.self.inside.halt _ _ _
+          (nothing_more _ _ c.forget_opening.new.store _ _ c.self.inside.halt _ _ c.self.invariant.1
+          (rw (c.as_slice.ensures.value, c.try_reserve.ensures.items) at c.forget_opening.ensures.changes))
+          (inl (nothing_told c.forget_opening.new.store c.enter.new.store (state_of_book g.O.Origin.state
+          (record {
+            store = c.forget_opening.new.store;
+            entries = c.self.inside.entries.items;
+            halt = c.self.inside.halt;
+          })) c.args.request.now c.enter.result c.in_default.not-Reply
+          (c.enter.ensures.store.tells _ book.state))),
     )
 
 pub returns-in-Reply-clause-enters : goal.returns-in-Reply-clause-enters
 returns-in-Reply-clause-enters g c =
-    let going : c.forget_opening.new.store.stopped ≡ None = goes _ (λ sum is. let no = (c.in-Reply.ensures.store.stopped sum is).0 in cc) in
+    let going : c.forget_opening.new.store.stopped ≡ None =
+    goes _ (λ sum is. let no = (c.in-Reply.ensures.store.stopped sum is).0 in cc) in
     let book = forgets _ g.met.D.Disk.seen_may_stay _ _ _ _ _ _ _ _ c.forget_opening.ensures.store c.self.invariant.0 in
     let none = no_halt c.self.inside.halt c.forget_opening.new.store.stopped book.halt going in
-    rw (← c.self.view_is, c.in-Reply.ensures.entered, c.try_reserve.ensures.items) (none, none, refl, sym (c.in-Reply.ensures.store.step_is going _ book.state).1)
+    rw (← c.self.view_is, c.in-Reply.ensures.entered, c.try_reserve.ensures.items) (
+      none,
+      none,
+      refl,
+      sym (c.in-Reply.ensures.store.step_is going _ book.state).1,
+    )
 
 pub returns-in-Reply-clause-legal : goal.returns-in-Reply-clause-legal
 returns-in-Reply-clause-legal g c = (invariant_of-self-in-Reply g c).0.legal
@@ -76,12 +118,20 @@ returns-in-Reply-clause-few g c = (invariant_of-self-in-Reply g c).0.few
 
 pub returns-in-DiskFault-clause-enters : goal.returns-in-DiskFault-clause-enters
 returns-in-DiskFault-clause-enters g c =
-    let going : c.forget_opening.new.store.stopped ≡ None = goes _ (λ sum is. let no = (c.in-DiskFault.ensures.store.stopped sum is).0 in cc) in
+    let going : c.forget_opening.new.store.stopped ≡ None =
+    goes _ (λ sum is. let no = (c.in-DiskFault.ensures.store.stopped sum is).0 in cc) in
     let book = forgets _ g.met.D.Disk.seen_may_stay _ _ _ _ _ _ _ _ c.forget_opening.ensures.store c.self.invariant.0 in
     let sum : ℕ = sum_of (faults_in g.D.Disk.at c.enter.new.store) in
-    let stopped : c.enter.new.store.stopped ≡ Some sum = c.in-DiskFault.ensures.store.stops ∙ ap (λ o. stopped_after o answer.DiskFault (faults_in g.D.Disk.at c.enter.new.store)) going in
-    let halt = c.halt_by-self-inside.ensures ∙ ap (option_map (λ sum. record { session = c.args.session; request = c.args.request.now; faults = sum })) (c.stopped.ensures.sum ∙ stopped) in
-    rw (← c.self.view_is) (no_halt c.self.inside.halt c.forget_opening.new.store.stopped book.halt going, c.in-DiskFault.ensures.entered ∙ c.try_reserve.ensures.items, (sum, halt))
+    let stopped : c.enter.new.store.stopped ≡ Some sum = c.in-DiskFault.ensures.store.stops
+    ∙ ap (λ o. stopped_after o answer.DiskFault (faults_in g.D.Disk.at c.enter.new.store)) going in
+    let halt = c.halt_by-self-inside.ensures
+    ∙ ap (option_map (λ sum. record { session = c.args.session; request = c.args.request.now; faults = sum }))
+    (c.stopped.ensures.sum ∙ stopped) in
+    rw (← c.self.view_is) (
+      no_halt c.self.inside.halt c.forget_opening.new.store.stopped book.halt going,
+      c.in-DiskFault.ensures.entered ∙ c.try_reserve.ensures.items,
+      (sum, halt),
+    )
 
 pub returns-in_default : goal.returns-in_default
 returns-in_default g c =
@@ -92,7 +142,18 @@ returns-in_default g c =
     c.enter.ensures.store
     (omega (arith, c.if-len-eq-ENTRIES_MOST.false, c.len.ensures, c.self.invariant.0.few, c.self.inside.entries.ok.0))
     c.in_default.not-Reply c.in_default.not-DiskFault in
-    rw (← c.self.view_is, entries_stay c.args.session c.args.calls c.args.request.now c.enter.result _ _ c.in_default.not-Reply c.enter.ensures.entered, c.try_reserve.ensures.items) (record { enters = says.0; first = says.1; legal = book.legal; few = book.few; silent = (refl, refl) })
+    rw (
+      ← c.self.view_is,
+      entries_stay c.args.session c.args.calls c.args.request.now c.enter.result _ _
+          c.in_default.not-Reply c.enter.ensures.entered,
+      c.try_reserve.ensures.items,
+    ) (record {
+      enters = says.0;
+      first = says.1;
+      legal = book.legal;
+      few = book.few;
+      silent = (refl, refl);
+    })
 
 pub returns-in-Reply-clause-silent : goal.returns-in-Reply-clause-silent
 returns-in-Reply-clause-silent g c = rw (← c.self.view_is) (refl, refl)

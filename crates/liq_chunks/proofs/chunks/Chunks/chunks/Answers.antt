@@ -11,4 +11,9 @@ returns c =
     let fs = c.self.inside.firsts.items in
     let rests = c.self.inside.rests.items in
     let rs = lists c.self.inside.rests in
-    omega (arith, c.len.ensures, ap (λ (l : List Ranked). length l) c.self.view_is, no_more_than_entries fs rs (c.self.invariant.0 ∙ sym (length-map rests items_of)))
+    omega (
+      arith,
+      c.len.ensures,
+      ap (λ (l : List Ranked). length l) c.self.view_is,
+      no_more_than_entries fs rs (c.self.invariant.0 ∙ sym (length-map rests items_of)),
+    )

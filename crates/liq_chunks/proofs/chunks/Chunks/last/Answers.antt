@@ -16,9 +16,17 @@ returns-in_default c =
     let lengths = c.self.invariant.0 ∙ sym (length-map rests items_of) in
     let counted = c.len.ensures in
     let all = c.self.inside.firsts.ok.0 in
-    let last = c.last_in.ensures ∙ ap (λ (f : Ranked). last_or f c.deref.result.now) c.index.ensures ∙ ap (λ (l : List Ranked). last_or (get_or fs i first) l) (c.deref.ensures.value ∙ read_rest rests i c.index-in_default.result.now (omega (arith, counted, all, c.self.invariant.0)) c.index-in_default.ensures) in
+    let last = c.last_in.ensures ∙ ap (λ (f : Ranked). last_or f c.deref.result.now) c.index.ensures
+    ∙ ap (λ (l : List Ranked). last_or (get_or fs i first) l) (c.deref.ensures.value
+    ∙ read_rest rests i c.index-in_default.result.now (omega (arith, counted, all, c.self.invariant.0))
+    c.index-in_default.ensures) in
     ap (λ (e : Ranked). Some e) last
     ∙ sym (last_joined fs rs i first (omega (arith, counted, all)) lengths)
     ∙ ap (λ (l : List Ranked). last_of (joined l (take (suc i) rs))) (take_all (suc i) fs (omega (arith, counted, all)))
-    ∙ ap (λ (l : List (List Ranked)). last_of (joined fs l)) (take_all (suc i) rs (omega (arith, counted, all, lengths)))
+    ∙ ap (λ (l : List (List Ranked)). last_of (joined fs l)) (take_all (suc i) rs (omega (
+      arith,
+      counted,
+      all,
+      lengths,
+    )))
     ∙ ap (λ (l : List Ranked). last_of l) c.self.view_is

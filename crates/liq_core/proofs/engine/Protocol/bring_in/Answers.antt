@@ -21,7 +21,9 @@ pay-requires-clause-lusd c =
 
 pub invariant_of-self : goal.invariant_of-self
 invariant_of-self c =
-    funded_sound c.self.inside c.args.self.now c.self.view_is c.self.invariant c.args.account c.args.coll _ c.requires.range c.requires.allowed c.pay.ensures.moved
+    funded_sound c.self.inside c.args.self.now c.self.view_is c.self.invariant c.args.account c.args.coll _
+    c.requires.range c.requires.allowed c.pay.ensures.moved
 
 pub returns : goal.returns
-returns c = funded c.self.inside c.args.self.now c.self.view_is c.self.invariant c.args.account c.args.coll _ c.pay.ensures.moved
+returns c = funded c.self.inside c.args.self.now c.self.view_is c.self.invariant c.args.account c.args.coll _
+    c.pay.ensures.moved

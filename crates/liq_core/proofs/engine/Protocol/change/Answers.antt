@@ -23,19 +23,23 @@ use Rattle.liq_types.specs.declared.hints.Hint.{Hint}
 use Rattle.liq_core.proofs.engine.Protocol.change.Goals as goal
 
 -- the collateral of an opening is its word
-opening_coll : (s : State) (call : Call) (all : Terms) (plan : Plan) (account coll borrow bound : ℕ) (words : HintWords) → AreTerms s call all → call ≡ Open account coll borrow bound words → all ≡ Trove plan → plan.coll ≡ coll
+opening_coll : (s : State) (call : Call) (all : Terms) (plan : Plan) (account coll borrow bound : ℕ) (words : HintWords)
+    → AreTerms s call all → call ≡ Open account coll borrow bound words → all ≡ Trove plan → plan.coll ≡ coll
 opening_coll s call all plan account coll borrow bound words terms is told =
     let trove = subst (λ (c : Call). AreTerms s c all) is terms in
-    let planned : plan ≡ opening_terms (market_of s) coll borrow = subst (IsTrove (opening_terms (market_of s) coll borrow)) told trove in
+    let planned : plan ≡ opening_terms (market_of s) coll borrow =
+    subst (IsTrove (opening_terms (market_of s) coll borrow)) told trove in
     ap (λ (p : Plan). p.coll) planned
 
 pub open_trove-requires-clause-allowed : goal.open_trove-requires-clause-allowed
 open_trove-requires-clause-allowed g c =
     let s = state_of c.args.self.now in
-    let coll = opening_coll s c.args.call.now c.args.terms.now c.trove.result.now c.in-Open.account c.in-Open.field-1 c.in-Open.borrow c.in-Open.field-3 c.in-Open.words c.requires.terms c.in-Open.is c.trove.ensures in (
+    let coll = opening_coll s c.args.call.now c.args.terms.now c.trove.result.now c.in-Open.account c.in-Open.field-1
+    c.in-Open.borrow c.in-Open.field-3 c.in-Open.words c.requires.terms c.in-Open.is c.trove.ensures in (
       c.in-Open.field-3,
       c.in-Open.words,
-      subst (λ n. first_refusal (rules s (Open c.in-Open.account n c.in-Open.borrow c.in-Open.field-3 c.in-Open.words)) ≡ None) (sym coll)
+      subst (λ n. first_refusal (rules s (Open c.in-Open.account n c.in-Open.borrow c.in-Open.field-3 c.in-Open.words))
+          ≡ None) (sym coll)
           (subst (λ (call : Call). first_refusal (rules s call) ≡ None) c.in-Open.is c.requires.allowed),
     )
 
@@ -43,35 +47,45 @@ pub returns-in-Open-clause-made : goal.returns-in-Open-clause-made
 returns-in-Open-clause-made g c =
     let old = c.args.self.now in
     let new = c.open_trove.new.self in
-    let coll = opening_coll (state_of old) c.args.call.now c.args.terms.now c.trove.result.now c.in-Open.account c.in-Open.field-1 c.in-Open.borrow c.in-Open.field-3 c.in-Open.words c.requires.terms c.in-Open.is c.trove.ensures in
+    let coll = opening_coll (state_of old) c.args.call.now c.args.terms.now c.trove.result.now c.in-Open.account
+    c.in-Open.field-1 c.in-Open.borrow c.in-Open.field-3 c.in-Open.words c.requires.terms c.in-Open.is c.trove.ensures
+    in
     subst (λ (call : Call). Changes old call new) (sym c.in-Open.is)
-    (subst (λ n. Changes old (Open c.in-Open.account n c.in-Open.borrow c.in-Open.field-3 c.in-Open.words) new) coll (c.open_trove.ensures.made c.in-Open.field-3 c.in-Open.words))
+    (subst (λ n. Changes old (Open c.in-Open.account n c.in-Open.borrow c.in-Open.field-3 c.in-Open.words) new) coll
+    (c.open_trove.ensures.made c.in-Open.field-3 c.in-Open.words))
 
 pub adjust_trove-requires-clause-allowed : goal.adjust_trove-requires-clause-allowed
 adjust_trove-requires-clause-allowed g c = (
   c.in-Adjust.field-5,
   c.in-Adjust.words,
-  subst (λ (call : Call). first_refusal (rules (state_of c.args.self.now) call) ≡ None) c.in-Adjust.is c.requires.allowed,
+  subst (λ (call : Call). first_refusal (rules (state_of c.args.self.now) call)
+      ≡ None) c.in-Adjust.is c.requires.allowed,
 )
 
 pub returns-in-Adjust-clause-made : goal.returns-in-Adjust-clause-made
 returns-in-Adjust-clause-made g c =
-    subst (λ (call : Call). Changes c.args.self.now call c.adjust_trove.new.self) (sym c.in-Adjust.is) (c.adjust_trove.ensures.made c.in-Adjust.field-5 c.in-Adjust.words)
+    subst (λ (call : Call). Changes c.args.self.now call c.adjust_trove.new.self) (sym c.in-Adjust.is)
+    (c.adjust_trove.ensures.made c.in-Adjust.field-5 c.in-Adjust.words)
 
 pub gain_to_trove-requires-clause-allowed : goal.gain_to_trove-requires-clause-allowed
 gain_to_trove-requires-clause-allowed g c = (
   c.in-GainToTrove.words,
-  subst (λ (call : Call). first_refusal (rules (state_of c.args.self.now) call) ≡ None) c.in-GainToTrove.is c.requires.allowed,
+  subst (λ (call : Call). first_refusal (rules (state_of c.args.self.now) call)
+      ≡ None) c.in-GainToTrove.is c.requires.allowed,
 )
 
 pub returns-in-GainToTrove-clause-made : goal.returns-in-GainToTrove-clause-made
 returns-in-GainToTrove-clause-made g c =
-    subst (λ (call : Call). Changes c.args.self.now call c.gain_to_trove.new.self) (sym c.in-GainToTrove.is) (c.gain_to_trove.ensures.made c.in-GainToTrove.words)
+    subst (λ (call : Call). Changes c.args.self.now call c.gain_to_trove.new.self) (sym c.in-GainToTrove.is)
+    (c.gain_to_trove.ensures.made c.in-GainToTrove.words)
 
 -- a redemption's terms
-redeeming : (s : State) (call : Call) (all : Terms) (plan : RedeemTerms) (account lusd bound : ℕ) (words : HintWords) → AreTerms s call all → call ≡ Redeem account lusd bound words → all ≡ kind.Redeem plan → plan ≡ redeeming_terms (market_of s) (visited s) lusd
+redeeming : (s : State) (call : Call) (all : Terms) (plan : RedeemTerms) (account lusd bound : ℕ) (words : HintWords)
+    → AreTerms s call all → call ≡ Redeem account lusd bound words → all ≡ kind.Redeem plan
+    → plan ≡ redeeming_terms (market_of s) (visited s) lusd
 redeeming s call all plan account lusd bound words terms is told =
-    subst (IsRedeeming (redeeming_terms (market_of s) (visited s) lusd)) told (subst (λ (c : Call). AreTerms s c all) is terms)
+    subst (IsRedeeming (redeeming_terms (market_of s) (visited s) lusd)) told (subst (λ (c : Call). AreTerms s c all)
+    is terms)
 
 pub redeem-requires-clause-planned : goal.redeem-requires-clause-planned
 redeem-requires-clause-planned g c =
@@ -80,7 +94,8 @@ redeem-requires-clause-planned g c =
       c.in-Redeem.field-2,
       c.in-Redeem.words,
       subst (λ (call : Call). first_refusal (rules s call) ≡ None) c.in-Redeem.is c.requires.allowed,
-      redeeming s c.args.call.now c.args.terms.now c.redemption.result.now c.in-Redeem.account c.in-Redeem.field-1 c.in-Redeem.field-2 c.in-Redeem.words c.requires.terms c.in-Redeem.is c.redemption.ensures,
+      redeeming s c.args.call.now c.args.terms.now c.redemption.result.now c.in-Redeem.account c.in-Redeem.field-1
+          c.in-Redeem.field-2 c.in-Redeem.words c.requires.terms c.in-Redeem.is c.redemption.ensures,
     )
 
 pub redeem-requires-clause-claims : goal.redeem-requires-clause-claims
@@ -94,7 +109,8 @@ returns-in-Redeem-clause-made g c =
     let s = state_of c.args.self.now in
     subst (λ (call : Call). Changes c.args.self.now call c.redeem.new.self) (sym c.in-Redeem.is)
     (c.redeem.ensures.made c.in-Redeem.field-1 c.in-Redeem.field-2 c.in-Redeem.words
-    (redeeming s c.args.call.now c.args.terms.now c.redemption.result.now c.in-Redeem.account c.in-Redeem.field-1 c.in-Redeem.field-2 c.in-Redeem.words c.requires.terms c.in-Redeem.is c.redemption.ensures))
+    (redeeming s c.args.call.now c.args.terms.now c.redemption.result.now c.in-Redeem.account c.in-Redeem.field-1
+    c.in-Redeem.field-2 c.in-Redeem.words c.requires.terms c.in-Redeem.is c.redemption.ensures))
 
 -- ---- the steps
 
@@ -103,61 +119,80 @@ returns-in-Open-clause-few g c =
     let list = c.open_trove.new.self.list in
     let now = c.args.steps.now in
     let new = c.open_trove.new.steps in
-    subst (λ (call : Call). TakesFew list (used_hint (words_of call) c.args.hint.now) (entry_put call c.args.terms.now list) now new) (sym c.in-Open.is)
-    (subst (λ (h : Hint). TakesFew list h (entry_in list c.in-Open.account) now new) c.hint_of-hint.ensures c.open_trove.ensures.few)
+    subst (λ (call : Call). TakesFew list (used_hint (words_of call) c.args.hint.now)
+    (entry_put call c.args.terms.now list) now new) (sym c.in-Open.is)
+    (subst (λ (h : Hint). TakesFew list h (entry_in list c.in-Open.account) now new) c.hint_of-hint.ensures
+    c.open_trove.ensures.few)
 
 pub returns-in-Adjust-clause-few : goal.returns-in-Adjust-clause-few
 returns-in-Adjust-clause-few g c =
     let list = c.adjust_trove.new.self.list in
     let now = c.args.steps.now in
     let new = c.adjust_trove.new.steps in
-    subst (λ (call : Call). TakesFew list (used_hint (words_of call) c.args.hint.now) (entry_put call c.args.terms.now list) now new) (sym c.in-Adjust.is)
-    (subst (λ (h : Hint). TakesFew list h (entry_in list c.in-Adjust.account) now new) c.hint_of-hint-in-Adjust.ensures c.adjust_trove.ensures.few)
+    subst (λ (call : Call). TakesFew list (used_hint (words_of call) c.args.hint.now)
+    (entry_put call c.args.terms.now list) now new) (sym c.in-Adjust.is)
+    (subst (λ (h : Hint). TakesFew list h (entry_in list c.in-Adjust.account) now new) c.hint_of-hint-in-Adjust.ensures
+    c.adjust_trove.ensures.few)
 
 pub returns-in-GainToTrove-clause-few : goal.returns-in-GainToTrove-clause-few
 returns-in-GainToTrove-clause-few g c =
     let list = c.gain_to_trove.new.self.list in
     let now = c.args.steps.now in
     let new = c.gain_to_trove.new.steps in
-    subst (λ (call : Call). TakesFew list (used_hint (words_of call) c.args.hint.now) (entry_put call c.args.terms.now list) now new) (sym c.in-GainToTrove.is)
-    (subst (λ (h : Hint). TakesFew list h (entry_in list c.in-GainToTrove.account) now new) c.hint_of-hint-in-GainToTrove.ensures c.gain_to_trove.ensures.few)
+    subst (λ (call : Call). TakesFew list (used_hint (words_of call) c.args.hint.now)
+    (entry_put call c.args.terms.now list) now new) (sym c.in-GainToTrove.is)
+    (subst (λ (h : Hint). TakesFew list h (entry_in list c.in-GainToTrove.account) now new)
+    c.hint_of-hint-in-GainToTrove.ensures c.gain_to_trove.ensures.few)
 
 pub returns-in-Redeem-clause-few : goal.returns-in-Redeem-clause-few
 returns-in-Redeem-clause-few g c =
     let list = c.redeem.new.self.list in
     let now = c.args.steps.now in
     let new = c.redeem.new.steps in
-    subst (λ (call : Call). TakesFew list (used_hint (words_of call) c.args.hint.now) (entry_put call c.args.terms.now list) now new) (sym c.in-Redeem.is)
-    (subst (λ (t : Terms). TakesFew list (used_hint c.in-Redeem.words c.args.hint.now) (last_entry list (cuts_in t)) now new) (sym c.redemption.ensures)
-    (subst (λ (h : Hint). TakesFew list h (last_entry list c.redemption.result.now.cuts) now new) c.hint_of-hint-in-Redeem.ensures c.redeem.ensures.few))
+    subst (λ (call : Call). TakesFew list (used_hint (words_of call) c.args.hint.now)
+    (entry_put call c.args.terms.now list) now new) (sym c.in-Redeem.is)
+    (subst (λ (t : Terms). TakesFew list (used_hint c.in-Redeem.words c.args.hint.now) (last_entry list (cuts_in t)) now
+    new) (sym c.redemption.ensures)
+    (subst (λ (h : Hint). TakesFew list h (last_entry list c.redemption.result.now.cuts) now new)
+    c.hint_of-hint-in-Redeem.ensures c.redeem.ensures.few))
 
 -- nothing is put, whatever would be
-none_put : (call : Call) (all : Terms) (list : List Ranked) (hint : Hint) (n : ℕ) → TakesFew list (used_hint (words_of call) hint) (entry_put call all list) n n
+none_put : (call : Call) (all : Terms) (list : List Ranked) (hint : Hint) (n : ℕ)
+    → TakesFew list (used_hint (words_of call) hint) (entry_put call all list) n n
 none_put call all list hint n = takes_none list (used_hint (words_of call) hint) (entry_put call all list) n
 
 pub returns-in-Price-clause-few : goal.returns-in-Price-clause-few
-returns-in-Price-clause-few g c = none_put c.args.call.now c.args.terms.now c.set_price.new.self.list c.args.hint.now c.args.steps.now
+returns-in-Price-clause-few g c = none_put c.args.call.now c.args.terms.now c.set_price.new.self.list c.args.hint.now
+    c.args.steps.now
 
 pub returns-in-Advance-clause-few : goal.returns-in-Advance-clause-few
-returns-in-Advance-clause-few g c = none_put c.args.call.now c.args.terms.now c.pass.new.self.list c.args.hint.now c.args.steps.now
+returns-in-Advance-clause-few g c = none_put c.args.call.now c.args.terms.now c.pass.new.self.list c.args.hint.now
+    c.args.steps.now
 
 pub returns-in-Fund-clause-few : goal.returns-in-Fund-clause-few
-returns-in-Fund-clause-few g c = none_put c.args.call.now c.args.terms.now c.bring_in.new.self.list c.args.hint.now c.args.steps.now
+returns-in-Fund-clause-few g c = none_put c.args.call.now c.args.terms.now c.bring_in.new.self.list c.args.hint.now
+    c.args.steps.now
 
 pub returns-in-Take-clause-few : goal.returns-in-Take-clause-few
-returns-in-Take-clause-few g c = none_put c.args.call.now c.args.terms.now c.take_out.new.self.list c.args.hint.now c.args.steps.now
+returns-in-Take-clause-few g c = none_put c.args.call.now c.args.terms.now c.take_out.new.self.list c.args.hint.now
+    c.args.steps.now
 
 pub returns-in-Send-clause-few : goal.returns-in-Send-clause-few
-returns-in-Send-clause-few g c = none_put c.args.call.now c.args.terms.now c.send.new.self.list c.args.hint.now c.args.steps.now
+returns-in-Send-clause-few g c = none_put c.args.call.now c.args.terms.now c.send.new.self.list c.args.hint.now
+    c.args.steps.now
 
 pub returns-in-Close-clause-few : goal.returns-in-Close-clause-few
-returns-in-Close-clause-few g c = none_put c.args.call.now c.args.terms.now c.close_trove.new.self.list c.args.hint.now c.args.steps.now
+returns-in-Close-clause-few g c = none_put c.args.call.now c.args.terms.now c.close_trove.new.self.list c.args.hint.now
+    c.args.steps.now
 
 pub returns-in-Provide-clause-few : goal.returns-in-Provide-clause-few
-returns-in-Provide-clause-few g c = none_put c.args.call.now c.args.terms.now c.provide.new.self.list c.args.hint.now c.args.steps.now
+returns-in-Provide-clause-few g c = none_put c.args.call.now c.args.terms.now c.provide.new.self.list c.args.hint.now
+    c.args.steps.now
 
 pub returns-in-Withdraw-clause-few : goal.returns-in-Withdraw-clause-few
-returns-in-Withdraw-clause-few g c = none_put c.args.call.now c.args.terms.now c.withdraw.new.self.list c.args.hint.now c.args.steps.now
+returns-in-Withdraw-clause-few g c = none_put c.args.call.now c.args.terms.now c.withdraw.new.self.list c.args.hint.now
+    c.args.steps.now
 
 pub returns-in-Claim-clause-few : goal.returns-in-Claim-clause-few
-returns-in-Claim-clause-few g c = none_put c.args.call.now c.args.terms.now c.claim.new.self.list c.args.hint.now c.args.steps.now
+returns-in-Claim-clause-few g c = none_put c.args.call.now c.args.terms.now c.claim.new.self.list c.args.hint.now
+    c.args.steps.now

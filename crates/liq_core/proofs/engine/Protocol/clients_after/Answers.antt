@@ -12,14 +12,16 @@ use Rattle.liq_core.proofs.Noting.{kept_rows}
 use Rattle.liq_core.proofs.engine.Protocol.clients_after.Goals as goal
 
 pub filled-requires : goal.filled-requires
-filled-requires c = subst (λ (t : Table Client). Ascends t) (sym (c.deref.ensures.value ∙ c.in_ok-rows.ensures)) c.self.invariant.image.tables.clients
+filled-requires c = subst (λ (t : Table Client). Ascends t) (sym (c.deref.ensures.value ∙ c.in_ok-rows.ensures))
+    c.self.invariant.image.tables.clients
 
 pub returns : goal.returns
 returns c =
     let p = c.self.inside in
     let client = c.args.client in
     let row = c.args.row in
-    let again = ap (rows is_used_client) (c.deref.ensures.value ∙ c.in_ok-rows.ensures) ∙ clients_used (core_of p).image c.self.invariant.image.tables in
+    let again = ap (rows is_used_client) (c.deref.ensures.value ∙ c.in_ok-rows.ensures)
+    ∙ clients_used (core_of p).image c.self.invariant.image.tables in
     let before = c.reserve.ensures.rows ∙ c.in_ok-clients.ensures ∙ again in
     let made =
     c.write.ensures.rows
@@ -27,4 +29,5 @@ returns c =
     ∙ kept_rows p.clients.rows client row c.requires
     ∙ ap (λ (core : Core). put core.image.clients client row) c.self.view_is
     in
-    IfOk-weaker c.client_rows.result (λ found. found ≡ c.write.new.self.rows) (λ found. found ≡ put c.args.self.now.image.clients client row) (λ found e. e ∙ made) c.client_rows.ensures
+    IfOk-weaker c.client_rows.result (λ found. found ≡ c.write.new.self.rows) (λ found. found
+    ≡ put c.args.self.now.image.clients client row) (λ found e. e ∙ made) c.client_rows.ensures

@@ -15,7 +15,8 @@ with words sums coll = record { words = words; stakes = sums.stakes; coll = coll
 pub returns : goal.returns
 returns c =
     let p = c.self.inside in
-    let coll = ap (λ (m : Market). m.total_coll) c.market.ensures.market ∙ sym (ap (λ (core : Core). (market_of (state_of core)).total_coll) c.self.view_is) in
+    let coll = ap (λ (m : Market). m.total_coll) c.market.ensures.market
+    ∙ sym (ap (λ (core : Core). (market_of (state_of core)).total_coll) c.self.view_is) in
     ap (λ (w : PoolWords). with w c.sums-sums.result.now c.market.result.total_coll) c.words.ensures.words
     ∙ ap (λ (s : Sums). with p.pool.words s c.market.result.total_coll) c.sums-sums.ensures.sums
     ∙ ap (λ n. with p.pool.words p.troves.sums n) (coll ∙ its_coll p c.self.invariant)

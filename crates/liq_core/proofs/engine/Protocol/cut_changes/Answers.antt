@@ -13,12 +13,15 @@ nothing = record { account = 0; lot = 0; draw = 0; full = false }
 
 pub cut_change-change-requires : goal.cut_change-change-requires
 cut_change-change-requires c =
-    All-from_recursion (CutIsCovered (state_of c.args.self.now)) c.args.cuts.now c.requires c.loop-cut.cut-index nothing c.loop-cut-test.true
+    All-from_recursion (CutIsCovered (state_of c.args.self.now)) c.args.cuts.now c.requires c.loop-cut.cut-index nothing
+    c.loop-cut-test.true
 
 pub loop-cut-preserved : goal.loop-cut-preserved
 loop-cut-preserved c =
-    let more = map_more (cut_told (state_of c.args.self.now)) c.args.cuts.now c.loop-cut.cut-index nothing c.loop-cut-test.true in
+    let more = map_more (cut_told (state_of c.args.self.now)) c.args.cuts.now c.loop-cut.cut-index nothing
+    c.loop-cut-test.true in
     cc (c.in-Ok.ensures.items, c.cut_change-change.ensures, c.loop-cut.invariant)
 
 pub returns : goal.returns
-returns c = c.loop-cut.invariant ∙ ap (λ (cuts : List Cut). map (cut_told (state_of c.args.self.now)) cuts) (take_all c.loop-cut.cut-index c.args.cuts.now c.loop-cut-test.false)
+returns c = c.loop-cut.invariant ∙ ap (λ (cuts : List Cut). map (cut_told (state_of c.args.self.now)) cuts)
+    (take_all c.loop-cut.cut-index c.args.cuts.now c.loop-cut-test.false)

@@ -9,7 +9,10 @@ pub returns-in-Ok-clause-stands : goal.returns-in-Ok-clause-stands
 returns-in-Ok-clause-stands c =
     let i = c.args.image in
     let records = c.args.records in
-    let sound : IsSoundImage i records = record { rules = sym c.first_unsound.ensures ∙ c.in_default.is; tables = c.requires.tables } in
+    let sound : IsSoundImage i records = record {
+      rules = sym c.first_unsound.ensures ∙ c.in_default.is;
+      tables = c.requires.tables;
+    } in
     record {
       image = c.in-Ok.ensures.image ∙ sym (started_image i (stakes_added i records sound));
       records = c.in-Ok.ensures.records;

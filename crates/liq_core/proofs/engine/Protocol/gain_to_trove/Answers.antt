@@ -9,35 +9,59 @@ refused_not : {A B : Type 0} (r : Result A B) (e : B) (x : A) → r ≡ Err e �
 refused_not r e x is not = cc
 
 pub unreachable-requires : goal.unreachable-requires
-unreachable-requires g c = refused_not c.withdraw.result _ _ c.in-Err.is (c.withdraw.ensures.answer ∙ move_answer c.self.inside c.args.self.now c.self.view_is c.self.invariant c.args.account c.args.plan.now c.requires.range c.requires.terms c.requires.allowed)
+unreachable-requires g c = refused_not c.withdraw.result _ _ c.in-Err.is (c.withdraw.ensures.answer
+    ∙ move_answer c.self.inside c.args.self.now c.self.view_is c.self.invariant c.args.account c.args.plan.now
+    c.requires.range c.requires.terms c.requires.allowed)
 
 pub change_trove-requires-clause-there : goal.change_trove-requires-clause-there
-change_trove-requires-clause-there g c = (moves_so c.self.inside c.args.self.now c.self.view_is c.self.invariant c.args.account c.args.plan.now c.requires.range c.requires.terms c.requires.allowed).there
+change_trove-requires-clause-there g c =
+    (moves_so c.self.inside c.args.self.now c.self.view_is c.self.invariant c.args.account c.args.plan.now
+    c.requires.range c.requires.terms c.requires.allowed).there
 
 pub change_trove-requires-clause-held : goal.change_trove-requires-clause-held
-change_trove-requires-clause-held g c = record { stand = books_stand c.self.inside c.self.invariant; list = c.self.invariant.order; coll = coll_held c.self.inside c.self.invariant; debt = debt_held c.self.inside c.self.invariant }
+change_trove-requires-clause-held g c = record {
+  stand = books_stand c.self.inside c.self.invariant;
+  list = c.self.invariant.order;
+  coll = coll_held c.self.inside c.self.invariant;
+  debt =
+      debt_held c.self.inside c.self.invariant;
+}
 
 pub change_trove-requires-clause-some : goal.change_trove-requires-clause-some
-change_trove-requires-clause-some g c = (moves_so c.self.inside c.args.self.now c.self.view_is c.self.invariant c.args.account c.args.plan.now c.requires.range c.requires.terms c.requires.allowed).some
+change_trove-requires-clause-some g c =
+    (moves_so c.self.inside c.args.self.now c.self.view_is c.self.invariant c.args.account c.args.plan.now
+    c.requires.range c.requires.terms c.requires.allowed).some
 
 pub change_trove-requires-clause-least : goal.change_trove-requires-clause-least
-change_trove-requires-clause-least g c = (moves_so c.self.inside c.args.self.now c.self.view_is c.self.invariant c.args.account c.args.plan.now c.requires.range c.requires.terms c.requires.allowed).least
+change_trove-requires-clause-least g c =
+    (moves_so c.self.inside c.args.self.now c.self.view_is c.self.invariant c.args.account c.args.plan.now
+    c.requires.range c.requires.terms c.requires.allowed).least
 
 pub change_trove-requires-clause-active_coll : goal.change_trove-requires-clause-active_coll
-change_trove-requires-clause-active_coll g c = (moves_so c.self.inside c.args.self.now c.self.view_is c.self.invariant c.args.account c.args.plan.now c.requires.range c.requires.terms c.requires.allowed).active_coll
+change_trove-requires-clause-active_coll g c =
+    (moves_so c.self.inside c.args.self.now c.self.view_is c.self.invariant c.args.account c.args.plan.now
+    c.requires.range c.requires.terms c.requires.allowed).active_coll
 
 pub change_trove-requires-clause-active_debt : goal.change_trove-requires-clause-active_debt
-change_trove-requires-clause-active_debt g c = (moves_so c.self.inside c.args.self.now c.self.view_is c.self.invariant c.args.account c.args.plan.now c.requires.range c.requires.terms c.requires.allowed).active_debt
+change_trove-requires-clause-active_debt g c =
+    (moves_so c.self.inside c.args.self.now c.self.view_is c.self.invariant c.args.account c.args.plan.now
+    c.requires.range c.requires.terms c.requires.allowed).active_debt
 
 pub invariant_of-self : goal.invariant_of-self
 invariant_of-self g c =
-    move_sound c.self.inside c.args.self.now c.self.view_is c.self.invariant c.args.account c.args.plan.now c.requires.range c.requires.terms c.requires.allowed
-    c.in-Ok.field-0 (sym c.withdraw.ensures.answer ∙ c.in-Ok.is) c.withdraw.new.self c.change_trove.new.pools c.change_trove.new.troves c.change_trove.new.order c.in-Ok.ensures.words c.in-Ok.ensures.finished c.in-Ok.ensures.deposits c.change_trove.ensures.books c.change_trove.ensures.others c.change_trove.ensures.list
+    move_sound c.self.inside c.args.self.now c.self.view_is c.self.invariant c.args.account c.args.plan.now
+    c.requires.range c.requires.terms c.requires.allowed
+    c.in-Ok.field-0 (sym c.withdraw.ensures.answer ∙ c.in-Ok.is) c.withdraw.new.self c.change_trove.new.pools
+    c.change_trove.new.troves c.change_trove.new.order c.in-Ok.ensures.words c.in-Ok.ensures.finished
+    c.in-Ok.ensures.deposits c.change_trove.ensures.books c.change_trove.ensures.others c.change_trove.ensures.list
 
 pub returns-clause-made : goal.returns-clause-made
 returns-clause-made g c =
-    move_changes c.self.inside c.args.self.now c.self.view_is c.self.invariant c.args.account c.args.plan.now c.requires.range c.requires.terms c.requires.allowed
-    c.in-Ok.field-0 (sym c.withdraw.ensures.answer ∙ c.in-Ok.is) c.withdraw.new.self c.change_trove.new.pools c.change_trove.new.troves c.change_trove.new.order c.in-Ok.ensures.words c.in-Ok.ensures.finished c.in-Ok.ensures.deposits c.change_trove.ensures.books c.change_trove.ensures.others
+    move_changes c.self.inside c.args.self.now c.self.view_is c.self.invariant c.args.account c.args.plan.now
+    c.requires.range c.requires.terms c.requires.allowed
+    c.in-Ok.field-0 (sym c.withdraw.ensures.answer ∙ c.in-Ok.is) c.withdraw.new.self c.change_trove.new.pools
+    c.change_trove.new.troves c.change_trove.new.order c.in-Ok.ensures.words c.in-Ok.ensures.finished
+    c.in-Ok.ensures.deposits c.change_trove.ensures.books c.change_trove.ensures.others
 
 pub returns-clause-any : goal.returns-clause-any
 returns-clause-any g c =

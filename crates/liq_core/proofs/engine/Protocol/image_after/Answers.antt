@@ -20,8 +20,14 @@ clients_after-requires c =
     omega (arith, number, same)
 
 -- what is made is the core's image with the next generation, the greater limit and the client's row
-made : (core : Core) (image : Image) (rows : Table Client) (next : Generation) (inside : Inside) (plan : Plan) → next ≡ next_generation (current core) → image ≡ record core.image { clients = rows } → rows ≡ put core.image.clients inside.command.client (record { last = inside.command.number; kept = inside.forecast.done }) → plan_of inside.command inside.forecast ≡ plan
-    → record image { generation = next.number; limit = next.limit } ≡ turned core.image plan.command.client (record { last = plan.command.number; kept = plan.done })
+made : (core : Core) (image : Image) (rows : Table Client) (next : Generation) (inside : Inside) (plan : Plan)
+    → next ≡ next_generation (current core) → image ≡ record core.image { clients = rows }
+    → rows ≡ put core.image.clients inside.command.client (record {
+      last = inside.command.number;
+      kept = inside.forecast.done;
+    }) → plan_of inside.command inside.forecast ≡ plan
+    → record image { generation = next.number; limit = next.limit } ≡ turned core.image plan.command.client
+    (record { last = plan.command.number; kept = plan.done })
 made core image rows next inside plan follows same put_is view =
     let old = core.image in
     ap (λ (g : Generation). record image { generation = g.number; limit = g.limit }) follows
@@ -33,22 +39,27 @@ pub returns-clause-image : goal.returns-clause-image
 returns-clause-image c s h =
     let sound = subst (λ (core : Core). IsSoundImage core.image core.records) c.self.view_is c.self.invariant.image in
     let follows = c.next-next.ensures ∙ ap next_generation c.current.ensures.counts in
-    made c.args.self.now _ _ _ c.planned.inside c.args.planned.now follows c.in_ok-image.ensures c.in_ok-clients.ensures c.planned.view_is
+    made c.args.self.now _ _ _ c.planned.inside c.args.planned.now follows c.in_ok-image.ensures c.in_ok-clients.ensures
+    c.planned.view_is
     ∙ planned_image c.args.self.now sound c.args.planned.now c.requires.planned c.requires.rotates s h
 
 pub returns-clause-tables : goal.returns-clause-tables
 returns-clause-tables c =
     let sound = subst (λ (core : Core). IsSoundImage core.image core.records) c.self.view_is c.self.invariant.image in
     let follows = c.next-next.ensures ∙ ap next_generation c.current.ensures.counts in
-    let is = made c.args.self.now _ _ _ c.planned.inside c.args.planned.now follows c.in_ok-image.ensures c.in_ok-clients.ensures c.planned.view_is in
-    subst HasTables (sym is) (planned_sound c.args.self.now sound c.args.planned.now c.requires.planned c.requires.rotates).tables
+    let is = made c.args.self.now _ _ _ c.planned.inside c.args.planned.now follows c.in_ok-image.ensures
+    c.in_ok-clients.ensures c.planned.view_is in
+    subst HasTables (sym is) (planned_sound c.args.self.now sound c.args.planned.now c.requires.planned
+    c.requires.rotates).tables
 
 pub returns-clause-sound : goal.returns-clause-sound
 returns-clause-sound c =
     let sound = subst (λ (core : Core). IsSoundImage core.image core.records) c.self.view_is c.self.invariant.image in
     let follows = c.next-next.ensures ∙ ap next_generation c.current.ensures.counts in
-    let is = made c.args.self.now _ _ _ c.planned.inside c.args.planned.now follows c.in_ok-image.ensures c.in_ok-clients.ensures c.planned.view_is in
-    ap (λ (i : Image). first_unsound i 0) is ∙ (planned_sound c.args.self.now sound c.args.planned.now c.requires.planned c.requires.rotates).rules
+    let is = made c.args.self.now _ _ _ c.planned.inside c.args.planned.now follows c.in_ok-image.ensures
+    c.in_ok-clients.ensures c.planned.view_is in
+    ap (λ (i : Image). first_unsound i 0) is
+    ∙ (planned_sound c.args.self.now sound c.args.planned.now c.requires.planned c.requires.rotates).rules
 
 pub returns-clause-limit : goal.returns-clause-limit
 returns-clause-limit c = ap (λ (g : Generation). g.limit) c.next-next.ensures

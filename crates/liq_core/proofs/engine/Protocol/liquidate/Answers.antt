@@ -11,27 +11,58 @@ pub strike-requires-clause-planned : goal.strike-requires-clause-planned
 strike-requires-clause-planned c =
     let p = c.self.inside in
     let r = c.requires in
-    let asked = subst (λ (core : Core). IsAsked core c.args.command.now c.args.done c.args.liquidator c.args.victims.now) (sym c.self.view_is) (record { allowed = r.allowed; made = r.done; stays = r.stays; is = r.effect; victims = r.victims }) in
-    (state_of (core_of p), started_with (core_of p).image p.records c.self.invariant.image, asked.victims, begun p c.self.invariant)
+    let asked = subst (λ (core : Core). IsAsked core c.args.command.now c.args.done c.args.liquidator
+    c.args.victims.now) (sym c.self.view_is) (record {
+      allowed = r.allowed;
+      made = r.done;
+      stays = r.stays;
+      is = r.effect;
+      victims = r.victims;
+    }) in (
+      state_of (core_of p),
+      started_with (core_of p).image p.records c.self.invariant.image,
+      asked.victims,
+      begun p c.self.invariant,
+    )
 
 pub strike-requires-clause-owners : goal.strike-requires-clause-owners
 strike-requires-clause-owners c =
-    subst (λ (core : Core). AllByRecursion (λ (v : Victim). Contains core.room.surplus v.account) c.args.victims.now) (sym c.self.view_is) c.requires.owners
+    subst (λ (core : Core). AllByRecursion (λ (v : Victim). Contains core.room.surplus v.account) c.args.victims.now)
+    (sym c.self.view_is) c.requires.owners
 
 pub invariant_of-self : goal.invariant_of-self
 invariant_of-self c =
     let p = c.self.inside in
     let r = c.requires in
     let n = c.strike.new in
-    let asked = subst (λ (core : Core). IsAsked core c.args.command.now c.args.done c.args.liquidator c.args.victims.now) (sym c.self.view_is) (record { allowed = r.allowed; made = r.done; stays = r.stays; is = r.effect; victims = r.victims }) in
-    let kept = c.strike.ensures (state_of (core_of p)) (started_with (core_of p).image p.records c.self.invariant.image) asked.victims (begun p c.self.invariant) in
-    counted_sound p c.self.invariant c.args.command.now c.args.done c.args.liquidator c.args.victims.now asked n.wallets n.pools n.surplus n.troves n.order n.stability c.write.new.self kept c.write.ensures.rows
+    let asked = subst (λ (core : Core). IsAsked core c.args.command.now c.args.done c.args.liquidator
+    c.args.victims.now) (sym c.self.view_is) (record {
+      allowed = r.allowed;
+      made = r.done;
+      stays = r.stays;
+      is = r.effect;
+      victims = r.victims;
+    }) in
+    let kept = c.strike.ensures (state_of (core_of p)) (started_with (core_of p).image p.records c.self.invariant.image)
+    asked.victims (begun p c.self.invariant) in
+    counted_sound p c.self.invariant c.args.command.now c.args.done c.args.liquidator c.args.victims.now asked n.wallets
+    n.pools n.surplus n.troves n.order n.stability c.write.new.self kept c.write.ensures.rows
 
 pub returns : goal.returns
 returns c =
     let p = c.self.inside in
     let r = c.requires in
     let n = c.strike.new in
-    let asked = subst (λ (core : Core). IsAsked core c.args.command.now c.args.done c.args.liquidator c.args.victims.now) (sym c.self.view_is) (record { allowed = r.allowed; made = r.done; stays = r.stays; is = r.effect; victims = r.victims }) in
-    let kept = c.strike.ensures (state_of (core_of p)) (started_with (core_of p).image p.records c.self.invariant.image) asked.victims (begun p c.self.invariant) in
-    counted_stands p c.self.invariant c.args.command.now c.args.done c.args.liquidator c.args.victims.now asked n.wallets n.pools n.surplus n.troves n.order n.stability c.write.new.self kept c.write.ensures.rows c.args.self.now c.self.view_is
+    let asked = subst (λ (core : Core). IsAsked core c.args.command.now c.args.done c.args.liquidator
+    c.args.victims.now) (sym c.self.view_is) (record {
+      allowed = r.allowed;
+      made = r.done;
+      stays = r.stays;
+      is = r.effect;
+      victims = r.victims;
+    }) in
+    let kept = c.strike.ensures (state_of (core_of p)) (started_with (core_of p).image p.records c.self.invariant.image)
+    asked.victims (begun p c.self.invariant) in
+    counted_stands p c.self.invariant c.args.command.now c.args.done c.args.liquidator c.args.victims.now asked
+    n.wallets n.pools n.surplus n.troves n.order n.stability c.write.new.self kept c.write.ensures.rows
+    c.args.self.now c.self.view_is

@@ -15,13 +15,16 @@ pub plan_victims-requires-clause-sound : goal.plan_victims-requires-clause-sound
 plan_victims-requires-clause-sound c =
     let p = c.self.inside in
     let is = c.market.ensures.market ∙ sym (ap (λ (core : Core). market_of (state_of core)) c.self.view_is) in
-    subst (λ (w : PoolWords). IsSoundMoment (moment_by c.market.result p.troves.sums p.troves.table.rows w)) (sym c.words.ensures.words) (its_moment p c.self.invariant c.market.result is)
+    subst (λ (w : PoolWords). IsSoundMoment (moment_by c.market.result p.troves.sums p.troves.table.rows w))
+    (sym c.words.ensures.words) (its_moment p c.self.invariant c.market.result is)
 
 pub returns : goal.returns
 returns c =
     let p = c.self.inside in
     let s = state_of (core_of p) in
     let is = c.market.ensures.market ∙ sym (ap (λ (core : Core). market_of (state_of core)) c.self.view_is) in
-    let parts = subst (λ (w : PoolWords). AreParts s c.market.result p.troves.sums p.troves.table.rows p.order.entries w) (sym c.words.ensures.words) (its_parts p c.self.invariant c.market.result is) in
+    let parts = subst (λ (w : PoolWords). AreParts s c.market.result p.troves.sums p.troves.table.rows p.order.entries
+    w) (sym c.words.ensures.words) (its_parts p c.self.invariant c.market.result is) in
     let made = c.plan_victims.ensures s parts (troves_sound s (core_finds (core_of p) c.self.invariant.image)) in
-    subst (λ (core : Core). MatchResult c.plan_victims.result (λ v. AreLowest (state_of core) c.args.count v.items) (IsNoPlan (state_of core) c.args.count)) c.self.view_is made
+    subst (λ (core : Core). MatchResult c.plan_victims.result (λ v. AreLowest (state_of core) c.args.count v.items)
+    (IsNoPlan (state_of core) c.args.count)) c.self.view_is made

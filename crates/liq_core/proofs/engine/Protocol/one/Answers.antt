@@ -17,7 +17,8 @@ returns-in_default c =
     let p = c.self.inside in
     let account = c.args.account in
     let m = market_of (state_of (core_of p)) in
-    ap (λ (o : Option Trove). one_in m p.troves.sums p.pool.words.total account o) (sym (ap option_copied c.in_default.is) ∙ c.get.ensures.row)
+    ap (λ (o : Option Trove). one_in m p.troves.sums p.pool.words.total account o)
+    (sym (ap option_copied c.in_default.is) ∙ c.get.ensures.row)
     ∙ its_one p c.self.invariant m refl account
     ∙ ap (λ (core : Core). one (state_of core) account) c.self.view_is
 
@@ -25,7 +26,8 @@ pub plan_one-requires-clause-trove : goal.plan_one-requires-clause-trove
 plan_one-requires-clause-trove c =
     let is = c.market.ensures.market ∙ sym (ap (λ (core : Core). market_of (state_of core)) c.self.view_is) in
     subst (λ (s : Sums). IsTroveOf c.market.result s c.in-Some.trove.now) (sym c.sums.ensures.sums)
-    (its_trove c.self.inside c.self.invariant c.market.result is c.args.account c.in-Some.trove.now (sym c.get.ensures.row ∙ ap option_copied c.in-Some.is))
+    (its_trove c.self.inside c.self.invariant c.market.result is c.args.account c.in-Some.trove.now
+    (sym c.get.ensures.row ∙ ap option_copied c.in-Some.is))
 
 pub returns : goal.returns
 returns c =
@@ -35,6 +37,7 @@ returns c =
     c.plan_one.ensures
     ∙ ap (λ (s : Sums). one_by c.market.result s c.in-Some.trove.now c.words.result.now.total) c.sums.ensures.sums
     ∙ ap (λ (w : PoolWords). one_by c.market.result p.troves.sums c.in-Some.trove.now w.total) c.words.ensures.words
-    ∙ ap (λ (o : Option Trove). one_in c.market.result p.troves.sums p.pool.words.total account o) (sym (ap option_copied c.in-Some.is) ∙ c.get.ensures.row)
+    ∙ ap (λ (o : Option Trove). one_in c.market.result p.troves.sums p.pool.words.total account o)
+    (sym (ap option_copied c.in-Some.is) ∙ c.get.ensures.row)
     ∙ its_one p c.self.invariant c.market.result is account
     ∙ ap (λ (core : Core). one (state_of core) account) c.self.view_is

@@ -5,4 +5,5 @@ pub returns : goal.returns
 returns c = passed c.self.inside c.args.self.now c.self.view_is c.self.invariant c.args.minutes
 
 pub invariant_of-self : goal.invariant_of-self
-invariant_of-self c = passed_sound c.self.inside c.args.self.now c.self.view_is c.self.invariant c.args.minutes c.requires.allowed
+invariant_of-self c = passed_sound c.self.inside c.args.self.now c.self.view_is c.self.invariant c.args.minutes
+    c.requires.allowed

@@ -30,7 +30,8 @@ returns-in-Err-No c s h =
     let sound = subst (λ (view : Core). IsSoundImage view.image view.records) c.self.view_is c.self.invariant.image in
     standing_ruling core s command sound h ∙ refused_call (state_of core) command c.in-Err-No.refusal next.0 next.1
     (subst (λ (fault : PlanFault). ForecastsCall (state_of core) command.call (Err fault)) c.in-Err-No.field-0-is
-    (subst (λ (r : Result Forecast PlanFault). ForecastsCall (state_of core) command.call r) c.in-Err-No.is c.plan_call.ensures))
+    (subst (λ (r : Result Forecast PlanFault). ForecastsCall (state_of core) command.call r) c.in-Err-No.is
+    c.plan_call.ensures))
 
 pub returns-in-Err-NoMemory : goal.returns-in-Err-NoMemory
 returns-in-Err-NoMemory c s h =
@@ -43,8 +44,10 @@ returns-in-Err-NoMemory c s h =
       client = next.0;
       turn = next.1;
       call =
-          subst (λ (fault : PlanFault). ForecastsCall (state_of core) command.call (Err fault)) c.in-Err-NoMemory.field-0-is
-          (subst (λ (r : Result Forecast PlanFault). ForecastsCall (state_of core) command.call r) c.in-Err-NoMemory.is c.plan_call.ensures);
+          subst (λ (fault : PlanFault). ForecastsCall (state_of core) command.call (Err fault))
+          c.in-Err-NoMemory.field-0-is
+          (subst (λ (r : Result Forecast PlanFault). ForecastsCall (state_of core) command.call r) c.in-Err-NoMemory.is
+          c.plan_call.ensures);
     })
 
 pub returns-in-Some : goal.returns-in-Some
@@ -54,7 +57,8 @@ returns-in-Some c s h =
     let next = rw c.in-Ok-None.field-0-is at c.in-Ok-None.ensures in
     let sound = subst (λ (view : Core). IsSoundImage view.image view.records) c.self.view_is c.self.invariant.image in
     let full = sym c.no_room.ensures ∙ c.in-Some.is in
-    standing_ruling core s command sound h ∙ refused_room (state_of core) command c.in-Some.refusal next.0 next.1 c.in-Ok.ensures.0 full
+    standing_ruling core s command sound h ∙ refused_room (state_of core) command c.in-Some.refusal next.0 next.1
+    c.in-Ok.ensures.0 full
 
 pub invariant_of-result : goal.invariant_of-result
 invariant_of-result c =
@@ -72,5 +76,6 @@ returns c s h =
     let next = rw c.in-Ok-None.field-0-is at c.in-Ok-None.ensures in
     let sound = subst (λ (view : Core). IsSoundImage view.image view.records) c.self.view_is c.self.invariant.image in
     let free = sym c.no_room.ensures ∙ c.in_default.is in
-    let allowed = standing_ruling core s command sound h ∙ allowed_call (state_of core) command next.0 next.1 c.in-Ok.ensures.0 free in
+    let allowed = standing_ruling core s command sound h
+    ∙ allowed_call (state_of core) command next.0 next.1 c.in-Ok.ensures.0 free in
     (refl, planned_alike (standing_alike core s sound h) command c.in-Ok.forecast allowed c.in-Ok.ensures.1)

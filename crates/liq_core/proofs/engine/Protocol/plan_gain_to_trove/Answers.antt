@@ -11,6 +11,11 @@ returns c hint =
     let balance = ap (λ (t : ℕ × ℕ). t.0) c.position-balance.ensures.position in
     let gain = ap (λ (t : ℕ × ℕ). t.1) c.position-balance.ensures.position in
     let planned = sym c.plan_gain.ensures ∙ c.in_ok-plan.was in
-    let passed = gain_passed s account hint there c.market.result c.entire-had.result c.position-balance.result.1 c.market.ensures.market c.entire-had.ensures.entire gain c.in_ok-plan.plan planned in
-    let terms = gain_terms s account hint there c.market.result c.entire-had.result c.position-balance.result.1 c.market.ensures.market c.entire-had.ensures.entire gain c.in_ok-plan.plan planned in
-    (passed, gain_forecast s account hint c.position-balance.result.0 c.position-balance.result.1 c.in_ok-plan.plan c.standing.result balance gain terms c.standing.ensures)
+    let passed = gain_passed s account hint there c.market.result c.entire-had.result c.position-balance.result.1
+    c.market.ensures.market c.entire-had.ensures.entire gain c.in_ok-plan.plan planned in
+    let terms = gain_terms s account hint there c.market.result c.entire-had.result c.position-balance.result.1
+    c.market.ensures.market c.entire-had.ensures.entire gain c.in_ok-plan.plan planned in (
+      passed,
+      gain_forecast s account hint c.position-balance.result.0 c.position-balance.result.1 c.in_ok-plan.plan
+          c.standing.result balance gain terms c.standing.ensures,
+    )

@@ -13,7 +13,8 @@ use Rattle.liq_soundness.proofs.SoundBorrow.{open_allows}
 use Rattle.liq_core.proofs.engine.Protocol.plan_open.Goals as goal
 
 -- whether the table has a row is whether the state has a trove
-there : (core : Core) → IsSoundImage core.image core.records → (account : ℕ) (o : Option (Bor Trove)) → option_copied o ≡ at core.image.troves account → is_some o ≡ is_some (at (state_of core).troves account)
+there : (core : Core) → IsSoundImage core.image core.records → (account : ℕ) (o : Option (Bor Trove))
+    → option_copied o ≡ at core.image.troves account → is_some o ≡ is_some (at (state_of core).troves account)
 there core sound account o row = copied o ∙ ap is_some row ∙ sym (exists_read core sound account) where
   copied : (p : Option (Bor Trove)) → is_some p ≡ is_some (option_copied p)
   copied None = refl
@@ -23,18 +24,24 @@ pub returns-in_err-plan : goal.returns-in_err-plan
 returns-in_err-plan c hint =
     let s = state_of c.args.self.now in
     let sound = subst (λ (view : Core). IsSoundImage view.image view.records) c.self.view_is c.self.invariant.image in
-    let exists = c.is_some-exists.ensures ∙ there c.args.self.now sound c.args.account c.get.result (c.get.ensures.row ∙ ap (λ (core : Core). at core.image.troves c.args.account) c.self.view_is) in
+    let exists = c.is_some-exists.ensures ∙ there c.args.self.now sound c.args.account c.get.result (c.get.ensures.row
+    ∙ ap (λ (core : Core). at core.image.troves c.args.account) c.self.view_is) in
     let p = err_from_is_err_and c.from_residual.result c.from_residual.ensures.1 in
     rw (p.1, p.2)
-    (open_refused s c.args.account c.market.result c.wallet-wallet.result c.market.ensures.market c.wallet-wallet.ensures c.args.coll c.args.borrow c.args.bound hint c.is_some-exists.result exists c.in_err-plan.field-0.0
+    (open_refused s c.args.account c.market.result c.wallet-wallet.result c.market.ensures.market
+    c.wallet-wallet.ensures c.args.coll c.args.borrow c.args.bound hint c.is_some-exists.result exists
+    c.in_err-plan.field-0.0
     (sym c.plan_open.ensures ∙ c.in_err-plan.was))
 
 pub standing-requires : goal.standing-requires
 standing-requires c =
     let s = state_of c.args.self.now in
     let sound = subst (λ (view : Core). IsSoundImage view.image view.records) c.self.view_is c.self.invariant.image in
-    let exists = c.is_some-exists.ensures ∙ there c.args.self.now sound c.args.account c.get.result (c.get.ensures.row ∙ ap (λ (core : Core). at core.image.troves c.args.account) c.self.view_is) in
-    let a = open_allowed s c.args.account c.market.result c.wallet-wallet.result c.market.ensures.market c.wallet-wallet.ensures c.args.coll c.args.borrow c.args.bound no_hint c.is_some-exists.result exists c.in_ok-plan.plan
+    let exists = c.is_some-exists.ensures ∙ there c.args.self.now sound c.args.account c.get.result (c.get.ensures.row
+    ∙ ap (λ (core : Core). at core.image.troves c.args.account) c.self.view_is) in
+    let a = open_allowed s c.args.account c.market.result c.wallet-wallet.result c.market.ensures.market
+    c.wallet-wallet.ensures c.args.coll c.args.borrow c.args.bound no_hint c.is_some-exists.result exists
+    c.in_ok-plan.plan
     (sym c.plan_open.ensures ∙ c.in_ok-plan.was) in
     let allows = open_allows s c.args.account c.args.coll c.args.borrow c.args.bound a.0 in
     subst (λ (p : Plan). 1 ≤ p.coll) (sym a.1) allows.some
@@ -43,7 +50,13 @@ pub returns : goal.returns
 returns c hint =
     let s = state_of c.args.self.now in
     let sound = subst (λ (view : Core). IsSoundImage view.image view.records) c.self.view_is c.self.invariant.image in
-    let exists = c.is_some-exists.ensures ∙ there c.args.self.now sound c.args.account c.get.result (c.get.ensures.row ∙ ap (λ (core : Core). at core.image.troves c.args.account) c.self.view_is) in
-    let a = open_allowed s c.args.account c.market.result c.wallet-wallet.result c.market.ensures.market c.wallet-wallet.ensures c.args.coll c.args.borrow c.args.bound hint c.is_some-exists.result exists c.in_ok-plan.plan
-    (sym c.plan_open.ensures ∙ c.in_ok-plan.was) in
-    (a.0, open_forecast s c.args.account c.args.coll c.args.borrow c.args.bound hint c.in_ok-plan.plan c.standing.result a.1 c.standing.ensures)
+    let exists = c.is_some-exists.ensures ∙ there c.args.self.now sound c.args.account c.get.result (c.get.ensures.row
+    ∙ ap (λ (core : Core). at core.image.troves c.args.account) c.self.view_is) in
+    let a = open_allowed s c.args.account c.market.result c.wallet-wallet.result c.market.ensures.market
+    c.wallet-wallet.ensures c.args.coll c.args.borrow c.args.bound hint c.is_some-exists.result exists
+    c.in_ok-plan.plan
+    (sym c.plan_open.ensures ∙ c.in_ok-plan.was) in (
+      a.0,
+      open_forecast s c.args.account c.args.coll c.args.borrow c.args.bound hint c.in_ok-plan.plan c.standing.result
+          a.1 c.standing.ensures,
+    )

@@ -29,20 +29,27 @@ cut_changes-requires c =
     let core = c.args.self.now in
     let s = state_of core in
     let sound = subst (λ (view : Core). IsSoundImage view.image view.records) c.self.view_is c.self.invariant.image in
-    let a = allowed_so (rules s (Redeem c.args.account c.args.lusd c.args.bound no_hint)) (redeeming_terms (market_of s) (visited s) c.args.lusd) c.in-Ok.taken c.in-Ok.ensures in
+    let a = allowed_so (rules s (Redeem c.args.account c.args.lusd c.args.bound no_hint)) (redeeming_terms (market_of s)
+    (visited s) c.args.lusd) c.in-Ok.taken c.in-Ok.ensures in
     let made = c.as_slice.ensures ∙ ap (λ (t : RedeemTerms). t.cuts) a.1 in
-    subst (λ (cuts : List Cut). AllByRecursion (CutIsCovered s) cuts) (sym made) (cuts_covered s (core_finds core sound) c.args.lusd)
+    subst (λ (cuts : List Cut). AllByRecursion (CutIsCovered s) cuts) (sym made) (cuts_covered s (core_finds core sound)
+    c.args.lusd)
 
 pub returns : goal.returns
 returns c hint =
     let core = c.args.self.now in
     let s = state_of core in
     let sound = subst (λ (view : Core). IsSoundImage view.image view.records) c.self.view_is c.self.invariant.image in
-    let a = allowed_so (rules s (Redeem c.args.account c.args.lusd c.args.bound hint)) (redeeming_terms (market_of s) (visited s) c.args.lusd) c.in-Ok.taken c.in-Ok.ensures in
+    let a = allowed_so (rules s (Redeem c.args.account c.args.lusd c.args.bound hint)) (redeeming_terms (market_of s)
+    (visited s) c.args.lusd) c.in-Ok.taken c.in-Ok.ensures in
     let made = c.as_slice.ensures ∙ ap (λ (t : RedeemTerms). t.cuts) a.1 in (
       a.0,
       record {
-        done = ap (λ (t : RedeemTerms). record { kind = 14; values = t.redeemed ∷ t.drawn ∷ t.fee ∷ t.rate.base ∷ 0 ∷ 0 ∷ [] }) a.1;
+        done = ap (λ (t : RedeemTerms). record {
+          kind = 14;
+          values = t.redeemed ∷ t.drawn ∷ t.fee ∷ t.rate.base ∷ 0 ∷ 0
+              ∷ [];
+        }) a.1;
         terms = a.1;
         events = refl;
         changes =
@@ -52,28 +59,36 @@ returns c hint =
     )
 
 -- what is tested before any trove is visited is passed where a plan is made
-asked : (m : Market) (wallet : Wallet) (visits : List Visit) (lusd bound : ℕ) (plan : RedeemTerms) → redeem_plan m wallet visits lusd bound ≡ Ok plan → first_refusal (asking_rules m wallet lusd bound) ≡ None
+asked : (m : Market) (wallet : Wallet) (visits : List Visit) (lusd bound : ℕ) (plan : RedeemTerms)
+    → redeem_plan m wallet visits lusd bound ≡ Ok plan → first_refusal (asking_rules m wallet lusd bound) ≡ None
 asked m wallet visits lusd bound plan made = by (first_refusal (asking_rules m wallet lusd bound)) refl where
   by : (o : Option Refusal) → first_refusal (asking_rules m wallet lusd bound) ≡ o → o ≡ None
   by None is = refl
   by (Some refusal) is =
-      let refused = some_first (asking_rules m wallet lusd bound) (taking_rules (redeeming_terms m visits lusd) (first_net visits) lusd bound) refusal is in
+      let refused = some_first (asking_rules m wallet lusd bound) (taking_rules (redeeming_terms m visits lusd)
+      (first_net visits) lusd bound) refusal is in
       let passed = (allowed_so (redeem_rules m wallet visits lusd bound) (redeeming_terms m visits lusd) plan made).0 in
       cc
 
 pub returns-in-Err : goal.returns-in-Err
 returns-in-Err c hint =
-    let s = state_of c.args.self.now in
-    (refl, asked (market_of s) (wallet_of s c.args.account) (visited s) c.args.lusd c.args.bound c.in-Ok.taken c.in-Ok.ensures)
+    let s = state_of c.args.self.now in (
+      refl,
+      asked (market_of s) (wallet_of s c.args.account) (visited s) c.args.lusd c.args.bound c.in-Ok.taken
+          c.in-Ok.ensures,
+    )
 
 pub returns-in-Err-No : goal.returns-in-Err-No
 returns-in-Err-No c hint =
     let s = state_of c.args.self.now in
-    let refused = subst (Answers (market_of s) (wallet_of s c.args.account) (visited s) c.args.lusd c.args.bound) (c.in-Err-No.is ∙ ap Err c.in-Err-No.field-0-is) c.redemption.ensures in
-    refused_so (redeem_rules (market_of s) (wallet_of s c.args.account) (visited s) c.args.lusd c.args.bound) (redeeming_terms (market_of s) (visited s) c.args.lusd) c.in-Err-No.refusal refused
+    let refused = subst (Answers (market_of s) (wallet_of s c.args.account) (visited s) c.args.lusd c.args.bound)
+    (c.in-Err-No.is ∙ ap Err c.in-Err-No.field-0-is) c.redemption.ensures in
+    refused_so (redeem_rules (market_of s) (wallet_of s c.args.account) (visited s) c.args.lusd c.args.bound)
+    (redeeming_terms (market_of s) (visited s) c.args.lusd) c.in-Err-No.refusal refused
 
 pub returns-in-Err-NoMemory : goal.returns-in-Err-NoMemory
 returns-in-Err-NoMemory c hint =
     let s = state_of c.args.self.now in
-    let passed = subst (Answers (market_of s) (wallet_of s c.args.account) (visited s) c.args.lusd c.args.bound) (c.in-Err-NoMemory.is ∙ ap Err c.in-Err-NoMemory.field-0-is) c.redemption.ensures in
+    let passed = subst (Answers (market_of s) (wallet_of s c.args.account) (visited s) c.args.lusd c.args.bound)
+    (c.in-Err-NoMemory.is ∙ ap Err c.in-Err-NoMemory.field-0-is) c.redemption.ensures in
     (refl, passed)

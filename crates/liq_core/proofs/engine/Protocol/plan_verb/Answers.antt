@@ -6,4 +6,5 @@ use Rattle.liq_core.proofs.engine.Protocol.plan_verb.Goals as goal
 
 pub returns-in-Redeem : goal.returns-in-Redeem
 returns-in-Redeem c =
-    subst (λ (call : Call). Forecasts (state_of c.args.self.now) call c.plan_redeem.result) (sym c.in-Redeem.is) (c.plan_redeem.ensures c.in-Redeem.field-3)
+    subst (λ (call : Call). Forecasts (state_of c.args.self.now) call c.plan_redeem.result) (sym c.in-Redeem.is)
+    (c.plan_redeem.ensures c.in-Redeem.field-3)

@@ -12,7 +12,8 @@ use Rattle.liq_core.proofs.engine.Protocol.pools_info.Goals as goal
 -- the ten words of an image
 abbrev pools_by : Image → Info
 pools_by i =
-    info.Pools (i.active_coll ∷ i.active_debt ∷ i.default_coll ∷ i.default_debt ∷ i.reserve ∷ i.surplus ∷ i.fee_coll ∷ i.fee_lusd ∷ i.total ∷ i.pool_coll ∷ [])
+    info.Pools (i.active_coll ∷ i.active_debt ∷ i.default_coll ∷ i.default_debt ∷ i.reserve ∷ i.surplus ∷ i.fee_coll
+    ∷ i.fee_lusd ∷ i.total ∷ i.pool_coll ∷ [])
 
 pub returns : goal.returns
 returns c =

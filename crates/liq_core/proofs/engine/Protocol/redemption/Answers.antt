@@ -13,7 +13,8 @@ use Rattle.liq_core.proofs.engine.Protocol.redemption.Goals as goal
 pub plan-requires-clause-market : goal.plan-requires-clause-market
 plan-requires-clause-market c =
     let account = c.args.account in
-    let seen = subst (λ (core : Core). IsMarket (market_of (state_of core)) (wallet_of (state_of core) account)) c.self.view_is (redeem_market c.self.inside c.self.invariant account) in
+    let seen = subst (λ (core : Core). IsMarket (market_of (state_of core)) (wallet_of (state_of core) account))
+    c.self.view_is (redeem_market c.self.inside c.self.invariant account) in
     subst (λ (m : Market). IsMarket m c.wallet-wallet.result) (sym c.market.ensures.market)
     (subst (λ (w : Wallet). IsMarket (market_of (state_of c.args.self.now)) w) (sym c.wallet-wallet.ensures) seen)
 
@@ -29,8 +30,13 @@ returns c =
     let s = state_of c.args.self.now in
     let lusd = c.args.lusd in
     let bound = c.args.bound in
-    let price = ap (λ (m : Market). m.price) c.market.ensures.market ∙ sym (ap (λ (core : Core). (state_of core).price) c.self.view_is) in
-    let visits = ap (λ n. visited_by n p.troves.sums p.troves.table.rows p.order.entries) price ∙ sym (visited_is p c.self.invariant p.order.entries refl) ∙ ap (λ (core : Core). visited (state_of core)) c.self.view_is in
+    let price = ap (λ (m : Market). m.price) c.market.ensures.market
+    ∙ sym (ap (λ (core : Core). (state_of core).price) c.self.view_is) in
+    let visits = ap (λ n. visited_by n p.troves.sums p.troves.table.rows p.order.entries) price
+    ∙ sym (visited_is p c.self.invariant p.order.entries refl)
+    ∙ ap (λ (core : Core). visited (state_of core)) c.self.view_is in
     subst (λ (vs : List Visit). Answers (market_of s) (wallet_of s c.args.account) vs lusd bound c.plan.result) visits
-    (subst (λ (m : Market). Answers m (wallet_of s c.args.account) (visited_by c.market.result.price p.troves.sums p.troves.table.rows p.order.entries) lusd bound c.plan.result) c.market.ensures.market
-    (subst (λ (w : Wallet). Answers c.market.result w (visited_by c.market.result.price p.troves.sums p.troves.table.rows p.order.entries) lusd bound c.plan.result) c.wallet-wallet.ensures c.plan.ensures))
+    (subst (λ (m : Market). Answers m (wallet_of s c.args.account) (visited_by c.market.result.price p.troves.sums
+    p.troves.table.rows p.order.entries) lusd bound c.plan.result) c.market.ensures.market
+    (subst (λ (w : Wallet). Answers c.market.result w (visited_by c.market.result.price p.troves.sums
+    p.troves.table.rows p.order.entries) lusd bound c.plan.result) c.wallet-wallet.ensures c.plan.ensures))

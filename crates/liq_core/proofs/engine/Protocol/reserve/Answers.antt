@@ -10,11 +10,14 @@ returns-clause-room c =
     let new = c.reserve_call.new.self.room in
     let command = c.planned.inside.command in
     let needed = room_of_call command.call c.planned.inside.forecast.terms in
-    let client = among_key mid.clients new.clients c.reserve_call.ensures.kept.clients command.client c.in_ok-reserve_client.ensures.room in
-    on_ok c.reserve_call.result (λ h. subst (λ (p : Plan). IsWithin (room_for p) new) c.planned.view_is (with_client needed new command.client h client)) c.reserve_call.ensures.room
+    let client = among_key mid.clients new.clients c.reserve_call.ensures.kept.clients command.client
+    c.in_ok-reserve_client.ensures.room in
+    on_ok c.reserve_call.result (λ h. subst (λ (p : Plan). IsWithin (room_for p) new) c.planned.view_is
+    (with_client needed new command.client h client)) c.reserve_call.ensures.room
 
 pub returns-clause-kept : goal.returns-clause-kept
-returns-clause-kept c = within_then c.args.self.now.room c.reserve_client.new.self.room c.reserve_call.new.self.room c.reserve_client.ensures.kept c.reserve_call.ensures.kept
+returns-clause-kept c = within_then c.args.self.now.room c.reserve_client.new.self.room c.reserve_call.new.self.room
+    c.reserve_client.ensures.kept c.reserve_call.ensures.kept
 
 pub returns-clause-had : goal.returns-clause-had
 returns-clause-had c h =
@@ -22,4 +25,5 @@ returns-clause-had c h =
     let command = c.planned.inside.command in
     let needed = room_of_call command.call c.planned.inside.forecast.terms in
     let its = subst (λ (p : Plan). IsWithin (room_for p) old) (sym c.planned.view_is) h in
-    c.reserve_call.ensures.had (within_then needed old c.reserve_client.new.self.room (without_client needed old command.client its) c.reserve_client.ensures.kept)
+    c.reserve_call.ensures.had (within_then needed old c.reserve_client.new.self.room
+    (without_client needed old command.client its) c.reserve_client.ensures.kept)

@@ -4,12 +4,22 @@ use Rattle.liq_core.proofs.engine.Protocol.reserve_trove.Goals as goal
 
 pub returns-in_err-reserve-clause-kept : goal.returns-in_err-reserve-clause-kept
 returns-in_err-reserve-clause-kept c =
-    room_kept c.args.self.now c.self.inside (record c.self.inside { wallets = c.reserve.new.self }) c.self.view_is c.reserve.ensures.kept (λ _ h. h) (λ _ h. h) (λ _ h. h) (λ _ h. h) (omega arith) (omega arith)
+    room_kept c.args.self.now c.self.inside (record c.self.inside { wallets = c.reserve.new.self }) c.self.view_is
+    c.reserve.ensures.kept (λ _ h. h) (λ _ h. h) (λ _ h. h) (λ _ h. h) (omega arith) (omega arith)
 
 pub returns-in_err-reserve-2-clause-kept : goal.returns-in_err-reserve-2-clause-kept
 returns-in_err-reserve-2-clause-kept c =
-    room_kept c.args.self.now c.self.inside (record c.self.inside { wallets = c.reserve.new.self; troves = c.reserve-2.new.self }) c.self.view_is c.reserve.ensures.kept c.reserve-2.ensures.kept (λ _ h. h) (λ _ h. h) (λ _ h. h) (omega arith) (omega arith)
+    room_kept c.args.self.now c.self.inside (record c.self.inside {
+      wallets = c.reserve.new.self;
+      troves = c.reserve-2.new.self;
+    }) c.self.view_is c.reserve.ensures.kept c.reserve-2.ensures.kept (λ _ h. h)
+    (λ _ h. h) (λ _ h. h) (omega arith) (omega arith)
 
 pub returns-clause-kept : goal.returns-clause-kept
 returns-clause-kept c =
-    room_kept c.args.self.now c.self.inside (record c.self.inside { wallets = c.reserve.new.self; troves = c.reserve-2.new.self; order = c.reserve-3.new.self }) c.self.view_is c.reserve.ensures.kept c.reserve-2.ensures.kept (λ _ h. h) (λ _ h. h) (λ _ h. h) c.reserve-3.ensures.kept (omega arith)
+    room_kept c.args.self.now c.self.inside (record c.self.inside {
+      wallets = c.reserve.new.self;
+      troves = c.reserve-2.new.self;
+      order = c.reserve-3.new.self;
+    }) c.self.view_is c.reserve.ensures.kept
+    c.reserve-2.ensures.kept (λ _ h. h) (λ _ h. h) (λ _ h. h) c.reserve-3.ensures.kept (omega arith)

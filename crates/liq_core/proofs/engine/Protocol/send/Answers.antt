@@ -8,17 +8,21 @@ use Rattle.liq_core.proofs.SoundCores.{sent_within}
 use Rattle.liq_core.proofs.engine.Protocol.send.Goals as goal
 
 pub send-requires-clause-limit : goal.send-requires-clause-limit
-send-requires-clause-limit c enough = sent_within (core_of c.self.inside) c.self.invariant.image c.args.from c.args.to c.args.lusd enough
+send-requires-clause-limit c enough = sent_within (core_of c.self.inside) c.self.invariant.image c.args.from c.args.to
+    c.args.lusd enough
 
 pub invariant_of-self : goal.invariant_of-self
 invariant_of-self c =
-    sent_sound c.self.inside c.args.self.now c.self.view_is c.self.invariant c.args.from c.args.to c.args.lusd _ c.requires.from c.requires.to c.requires.allowed c.in-Ok.ensures.moved
+    sent_sound c.self.inside c.args.self.now c.self.view_is c.self.invariant c.args.from c.args.to c.args.lusd _
+    c.requires.from c.requires.to c.requires.allowed c.in-Ok.ensures.moved
 
 pub returns : goal.returns
-returns c = sent c.self.inside c.args.self.now c.self.view_is c.self.invariant c.args.from c.args.to c.args.lusd _ c.in-Ok.ensures.moved
+returns c = sent c.self.inside c.args.self.now c.self.view_is c.self.invariant c.args.from c.args.to c.args.lusd _
+    c.in-Ok.ensures.moved
 
 pub unreachable-requires : goal.unreachable-requires
 unreachable-requires c =
-    let enough = subst (λ (core : Core). c.args.lusd ≤ (wallet_in core.image.wallets c.args.from).lusd) (sym c.self.view_is) c.requires.enough in
+    let enough = subst (λ (core : Core). c.args.lusd ≤ (wallet_in core.image.wallets c.args.from).lusd)
+    (sym c.self.view_is) c.requires.enough in
     let passes = charge_passes (wallet_in c.self.inside.wallets.rows c.args.from) 0 c.args.lusd (omega arith) enough in
     cc (c.send.ensures.refused, c.in-Err.is)

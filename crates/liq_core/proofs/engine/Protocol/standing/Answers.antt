@@ -16,5 +16,6 @@ returns c =
     let sound = subst (λ (core : Core). IsSoundImage core.image core.records) c.self.view_is c.self.invariant.image in
     let fits : SFits w128 c.key.result = search rules in
     let same = ap (λ (core : Core). sums_by core.image) c.self.view_is ∙ sym (sums_read c.args.self.now sound) in
-    ap (λ k. Put k c.args.account) (to_z-of_z w128 c.key.result fits ∙ c.key.ensures ∙ ap key_by c.row_for-row.ensures.row)
+    ap (λ k. Put k c.args.account) (to_z-of_z w128 c.key.result fits ∙ c.key.ensures
+    ∙ ap key_by c.row_for-row.ensures.row)
     ∙ ap (λ (k : Sums). Put (key_by (set_row k c.args.coll c.args.debt)) c.args.account) same

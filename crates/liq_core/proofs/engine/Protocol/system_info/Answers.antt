@@ -17,7 +17,8 @@ shown a b e = ap bool_byte e ∙ as_number b
 pub returns : goal.returns
 returns c =
     let sound = subst (λ (core : Core). IsSoundImage core.image core.records) c.self.view_is c.self.invariant.image in
-    let staked = ap (λ (k : Sums). k.stakes) c.sums.ensures.sums ∙ ap (λ (core : Core). core.image.stakes) c.self.view_is in
+    let staked = ap (λ (k : Sums). k.stakes) c.sums.ensures.sums
+    ∙ ap (λ (core : Core). core.image.stakes) c.self.view_is in
     let counted = ap (λ (core : Core). core.records) c.self.view_is in
     let mode = c.from.ensures ∙ shown c.is_recovery.result _ c.is_recovery.ensures in
     system_told c.args.self.now sound c.market-market.result _ _ _ c.market-market.ensures.market mode staked counted

@@ -10,18 +10,23 @@ use Rattle.liq_core.proofs.engine.Protocol.take_out.Goals as goal
 pub overflow_sub-self : goal.overflow_sub-self
 overflow_sub-self c =
     let had = wallet_coll (core_of c.self.inside) c.self.invariant.image c.args.account in
-    let enough = subst (λ (core : Core). c.args.coll ≤ (wallet_in core.image.wallets c.args.account).coll) (sym c.self.view_is) c.requires.enough in
+    let enough = subst (λ (core : Core). c.args.coll ≤ (wallet_in core.image.wallets c.args.account).coll)
+    (sym c.self.view_is) c.requires.enough in
     omega (arith, had, enough)
 
 pub invariant_of-self : goal.invariant_of-self
 invariant_of-self c =
-    taken_sound c.self.inside c.args.self.now c.self.view_is c.self.invariant c.args.account c.args.coll _ c.requires.range c.requires.allowed c.in-Ok.ensures.moved
+    taken_sound c.self.inside c.args.self.now c.self.view_is c.self.invariant c.args.account c.args.coll _
+    c.requires.range c.requires.allowed c.in-Ok.ensures.moved
 
 pub returns : goal.returns
-returns c = taken c.self.inside c.args.self.now c.self.view_is c.self.invariant c.args.account c.args.coll _ c.in-Ok.ensures.moved
+returns c = taken c.self.inside c.args.self.now c.self.view_is c.self.invariant c.args.account c.args.coll _
+    c.in-Ok.ensures.moved
 
 pub unreachable-requires : goal.unreachable-requires
 unreachable-requires c =
-    let enough = subst (λ (core : Core). c.args.coll ≤ (wallet_in core.image.wallets c.args.account).coll) (sym c.self.view_is) c.requires.enough in
-    let passes = charge_passes (wallet_in c.self.inside.wallets.rows c.args.account) c.args.coll 0 enough (omega arith) in
+    let enough = subst (λ (core : Core). c.args.coll ≤ (wallet_in core.image.wallets c.args.account).coll)
+    (sym c.self.view_is) c.requires.enough in
+    let passes = charge_passes (wallet_in c.self.inside.wallets.rows c.args.account) c.args.coll 0 enough
+    (omega arith) in
     cc (c.take.ensures.refused, c.in-Err.is)

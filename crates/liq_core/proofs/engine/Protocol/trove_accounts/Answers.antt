@@ -8,7 +8,8 @@ use Rattle.liq_core.proofs.engine.Protocol.trove_accounts.Goals as goal
 pub write_accounts-requires : goal.write_accounts-requires
 write_accounts-requires c =
     let p = c.self.inside in
-    subst AreDistinct (sym c.self.invariant.order) (order_distinct p.troves.table.rows c.self.invariant.image.tables.troves)
+    subst AreDistinct (sym c.self.invariant.order)
+    (order_distinct p.troves.table.rows c.self.invariant.image.tables.troves)
 
 pub returns-clause-count : goal.returns-clause-count
 returns-clause-count c =

@@ -26,14 +26,18 @@ entire-coll-requires-clause-debt c =
 pub returns-in-None : goal.returns-in-None
 returns-in-None c =
     let none = sym c.get.ensures.row ∙ ap option_copied c.in-None.is in
-    subst (λ (core : Core). info.NoTrove ≡ trove_info (state_of core) (at (state_of core).troves c.args.account)) c.self.view_is
+    subst (λ (core : Core). info.NoTrove ≡ trove_info (state_of core) (at (state_of core).troves c.args.account))
+    c.self.view_is
     (told_none (core_of c.self.inside) c.self.invariant.image c.args.account none)
 
 pub returns-in-Some : goal.returns-in-Some
 returns-in-Some c =
     let t = c.in-Some.trove.now in
     let there = sym c.get.ensures.row ∙ ap option_copied c.in-Some.is in
-    ap (λ (e : ℕ × ℕ). info.Trove e.0 e.1 t.stake) (c.entire-coll.ensures ∙ ap (λ (k : Sums). entire_by k t) c.sums.ensures.sums)
-    ∙ ap (λ (core : Core). info.Trove (entire_by (sums_by core.image) t).0 (entire_by (sums_by core.image) t).1 t.stake) c.self.view_is
-    ∙ subst (λ (core : Core). info.Trove (entire_by (sums_by core.image) t).0 (entire_by (sums_by core.image) t).1 t.stake ≡ trove_info (state_of core) (at (state_of core).troves c.args.account)) c.self.view_is
+    ap (λ (e : ℕ × ℕ). info.Trove e.0 e.1 t.stake) (c.entire-coll.ensures
+    ∙ ap (λ (k : Sums). entire_by k t) c.sums.ensures.sums)
+    ∙ ap (λ (core : Core). info.Trove (entire_by (sums_by core.image) t).0 (entire_by (sums_by core.image) t).1 t.stake)
+    c.self.view_is
+    ∙ subst (λ (core : Core). info.Trove (entire_by (sums_by core.image) t).0 (entire_by (sums_by core.image) t).1
+    t.stake ≡ trove_info (state_of core) (at (state_of core).troves c.args.account)) c.self.view_is
     (told_some (core_of c.self.inside) c.self.invariant.image c.args.account t there)

@@ -12,7 +12,10 @@ invariant_of-result c =
     record {
       image =
           subst (λ (i : Image). IsSoundImage i 0)
-          (sym (made_again (opening_image_with c.args.limit) c.new.result.rows c.new-2.result.table.rows c.new-2.result.sums c.new-4.result.words c.new-4.result.finished c.new-4.result.deposits.rows c.new-5.result.rows c.new-6.result.rows c.new.ensures c.new-2.ensures.rows c.new-2.ensures.sums c.new-4.ensures.words c.new-4.ensures.finished c.new-4.ensures.deposits c.new-5.ensures c.new-6.ensures))
+          (sym (made_again (opening_image_with c.args.limit) c.new.result.rows c.new-2.result.table.rows
+          c.new-2.result.sums c.new-4.result.words c.new-4.result.finished c.new-4.result.deposits.rows
+          c.new-5.result.rows c.new-6.result.rows c.new.ensures c.new-2.ensures.rows c.new-2.ensures.sums
+          c.new-4.ensures.words c.new-4.ensures.finished c.new-4.ensures.deposits c.new-5.ensures c.new-6.ensures))
           (opening_image_sound c.args.limit c.requires);
       order = c.new-3.ensures ∙ sym (ap order_by c.new-2.ensures.rows);
     }

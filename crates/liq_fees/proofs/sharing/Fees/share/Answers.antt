@@ -10,13 +10,17 @@ pub after-self-inside-requires-clause-sum : goal.after-self-inside-requires-clau
 after-self-inside-requires-clause-sum c = ∥∥₁_elim c.self.invariant (search props) (λ k. (small_pots _ k.0 k.1).0)
 
 pub after-self-inside-requires-clause-unshared : goal.after-self-inside-requires-clause-unshared
-after-self-inside-requires-clause-unshared c = ∥∥₁_elim c.requires.lawful (search props) (λ k. (unshared_fits _ k.0 c.args.coll c.args.lusd (subst (λ (v : Kept). IsKeptOf v k.0) (sym c.self.view_is) k.1) k.2).0)
+after-self-inside-requires-clause-unshared c = ∥∥₁_elim c.requires.lawful (search props)
+    (λ k. (unshared_fits _ k.0 c.args.coll c.args.lusd (subst (λ (v : Kept). IsKeptOf v k.0) (sym c.self.view_is)
+    k.1) k.2).0)
 
 pub after-self-inside-requires-2-clause-sum : goal.after-self-inside-requires-2-clause-sum
 after-self-inside-requires-2-clause-sum c = ∥∥₁_elim c.self.invariant (search props) (λ k. (small_pots _ k.0 k.1).1)
 
 pub after-self-inside-requires-2-clause-unshared : goal.after-self-inside-requires-2-clause-unshared
-after-self-inside-requires-2-clause-unshared c = ∥∥₁_elim c.requires.lawful (search props) (λ k. (unshared_fits _ k.0 c.args.coll c.args.lusd (subst (λ (v : Kept). IsKeptOf v k.0) (sym c.self.view_is) k.1) k.2).1)
+after-self-inside-requires-2-clause-unshared c = ∥∥₁_elim c.requires.lawful (search props)
+    (λ k. (unshared_fits _ k.0 c.args.coll c.args.lusd (subst (λ (v : Kept). IsKeptOf v k.0) (sym c.self.view_is)
+    k.1) k.2).1)
 
 pub counted-self-inside-requires : goal.counted-self-inside-requires
 counted-self-inside-requires c = ∥∥₁_elim c.self.invariant (search props) (λ k. few_shares _ k.0 k.1)
@@ -24,9 +28,11 @@ counted-self-inside-requires c = ∥∥₁_elim c.self.invariant (search props) 
 pub invariant_of-self : goal.invariant_of-self
 invariant_of-self c = ∥∥₁_map c.requires.lawful (λ k. (
   Fee c.args.coll c.args.lusd ∷ k.0,
-  fee_kept _ k.0 c.args.coll c.args.lusd _ _ _ (subst (λ (v : Kept). IsKeptOf v k.0) (sym c.self.view_is) k.1) k.2 c.after-self-inside.ensures c.after-self-inside-2.ensures c.counted-self-inside.ensures,
+  fee_kept _ k.0 c.args.coll c.args.lusd _ _ _ (subst (λ (v : Kept). IsKeptOf v k.0) (sym c.self.view_is) k.1) k.2
+      c.after-self-inside.ensures c.after-self-inside-2.ensures c.counted-self-inside.ensures,
 ))
 
 pub returns : goal.returns
 returns c past h lawful =
-    fee_kept _ past c.args.coll c.args.lusd _ _ _ (subst (λ (v : Kept). IsKeptOf v past) (sym c.self.view_is) h) lawful c.after-self-inside.ensures c.after-self-inside-2.ensures c.counted-self-inside.ensures
+    fee_kept _ past c.args.coll c.args.lusd _ _ _ (subst (λ (v : Kept). IsKeptOf v past) (sym c.self.view_is) h) lawful
+    c.after-self-inside.ensures c.after-self-inside-2.ensures c.counted-self-inside.ensures

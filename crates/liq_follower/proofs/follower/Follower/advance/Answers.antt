@@ -10,9 +10,11 @@ pub returns-in-Ok-clause-fed : goal.returns-in-Ok-clause-fed
 returns-in-Ok-clause-fed c bytes is =
     let n : ℕ = c.in-Ok.count in
     let piece = c.args.piece.now in
-    counts bytes piece n c.args.self.now.taken c.tally.new.self c.in-Ok.ensures.count.1 (fed_count bytes c.args.self.now is)
+    counts bytes piece n c.args.self.now.taken c.tally.new.self c.in-Ok.ensures.count.1
+    (fed_count bytes c.args.self.now is)
     (ap (λ f. f.taken) c.tally.ensures ∙ ap (λ (t : ℕ). min (t + n) (2 ^ 64 - 1)) c.take.ensures.taken)
-    (subst (λ (f : Followed). IsAt (bytes ++ take n piece) f) (sym c.tally.ensures) (c.in-Ok.ensures.at bytes (fed_at bytes c.args.self.now is)))
+    (subst (λ (f : Followed). IsAt (bytes ++ take n piece) f) (sym c.tally.ensures) (c.in-Ok.ensures.at bytes
+    (fed_at bytes c.args.self.now is)))
 
 pub returns-in-Err-clause-going : goal.returns-in-Err-clause-going
 returns-in-Err-clause-going c bytes is = goes_on bytes c.args.self.now is c.requires.goes

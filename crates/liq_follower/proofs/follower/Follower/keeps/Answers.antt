@@ -11,4 +11,6 @@ returns-clause-fed c is_true bytes is =
     let whole : piece ≡ take n piece = sym (take_all n piece (omega arith)) in
     counts bytes piece n c.args.self.now.taken c.tally_few.new.self (omega arith) (fed_count bytes c.args.self.now is)
     (ap (λ f. f.taken) c.tally_few.ensures ∙ ap (λ f. min (f.taken + n) (2 ^ 64 - 1)) c.keep.ensures.added)
-    (subst (λ (f : Followed). IsAt (bytes ++ take n piece) f) (sym c.tally_few.ensures) (subst (λ (l : List ℕ). IsAt (bytes ++ l) c.keep.new.self) whole (c.keep.ensures.at bytes (fed_at bytes c.args.self.now is))))
+    (subst (λ (f : Followed). IsAt (bytes ++ take n piece) f) (sym c.tally_few.ensures)
+    (subst (λ (l : List ℕ). IsAt (bytes ++ l) c.keep.new.self) whole (c.keep.ensures.at bytes
+    (fed_at bytes c.args.self.now is))))

@@ -8,7 +8,8 @@ use Rattle.liq_guide.proofs.Standing.{stand_once}
 use Rattle.liq_guide.proofs.guide.Guide.neighbours_below_all.Goals as goal
 
 pub first_account-requires-clause-once : goal.first_account-requires-clause-once
-first_account-requires-clause-once c = stand_once (key_at c.self.inside.rows.stands) c.self.inside.rows.places c.self.invariant.0
+first_account-requires-clause-once c = stand_once (key_at c.self.inside.rows.stands) c.self.inside.rows.places
+    c.self.invariant.0
 
 pub returns : goal.returns
 returns c key low =

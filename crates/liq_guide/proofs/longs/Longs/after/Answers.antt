@@ -13,6 +13,7 @@ returns c =
     let es = c.self.inside.entries.keys in
     c.place_of.ensures.place
     ∙ ap (λ (o : Option Long). option_map ranked_long o) c.copied.ensures
-    ∙ after_is halved_order ranked_long IsHalved long_order es c.range.result c.next.new.self c.of.result c.next.result c.self.invariant.0 c.of.ensures.low (c.range.ensures.between tt) c.next.ensures.steps
+    ∙ after_is halved_order ranked_long IsHalved long_order es c.range.result c.next.new.self c.of.result c.next.result
+    c.self.invariant.0 c.of.ensures.low (c.range.ensures.between tt) c.next.ensures.steps
     ∙ ap (λ (e : Ranked). entry_after (map ranked_long es) e) c.of.ensures.same
     ∙ ap (λ (l : List Ranked). entry_after l c.args.place) c.self.view_is

@@ -11,7 +11,8 @@ pub returns : goal.returns
 returns c = record {
   first = c.place_of.ensures.place
       ∙ ap (λ (o : Option Long). option_map ranked_long o) c.copied.ensures
-      ∙ first_is halved_order ranked_long IsHalved long_order c.self.inside.entries.keys c.first.result c.first.ensures.variant c.first.ensures.first
+      ∙ first_is halved_order ranked_long IsHalved long_order c.self.inside.entries.keys c.first.result
+      c.first.ensures.variant c.first.ensures.first
       ∙ ap (λ (l : List Ranked). first_of l) c.self.view_is;
   least = c.place_of.ensures.least;
 }

@@ -9,18 +9,24 @@ use Rattle.liq_guide.proofs.Stored.{fine_inserted, inserted_is, stored_ascending
 use Rattle.liq_guide.proofs.longs.Longs.insert.Goals as goal
 
 halved : (c : goal.In-Ok) → AreHalved c.insert.new.self.keys
-halved c = subst AreHalved (sym c.in-Ok.ensures.keys) (fine_inserted halved_order ranked_long IsHalved long_order c.self.inside.entries.keys c.of.result c.self.invariant.0 c.of.ensures.low)
+halved c = subst AreHalved (sym c.in-Ok.ensures.keys) (fine_inserted halved_order ranked_long IsHalved long_order
+    c.self.inside.entries.keys c.of.result c.self.invariant.0 c.of.ensures.low)
 
 pub returns-in_default-clause-ascending : goal.returns-in_default-clause-ascending
 returns-in_default-clause-ascending c =
-    stored_ascending halved_order ranked_long IsHalved long_order c.insert.new.self.keys (subst AreHalved (sym c.in_default.ensures.err) c.self.invariant.0) c.insert.ensures.ordered
+    stored_ascending halved_order ranked_long IsHalved long_order c.insert.new.self.keys
+    (subst AreHalved (sym c.in_default.ensures.err) c.self.invariant.0) c.insert.ensures.ordered
 
 pub invariant_of-self-2 : goal.invariant_of-self-2
-invariant_of-self-2 c =
-    (halved c, stored_ascending halved_order ranked_long IsHalved long_order c.insert.new.self.keys (halved c) c.insert.ensures.ordered)
+invariant_of-self-2 c = (
+  halved c,
+  stored_ascending halved_order ranked_long IsHalved long_order c.insert.new.self.keys
+      (halved c) c.insert.ensures.ordered,
+)
 
 pub returns-clause-ascending : goal.returns-clause-ascending
-returns-clause-ascending c = stored_ascending halved_order ranked_long IsHalved long_order c.insert.new.self.keys (halved c) c.insert.ensures.ordered
+returns-clause-ascending c = stored_ascending halved_order ranked_long IsHalved long_order c.insert.new.self.keys
+    (halved c) c.insert.ensures.ordered
 
 pub returns-clause-entered : goal.returns-clause-entered
 returns-clause-entered c =

@@ -11,5 +11,6 @@ pub returns : goal.returns
 returns c =
     c.place_of.ensures.place
     ∙ ap (λ (o : Option Long). option_map ranked_long o) c.copied.ensures
-    ∙ last_is halved_order ranked_long IsHalved long_order c.self.inside.entries.keys c.last.result c.last.ensures.variant c.last.ensures.last
+    ∙ last_is halved_order ranked_long IsHalved long_order c.self.inside.entries.keys c.last.result
+    c.last.ensures.variant c.last.ensures.last
     ∙ ap (λ (l : List Ranked). first_of (reverse l)) c.self.view_is

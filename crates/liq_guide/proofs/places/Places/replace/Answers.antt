@@ -6,8 +6,10 @@ use Rattle.liq_chunks.specs.Entries.{with_entry, without_entry}
 use Rattle.liq_guide.proofs.Shifting.{Decides-entry, entered_again, replaced}
 use Rattle.liq_guide.proofs.places.Places.replace.Goals as goal
 
-entered : (old now new : List Ranked) (e to : Ranked) → now ≡ old → e ≡ to → new ≡ with_entry now e → new ≡ with_entry old to
-entered old now new e to stays is h = h ∙ ap (λ (l : List Ranked). with_entry l e) stays ∙ ap (λ (f : Ranked). with_entry old f) is
+entered : (old now new : List Ranked) (e to : Ranked) → now ≡ old → e ≡ to → new ≡ with_entry now e
+    → new ≡ with_entry old to
+entered old now new e to stays is h = h ∙ ap (λ (l : List Ranked). with_entry l e) stays
+    ∙ ap (λ (f : Ranked). with_entry old f) is
 
 not_true : (b : Bool) → b ≡ true → true ≡ not b → ⊥
 not_true true h k = cc
@@ -23,11 +25,13 @@ returns-then-ne-clause-replaced c =
     let to = c.args.to in
     let stays = c.shift.ensures.stays c.if-shift.false in
     let ascends = subst IsAscending stays c.shift.ensures.ascending in
-    let has_entered = entered c.args.self.now c.shift.new.self c.insert.new.self c.wide.result to stays c.wide.ensures c.in_ok-insert.ensures.entered in
+    let has_entered = entered c.args.self.now c.shift.new.self c.insert.new.self c.wide.result to stays c.wide.ensures
+    c.in_ok-insert.ensures.entered in
     c.remove.ensures.left
     ∙ ap (λ (e : Ranked). without_entry c.insert.new.self e) c.wide-then-ne.ensures
     ∙ ap (λ (l : List Ranked). without_entry l from) has_entered
-    ∙ replaced c.args.self.now from to ascends (λ same. not_true (int_eq from.0 to.0 && (from.1 == to.1)) ((Decides-entry from to).1 same) c.if-ne.ensures)
+    ∙ replaced c.args.self.now from to ascends (λ same. not_true (int_eq from.0 to.0 && (from.1 == to.1))
+    ((Decides-entry from to).1 same) c.if-ne.ensures)
 
 pub returns-else-ne-clause-replaced : goal.returns-else-ne-clause-replaced
 returns-else-ne-clause-replaced c =
@@ -35,7 +39,8 @@ returns-else-ne-clause-replaced c =
     let to = c.args.to in
     let stays = c.shift.ensures.stays c.if-shift.false in
     let ascends = subst IsAscending stays c.shift.ensures.ascending in
-    let has_entered = entered c.args.self.now c.shift.new.self c.insert.new.self c.wide.result to stays c.wide.ensures c.in_ok-insert.ensures.entered in
+    let has_entered = entered c.args.self.now c.shift.new.self c.insert.new.self c.wide.result to stays c.wide.ensures
+    c.in_ok-insert.ensures.entered in
     let same = (Decides-entry from to).0 (not_false (int_eq from.0 to.0 && (from.1 == to.1)) c.if-ne.ensures) in
     has_entered
     ∙ entered_again c.args.self.now to ascends

@@ -30,8 +30,11 @@ invariant_of-self c =
       shorts_ascend = c.shift.ensures.ascending;
       above_ascend = c.self.invariant.above_ascend;
       all_below = c.self.invariant.all_below;
-      all_short = either_way (λ (l : List Ranked). AllByRecursion IsBetween l) c.shift.result shorts (with_entry (without_entry shorts from) to) c.shift.new.self c.shift.ensures.shifted c.shift.ensures.stays c.self.invariant.all_short
-          (all_entered IsBetween (without_entry shorts from) to (all_left IsBetween shorts from c.self.invariant.all_short) (to_fits c));
+      all_short = either_way (λ (l : List Ranked). AllByRecursion IsBetween l) c.shift.result shorts
+          (with_entry (without_entry shorts from) to) c.shift.new.self c.shift.ensures.shifted c.shift.ensures.stays
+          c.self.invariant.all_short
+          (all_entered IsBetween (without_entry shorts from) to
+          (all_left IsBetween shorts from c.self.invariant.all_short) (to_fits c));
       all_above = c.self.invariant.all_above;
     }
 
@@ -46,6 +49,8 @@ returns-clause-shifted c done =
     let from = c.args.from in
     let to = c.args.to in
     ap (λ (l : List Ranked). below ++ (l ++ above)) (c.shift.ensures.shifted done)
-    ∙ sym (shorts_entered below (without_entry shorts from) above (shorts_without below shorts above c.self.invariant from) to (to_fits c))
-    ∙ ap (λ (l : List Ranked). with_entry l to) (sym (shorts_left below shorts above c.self.invariant from (from_fits c)))
+    ∙ sym (shorts_entered below (without_entry shorts from) above (shorts_without below shorts above c.self.invariant
+    from) to (to_fits c))
+    ∙ ap (λ (l : List Ranked). with_entry l to) (sym (shorts_left below shorts above c.self.invariant from
+    (from_fits c)))
     ∙ ap (λ (l : List Ranked). with_entry (without_entry l from) to) c.self.view_is

@@ -9,5 +9,6 @@ abbrev pub invariant-loop-change : goal.invariant-loop-change
 invariant-loop-change l =
     (l.self.places ≡ l.fn.self.places)
     × ((a : ℕ) → key_at l.self.stands a ≡ key_at l.fn.self.stands a)
-    × ((list : List Ranked) → Follows (next_at l.fn.self.stands) list → Follows (next_at l.self.stands) (all_listed list (take l.change-index l.changes)))
+    × ((list : List Ranked) → Follows (next_at l.fn.self.stands) list
+    → Follows (next_at l.self.stands) (all_listed list (take l.change-index l.changes)))
     × ((a : ℕ) → names l.changes a ≡ false → stand_of l.self.stands a ≡ stand_of l.fn.self.stands a)

@@ -15,9 +15,14 @@ use mir.Syntax.{w128}
 use mir.Val.{SFits}
 
 -- the key that an account will have
-aimed : (stands after : Parts) (account : ℕ) (next : Option ℤ) → ((a : ℕ) → stand_of after a ≡ moved (stand_of stands) account (record { key = key_at stands account; next = next }) a) → Sent (next_at stands) (next_at after) account next
+aimed : (stands after : Parts) (account : ℕ) (next : Option ℤ)
+    → ((a : ℕ) → stand_of after a ≡ moved (stand_of stands) account (record {
+      key = key_at stands account;
+      next = next;
+    }) a) → Sent (next_at stands) (next_at after) account next
 aimed stands after account next h a = ap (λ (s : Stand). s.next) (h a) ∙ by (a == account) where
-  by : (b : Bool) → (cond b (record { key = key_at stands account; next = next }) (stand_of stands a)).next ≡ cond b next (next_at stands a)
+  by : (b : Bool) → (cond b (record { key = key_at stands account; next = next }) (stand_of stands a)).next
+      ≡ cond b next (next_at stands a)
   by true = refl
   by false = refl
 
@@ -28,13 +33,17 @@ returns-in-Put-clause-next c =
     let account = c.in-Put.account in
     let fits : SFits w128 c.in-Put.key = search rules in
     let ok = simp to_z-of_z at c.aim.ensures.ok in
-    subst (λ (change : ListChange). OnOk c.aim.result ((list : List Ranked) → Follows (next_at old) list → Follows (next_at new) (listed list change))) (sym c.in-Put.is)
-    (on_ok c.aim.result (λ moves list h. put (next_at old) (next_at new) list account c.in-Put.key (aimed old new account (Some c.in-Put.key) moves) h) ok)
+    subst (λ (change : ListChange). OnOk c.aim.result ((list : List Ranked) → Follows (next_at old) list
+    → Follows (next_at new) (listed list change))) (sym c.in-Put.is)
+    (on_ok c.aim.result (λ moves list h. put (next_at old) (next_at new) list account c.in-Put.key
+    (aimed old new account (Some c.in-Put.key) moves) h) ok)
 
 pub returns-in-Gone-clause-next : goal.returns-in-Gone-clause-next
 returns-in-Gone-clause-next c =
     let old = c.args.self.now.stands in
     let new = c.aim-in-Gone.new.self in
     let account = c.in-Gone.account in
-    subst (λ (change : ListChange). OnOk c.aim-in-Gone.result ((list : List Ranked) → Follows (next_at old) list → Follows (next_at new) (listed list change))) (sym c.in-Gone.is)
-    (on_ok c.aim-in-Gone.result (λ moves list h. gone (next_at old) (next_at new) list account (aimed old new account None moves) h) c.aim-in-Gone.ensures.ok)
+    subst (λ (change : ListChange). OnOk c.aim-in-Gone.result ((list : List Ranked) → Follows (next_at old) list
+    → Follows (next_at new) (listed list change))) (sym c.in-Gone.is)
+    (on_ok c.aim-in-Gone.result (λ moves list h. gone (next_at old) (next_at new) list account
+    (aimed old new account None moves) h) c.aim-in-Gone.ensures.ok)

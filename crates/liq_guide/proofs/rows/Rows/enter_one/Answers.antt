@@ -27,9 +27,12 @@ returns-in-Some-clause-holds c h =
     let f : Ranked = (place, c.args.account) in
     let fits : SFits w128 place = search rules in
     let ok = simp to_z-of_z at c.insert.ensures.entered in
-    let will : is_key (next_at stands c.args.account) place ≡ true = ap (λ (o : Option ℤ). is_key o place) (next_is c) ∙ ap is_eq (tied_itself int_cmp_total place) in
-    either (Holds (key_at stands) (next_at stands)) c.insert.result places (with_entry places f) c.insert.new.self ok c.insert.ensures.err h
-    (holding.entered (key_at stands) (next_at stands) places (with_entry places f) f (entered_ascending places f h.ascending) (λ e. entered_is_in places f e) will h)
+    let will : is_key (next_at stands c.args.account) place ≡ true = ap (λ (o : Option ℤ). is_key o place) (next_is c)
+    ∙ ap is_eq (tied_itself int_cmp_total place) in
+    either (Holds (key_at stands) (next_at stands)) c.insert.result places (with_entry places f) c.insert.new.self ok
+    c.insert.ensures.err h
+    (holding.entered (key_at stands) (next_at stands) places (with_entry places f) f
+    (entered_ascending places f h.ascending) (λ e. entered_is_in places f e) will h)
 
 pub returns-in-Some-clause-kept : goal.returns-in-Some-clause-kept
 returns-in-Some-clause-kept c e there =
@@ -37,7 +40,8 @@ returns-in-Some-clause-kept c e there =
     let f : Ranked = (c.in-Some.place, c.args.account) in
     let fits : SFits w128 c.in-Some.place = search rules in
     let ok = simp to_z-of_z at c.insert.ensures.entered in
-    either (λ (l : List Ranked). is_in l e ≡ true) c.insert.result places (with_entry places f) c.insert.new.self ok c.insert.ensures.err there
+    either (λ (l : List Ranked). is_in l e ≡ true) c.insert.result places (with_entry places f) c.insert.new.self ok
+    c.insert.ensures.err there
     (entered_is_in places f e ∙ by (is_eq (rank_order f e))) where
       by : (b : Bool) → cond b true (is_in c.args.self.now.places e) ≡ true
       by true = refl
@@ -50,5 +54,8 @@ returns-in-Some-clause-entered c h =
     let fits : SFits w128 c.in-Some.place = search rules in
     let ok = simp to_z-of_z at c.insert.ensures.entered in
     on_ok c.insert.result
-    (λ (is : c.insert.new.self ≡ with_entry places f) (e : Ranked) own its. ap (λ (l : List Ranked). is_in l e) is ∙ entered_is_in places f e ∙ ap (λ o. cond (is_eq o) true (is_in places e)) (ap (λ (g : Ranked). rank_order g e) (own_entry (next_at c.args.self.now.stands) c.in-Some.place c.args.account e (next_is c) own its) ∙ tied_itself rank_total e))
+    (λ (is : c.insert.new.self ≡ with_entry places f) (e : Ranked) own its. ap (λ (l : List Ranked). is_in l e) is
+    ∙ entered_is_in places f e ∙ ap (λ o. cond (is_eq o) true (is_in places e)) (ap (λ (g : Ranked). rank_order g e)
+    (own_entry (next_at c.args.self.now.stands) c.in-Some.place c.args.account e (next_is c) own its)
+    ∙ tied_itself rank_total e))
     ok

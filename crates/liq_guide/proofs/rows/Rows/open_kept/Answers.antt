@@ -13,7 +13,8 @@ use Rattle.liq_guide.proofs.rows.Rows.open_kept.Goals as goal
 use mir.Syntax.{w128}
 use mir.Val.{SFits}
 
-none : (stands : Parts) (account : ℕ) (stand : Stand) (b : Bool) → stand ≡ stand_of stands account → b ≡ is_some stand.key → b ≡ false → key_at stands account ≡ None
+none : (stands : Parts) (account : ℕ) (stand : Stand) (b : Bool) → stand ≡ stand_of stands account
+    → b ≡ is_some stand.key → b ≡ false → key_at stands account ≡ None
 none stands account stand b is has not = ap (λ (s : Stand). s.key) (sym is) ∙ by stand.key (sym has ∙ not) where
   by : (o : Option ℤ) → is_some o ≡ false → o ≡ None
   by None h = refl
@@ -28,8 +29,11 @@ returns-in-Err-open-clause-err c h =
     let fits : SFits w128 key = search rules in
     let entered = simp to_z-of_z at c.in_default.ensures.entered in
     let left = simp to_z-of_z at c.remove.ensures.left in
-    let out = none old account c.stand.result c.is_some.result c.stand.ensures c.is_some.ensures c.if-is_some.false in
-    (left ∙ ap (λ (l : List Ranked). without_entry l (key, account)) entered ∙ left_again (key_at old) list account key out h, c.in-Err-open.ensures.err)
+    let out = none old account c.stand.result c.is_some.result c.stand.ensures c.is_some.ensures c.if-is_some.false in (
+      left ∙ ap (λ (l : List Ranked). without_entry l (key, account)) entered
+          ∙ left_again (key_at old) list account key out h,
+      c.in-Err-open.ensures.err,
+    )
 
 pub returns-clause-followed : goal.returns-clause-followed
 returns-clause-followed c h =
@@ -42,6 +46,12 @@ returns-clause-followed c h =
     let entered = simp to_z-of_z at c.in_default.ensures.entered in
     let out = none old account c.stand.result c.is_some.result c.stand.ensures c.is_some.ensures c.if-is_some.false in
     let same : c.in_ok-kept.kept.key ≡ key = c.in_ok-kept.ensures.same ∙ to_z-of_z w128 key fits in
-    let moves : (a : ℕ) → stand_of new a ≡ moved (stand_of old) account (settled_at (Some key)) a = subst (λ (z : ℤ). (a : ℕ) → stand_of new a ≡ moved (stand_of old) account (settled_at (Some z)) a) same c.in_default-open.ensures.ok in
-    let entries : c.insert.new.self ≡ with_ranked (without_ranked list account) (key, account) = entered ∙ opened (key_at old) list account key out h in
-    (subst (Follows (key_at new)) (sym entries) (put (key_at old) (key_at new) list account key (sent old new account (Some key) moves) h), entries)
+    let moves : (a : ℕ) → stand_of new a ≡ moved (stand_of old) account (settled_at (Some key)) a =
+    subst (λ (z : ℤ). (a : ℕ) → stand_of new a ≡ moved (stand_of old) account (settled_at (Some z)) a) same
+    c.in_default-open.ensures.ok in
+    let entries : c.insert.new.self ≡ with_ranked (without_ranked list account) (key, account) = entered
+    ∙ opened (key_at old) list account key out h in (
+      subst (Follows (key_at new)) (sym entries) (put (key_at old) (key_at new) list account key (sent old new account
+          (Some key) moves) h),
+      entries,
+    )

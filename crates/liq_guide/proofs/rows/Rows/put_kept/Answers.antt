@@ -26,9 +26,14 @@ returns-clause-followed c h =
     let to : SFits w64 kept = search rules in
     let moved_entry = simp to_z-of_z at c.in_default-replace.ensures.replaced in
     let same : kept ≡ key = c.in-Some-Some.ensures'.same ∙ to_z-of_z w128 key wide in
-    let moves : (a : ℕ) → stand_of new a ≡ moved (stand_of old) account (settled_at (Some key)) a = subst (λ (z : ℤ). (a : ℕ) → stand_of new a ≡ moved (stand_of old) account (settled_at (Some z)) a) same c.keep.ensures.moved in
+    let moves : (a : ℕ) → stand_of new a ≡ moved (stand_of old) account (settled_at (Some key)) a =
+    subst (λ (z : ℤ). (a : ℕ) → stand_of new a ≡ moved (stand_of old) account (settled_at (Some z)) a) same
+    c.keep.ensures.moved in
     let stands : stand_of old account ≡ settled_at (Some stood) = c.in-Some-Some.ensures.key in
     let entries : c.replace.new.self ≡ with_ranked (without_ranked list account) (key, account) = moved_entry
     ∙ ap (λ (z : ℤ). with_entry (without_entry list (stood, account)) (z, account)) same
-    ∙ shifted (key_at old) list account stood (ap (λ (s : Stand). s.key) stands) h key in
-    (subst (Follows (key_at new)) (sym entries) (put (key_at old) (key_at new) list account key (sent old new account (Some key) moves) h), entries)
+    ∙ shifted (key_at old) list account stood (ap (λ (s : Stand). s.key) stands) h key in (
+      subst (Follows (key_at new)) (sym entries) (put (key_at old) (key_at new) list account key (sent old new account
+          (Some key) moves) h),
+      entries,
+    )

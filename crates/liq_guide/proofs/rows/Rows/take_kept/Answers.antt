@@ -25,5 +25,8 @@ returns-clause-followed c h =
     let entries : c.remove.new.self ≡ without_ranked list account =
     left
     ∙ ap (λ (z : ℤ). without_entry list (z, account)) key
-    ∙ left_account (key_at old) list account stood (ap (λ (s : Stand). s.key) stands) h in
-    (subst (Follows (key_at new)) (sym entries) (gone (key_at old) (key_at new) list account (sent old new account None c.leave.ensures) h), entries)
+    ∙ left_account (key_at old) list account stood (ap (λ (s : Stand). s.key) stands) h in (
+      subst (Follows (key_at new)) (sym entries) (gone (key_at old) (key_at new) list account
+          (sent old new account None c.leave.ensures) h),
+      entries,
+    )

@@ -20,13 +20,15 @@ pub returns-in-Ok-clause-counted : goal.returns-in-Ok-clause-counted
 returns-in-Ok-clause-counted g c stays =
     let s = state_of c.args.self.now in
     let stands = subst (λ (p : Core). StandsFor p (state_of p)) c.self.view_is c.protocols_stand.ensures in
-    counts_on c.args.self.now c.apply.new.self s c.args.command.now stays stands (returns-in-Ok-clause-redone g c s stands).1
+    counts_on c.args.self.now c.apply.new.self s c.args.command.now stays stands
+    (returns-in-Ok-clause-redone g c s stands).1
 
 pub returns-in-Ok-clause-generation : goal.returns-in-Ok-clause-generation
 returns-in-Ok-clause-generation g c stays =
     let s = state_of c.args.self.now in
     let stands = subst (λ (p : Core). StandsFor p (state_of p)) c.self.view_is c.protocols_stand.ensures in
-    generation_stays c.args.self.now c.apply.new.self s c.args.command.now stays stands (returns-in-Ok-clause-redone g c s stands).1
+    generation_stays c.args.self.now c.apply.new.self s c.args.command.now stays stands
+    (returns-in-Ok-clause-redone g c s stands).1
 
 pub returns-in-Err-clause-redone : goal.returns-in-Err-clause-redone
 returns-in-Err-clause-redone g c s h =

@@ -6,4 +6,11 @@ use Rattle.liq_journal.proofs.journal.Journal.command.Goals as goal
 pub returns-clause-accepted : goal.returns-clause-accepted
 returns-clause-accepted g c =
     subst (λ (j : JournalOn g.row.D.Denot). Records g.D.Disk.at j c.args.index c.read_command.result) c.self.view_is
-    (records_so g.D.Disk.at (record { disk = c.self.inside.disk; generation = c.self.inside.generation; limit = c.self.inside.limit; start = c.self.inside.start; count = c.self.inside.count }) c.args.index c.read_command.result c.requires.from_one c.read_command.ensures.told)
+    (records_so g.D.Disk.at (record {
+      disk = c.self.inside.disk;
+      generation = c.self.inside.generation;
+      limit = c.self.inside.limit;
+      start = c.self.inside.start;
+      count = c.self.inside.count;
+    }) c.args.index
+    c.read_command.result c.requires.from_one c.read_command.ensures.told)

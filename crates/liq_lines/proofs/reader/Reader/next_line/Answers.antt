@@ -12,6 +12,7 @@ returns-then-take_line-clause-few g c =
 pub returns-clause-few : goal.returns-clause-few
 returns-clause-few g c =
     let at = g.S.Source.at in
-    subst (λ (held : List ℕ). ReadsAtMost (LINE_BYTES + 1) (unread held (at c.args.input.now).left) (unread c.read_line.new.self (at c.read_line.new.input).left))
+    subst (λ (held : List ℕ). ReadsAtMost (LINE_BYTES + 1) (unread held (at c.args.input.now).left)
+    (unread c.read_line.new.self (at c.read_line.new.input).left))
     (c.take_line.ensures.left c.if-take_line.false)
     (line_few _ _ _ _ _ c.read_line.ensures.line c.read_line.ensures.short)

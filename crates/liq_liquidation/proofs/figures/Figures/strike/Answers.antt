@@ -5,13 +5,16 @@ use Rattle.liq_liquidation.specs.Given.{IsStruckOf}
 use Rattle.liq_liquidation.proofs.Planned.{IsPlanned, planned}
 use Rattle.liq_liquidation.proofs.figures.Figures.strike.Goals as goal
 
-made : (c : goal.After-one-2-1) → IsPlanned c.args.self.now.market c.args.self.now.sums c.in-Some-get.trove.now c.args.self.now.pool_total c.in_ok-one.one
+made : (c : goal.After-one-2-1) → IsPlanned c.args.self.now.market c.args.self.now.sums c.in-Some-get.trove.now
+    c.args.self.now.pool_total c.in_ok-one.one
 made c =
-    planned c.args.self.now.market c.args.self.now.sums c.in-Some-get.trove.now c.args.self.now.pool_total c.in_ok-one.one (sym c.plan_one.ensures ∙ c.in_ok-one.was)
+    planned c.args.self.now.market c.args.self.now.sums c.in-Some-get.trove.now c.args.self.now.pool_total
+    c.in_ok-one.one (sym c.plan_one.ensures ∙ c.in_ok-one.was)
 
 own : (c : goal.After-one-2-1) → IsStruckOf c.args.self.now c.in-Some-get.trove.now
 own c =
-    subst (λ (o : Option Trove). IfSome o (IsStruckOf c.args.self.now)) (sym c.in-Some-get.ensures.row) (c.requires.trove c.in-Some.account c.in-Some.is)
+    subst (λ (o : Option Trove). IfSome o (IsStruckOf c.args.self.now)) (sym c.in-Some-get.ensures.row)
+    (c.requires.trove c.in-Some.account c.in-Some.is)
 
 pub pass-requires-clause-stake : goal.pass-requires-clause-stake
 pass-requires-clause-stake c = (own c).trove.others (made c).several

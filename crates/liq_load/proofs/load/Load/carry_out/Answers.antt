@@ -12,7 +12,9 @@ returns-in_ok-reserve-in-Ok-New-clause-done g c s h =
     let n = c.args.self.now.counts in
     let after = stands_after c.args.self.now.protocol c.reserve.new.self s c.reserve.ensures.same h in
     let planned = (rw c.in-Ok-New.field-0-is at c.in-Ok-New.ensures) s h in
-    next_carries s c.args.call c.in-Ok-New.planned.command c.next_number.result c.apply.new.self c.events.result.now n _ planned.0 (c.next_number.ensures s h) planned.1.allowed (c.events.ensures ∙ planned.1.events) (c.apply.ensures.state s after)
+    next_carries s c.args.call c.in-Ok-New.planned.command c.next_number.result c.apply.new.self c.events.result.now n _
+    planned.0 (c.next_number.ensures s h) planned.1.allowed (c.events.ensures
+    ∙ planned.1.events) (c.apply.ensures.state s after)
     (ap (λ o. record { accepted = n.accepted + 1; refused = n.refused; offsets = n.offsets + o }) c.offsets.ensures)
 
 pub returns-in_ok-reserve-in-Ok-New-clause-few : goal.returns-in_ok-reserve-in-Ok-New-clause-few
@@ -29,17 +31,23 @@ returns-in_ok-reserve-in-Ok-New-clause-numbered g c =
     let after = stands_after c.args.self.now.protocol c.reserve.new.self s c.reserve.ensures.same h in
     let planned = (rw c.in-Ok-New.field-0-is at c.in-Ok-New.ensures) s h in
     let n = c.args.self.now.counts in
-    let number_is = c.next_number.ensures s h ∙ sym (next_is c.args.self.now.protocol n s c.requires.few c.requires.numbered h) in
-    numbered_more s c.args.call c.in-Ok-New.planned.command c.next_number.result c.apply.new.self n (record { accepted = n.accepted + 1; refused = n.refused; offsets = n.offsets + c.offsets.result }) planned.0 number_is planned.1.allowed (c.apply.ensures.state s after) refl
+    let number_is = c.next_number.ensures s h
+    ∙ sym (next_is c.args.self.now.protocol n s c.requires.few c.requires.numbered h) in
+    numbered_more s c.args.call c.in-Ok-New.planned.command c.next_number.result c.apply.new.self n
+    (record { accepted = n.accepted + 1; refused = n.refused; offsets = n.offsets + c.offsets.result }) planned.0
+    number_is planned.1.allowed (c.apply.ensures.state s after) refl
 
 pub returns-in-Ok-Again-clause-done : goal.returns-in-Ok-Again-clause-done
 returns-in-Ok-Again-clause-done g c s h =
     let k : Command = record { client = 1; number = next_number s 1; call = c.args.call } in
     let kept = c.in-Ok-Again.field-0-0 in
     let ruled : ruling s k ≡ Repeated kept =
-    subst (λ n. ruling s (record { client = 1; number = n; call = c.args.call }) ≡ Repeated kept) (c.next_number.ensures s h)
-    ((rw c.in-Ok-Again.field-0-is at c.in-Ok-Again.ensures) s h) in
-    (subst (λ (r : Ruling). StandsFor c.args.self.now.protocol (after_ruling s k r).0) (sym ruled) h, repeated_adds s k kept c.args.self.now.counts ruled)
+    subst (λ n. ruling s (record { client = 1; number = n; call = c.args.call }) ≡ Repeated kept)
+    (c.next_number.ensures s h)
+    ((rw c.in-Ok-Again.field-0-is at c.in-Ok-Again.ensures) s h) in (
+      subst (λ (r : Ruling). StandsFor c.args.self.now.protocol (after_ruling s k r).0) (sym ruled) h,
+      repeated_adds s k kept c.args.self.now.counts ruled,
+    )
 
 pub returns-in-Err-No-clause-done : goal.returns-in-Err-No-clause-done
 returns-in-Err-No-clause-done g c s h =
@@ -47,6 +55,9 @@ returns-in-Err-No-clause-done g c s h =
     let refusal = c.in-Err-No.field-0-0 in
     let n = c.args.self.now.counts in
     let ruled : ruling s k ≡ Refused refusal =
-    subst (λ n. ruling s (record { client = 1; number = n; call = c.args.call }) ≡ Refused refusal) (c.next_number.ensures s h)
-    ((rw c.in-Err-No.field-0-is at c.in-Err-No.ensures) s h) in
-    (subst (λ (r : Ruling). StandsFor c.args.self.now.protocol (after_ruling s k r).0) (sym ruled) h, refused_adds s k refusal n (record n { refused = n.refused + 1 }) ruled refl)
+    subst (λ n. ruling s (record { client = 1; number = n; call = c.args.call }) ≡ Refused refusal)
+    (c.next_number.ensures s h)
+    ((rw c.in-Err-No.field-0-is at c.in-Err-No.ensures) s h) in (
+      subst (λ (r : Ruling). StandsFor c.args.self.now.protocol (after_ruling s k r).0) (sym ruled) h,
+      refused_adds s k refusal n (record n { refused = n.refused + 1 }) ruled refl,
+    )

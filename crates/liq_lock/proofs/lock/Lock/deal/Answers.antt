@@ -20,7 +20,8 @@ split_seat-next-requires g c =
       c.loop.invariant.0,
       omega arith,
       splits g.T.Chronicle.history g.T.Chronicle.maker c.args.self.now.table.shared.key seat.id seat.me.0
-          (ap (λ (m : Me (Option g.row.T.Denot) (View g.row.T-Item.Denot)). m.0.splitting) is ∙ lt-ltb 1 (n + 2 - (k + 1)) more)
+          (ap (λ (m : Me (Option g.row.T.Denot) (View g.row.T-Item.Denot)). m.0.splitting) is
+          ∙ lt-ltb 1 (n + 2 - (k + 1)) more)
           (ap (λ (m : Me (Option g.row.T.Denot) (View g.row.T-Item.Denot)). m.0.ticket) is)
           (ap (λ (m : Me (Option g.row.T.Denot) (View g.row.T-Item.Denot)). m.0.inside) is),
     )
@@ -32,13 +33,16 @@ loop-preserved g c =
     let k : ℕ = c.loop.counter in
     let split = c.split_seat-next.ensures in
     let own = split.3 ∙ c.loop.invariant.0 in
-    let number = ap (λ (m : Me (Option g.row.T.Denot) (View g.row.T-Item.Denot)). m.0.number) split.4 ∙ ap (λ (m : Me (Option g.row.T.Denot) (View g.row.T-Item.Denot)). m.0.next) is in
+    let number = ap (λ (m : Me (Option g.row.T.Denot) (View g.row.T-Item.Denot)). m.0.number) split.4
+    ∙ ap (λ (m : Me (Option g.row.T.Denot) (View g.row.T-Item.Denot)). m.0.next) is in
     let count = c.loop.invariant.2 in (
       split.0 ∙ c.loop.invariant.0,
-      split.2 ∙ ap (λ (m : Me (Option g.row.T.Denot) (View g.row.T-Item.Denot)). (keeping m.0, m.1)) is ∙ ap (λ (v : View g.row.T-Item.Denot). (v, [])) (keeping_on (k + 1) n),
+      split.2 ∙ ap (λ (m : Me (Option g.row.T.Denot) (View g.row.T-Item.Denot)). (keeping m.0, m.1)) is
+          ∙ ap (λ (v : View g.row.T-Item.Denot). (v, [])) (keeping_on (k + 1) n),
       search rules,
       subst (Later (lock_id c.args.self.now)) (sym c.push_reserved.ensures.items)
-          (later_push (lock_id c.args.self.now) c.loop.seats.items c.seated.result (k + 1) c.loop.invariant.3 (omega arith)
+          (later_push (lock_id c.args.self.now) c.loop.seats.items c.seated.result (k + 1) c.loop.invariant.3
+          (omega arith)
           (subst (λ (z : TableId × ℕ). IsFresh z.0 z.1 c.seated.result) (λ i. (own i, number i)) c.seated.ensures)),
       search rules,
     )
@@ -46,10 +50,14 @@ loop-preserved g c =
 pub seated-requires : goal.seated-requires
 seated-requires g c =
     is_newcomer c.split_seat-next.result.me (c.loop.counter + 1) 0
-    (c.split_seat-next.ensures.4 ∙ ap (λ (m : Me (Option g.row.T.Denot) (View g.row.T-Item.Denot)). (dealt m.0, [])) c.loop.invariant.1)
+    (c.split_seat-next.ensures.4 ∙ ap (λ (m : Me (Option g.row.T.Denot) (View g.row.T-Item.Denot)). (
+      dealt m.0,
+      [],
+    )) c.loop.invariant.1)
 
 pub seated-requires-2 : goal.seated-requires-2
 seated-requires-2 g c =
     let all : c.loop.counter ≡ c.args.self.now.seats = omega arith in
     is_newcomer c.loop.first.me 1 (c.loop.counter + 1)
-    (c.loop.invariant.1 ∙ ap (λ (v : View g.row.T-Item.Denot). (v, [])) (last_dealt c.loop.counter c.args.self.now.seats all))
+    (c.loop.invariant.1 ∙ ap (λ (v : View g.row.T-Item.Denot). (v, []))
+    (last_dealt c.loop.counter c.args.self.now.seats all))

@@ -7,4 +7,5 @@ use Rattle.liq_lock.proofs.lock.Lock.deal.Given as goal
 abbrev pub invariant-loop : goal.invariant-loop
 invariant-loop g l =
     (l.first.table_id ≡ lock_id l.self) × (l.first.me ≡ (dealer (l.counter + 1) (lock_seats l.self), []))
-    × (length l.seats.items + 1 ≡ l.counter) × Later (lock_id l.self) l.seats.items × (lock_seats l.self ≤ vec_capacity l.seats)
+    × (length l.seats.items + 1 ≡ l.counter) × Later (lock_id l.self) l.seats.items
+    × (lock_seats l.self ≤ vec_capacity l.seats)

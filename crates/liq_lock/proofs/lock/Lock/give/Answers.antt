@@ -49,9 +49,12 @@ fetch_add-requires g c =
       c.exchange.ensures.0 ∙ c.requires.own,
       omega arith,
       subst (λ (m : Me (Option g.row.T.Denot) (View g.row.T-Item.Denot)).
-          Allows (Ruled history maker key) slots id m 2 (λ n. (n + k) % 2 ^ 64) (Counts history (step slots 2 k 0 none) m))
-          (sym (put c.exchange.new.seat.me c.args.held.seat.me c.args.value c.exchange.ensures.3 c.args.held.empty_hand))
-          (counts history maker key slots id v c.args.value k turn.inside turn.alive c.requires.grows (omega arith) (omega arith)),
+          Allows (Ruled history maker key) slots id m 2 (λ n. (n + k) % 2 ^ 64)
+          (Counts history (step slots 2 k 0 none) m))
+          (sym (put c.exchange.new.seat.me c.args.held.seat.me c.args.value c.exchange.ensures.3
+          c.args.held.empty_hand))
+          (counts history maker key slots id v c.args.value k turn.inside turn.alive c.requires.grows (omega arith)
+          (omega arith)),
     )
 
 pub leave-requires-clause-turn : goal.leave-requires-clause-turn

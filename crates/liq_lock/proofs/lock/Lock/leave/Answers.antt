@@ -17,6 +17,9 @@ fetch_add-served-requires g c =
     let turn = c.requires.turn in (
       c.requires.own,
       omega arith,
-      subst (λ (l : List (ℕ × Option g.row.T.Denot)). Allows (Ruled history maker key) slots seat.id (seat.me.0, l) 1 (λ n. (n + 1) % 2 ^ 64) (Leaves (step slots 1 1 0 none) (seat.me.0, l))) (sym turn.value.1)
+      subst (λ (l : List (ℕ × Option g.row.T.Denot)). Allows (Ruled history maker key) slots seat.id (
+        seat.me.0,
+        l,
+      ) 1 (λ n. (n + 1) % 2 ^ 64) (Leaves (step slots 1 1 0 none) (seat.me.0, l))) (sym turn.value.1)
           (leaves history maker key slots seat.id seat.me.0 turn.value.0 turn.inside turn.alive turn.value.2),
     )

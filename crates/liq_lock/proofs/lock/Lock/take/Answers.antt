@@ -20,7 +20,10 @@ pub returns-clause-behind : goal.returns-clause-behind
 returns-clause-behind g c =
     let e = c.wait_for.ensures.enters in
     let held = ap (λ (m : Me (Option g.row.T.Denot) (View g.row.T-Item.Denot)). m.1) e.1 in
-    let is = Some_is e.0 c.in-Some.value (sym (ap held_first held) ∙ ap held_first c.exchange.ensures.2 ∙ c.in-Some.is) in
+    let is = Some_is e.0 c.in-Some.value (sym (ap held_first held) ∙ ap held_first c.exchange.ensures.2
+    ∙ c.in-Some.is) in
     let was = ap (λ (m : Me (Option g.row.T.Denot) (View g.row.T-Item.Denot)). m.0) c.draw-seat.ensures.drew.1 in
-    subst (λ (x : g.row.T.Denot). Behind g.T.Chronicle.maker (g.T.Chronicle.history x) (stands_of c.args.seat) (seen_of c.args.seat)) is
-    (subst (λ (v : View g.row.T-Item.Denot). Behind g.T.Chronicle.maker (g.T.Chronicle.history e.0) v.stands v.seen) was e.2)
+    subst (λ (x : g.row.T.Denot). Behind g.T.Chronicle.maker (g.T.Chronicle.history x) (stands_of c.args.seat)
+    (seen_of c.args.seat)) is
+    (subst (λ (v : View g.row.T-Item.Denot). Behind g.T.Chronicle.maker (g.T.Chronicle.history e.0) v.stands v.seen)
+    was e.2)

@@ -17,4 +17,5 @@ returns-in-Ok-clause-place g c =
     ∙ sym (found_at now.rows c.in-Ok.ensures.kept.strict c.args.account c.in-Ok.at c.in-Ok.ensures.found)
 
 pub returns-in-Err-clause-place : goal.returns-in-Err-clause-place
-returns-in-Err-clause-place g c = sym (ap place_unless_marked (row_gap c.args.self.now.rows c.args.account c.in-Err.field-0 c.in-Err.ensures.absent))
+returns-in-Err-clause-place g c =
+    sym (ap place_unless_marked (row_gap c.args.self.now.rows c.args.account c.in-Err.field-0 c.in-Err.ensures.absent))

@@ -7,9 +7,11 @@ use Rattle.liq_order.proofs.Rows.{nowhere, row_gap}
 use Rattle.liq_order.proofs.accounts.Accounts.take.Goals as goal
 
 pub unreachable-requires : goal.unreachable-requires
-unreachable-requires g c = clash (ap place_unless_marked (row_gap c.args.self.now.rows c.args.account c.in-Err.field-0 c.in-Err.ensures.absent)) c.requires where
-  clash : {o : Option NodeNo} → o ≡ None → IsSome o → ⊥
-  clash e s = cc
+unreachable-requires g c =
+    clash (ap place_unless_marked (row_gap c.args.self.now.rows c.args.account c.in-Err.field-0
+    c.in-Err.ensures.absent)) c.requires where
+      clash : {o : Option NodeNo} → o ≡ None → IsSome o → ⊥
+      clash e s = cc
 
 pub returns-clause-place : goal.returns-clause-place
 returns-clause-place g c =

@@ -5,10 +5,12 @@ use Rattle.liq_order.proofs.linked.Nodes.at.Goals as goal
 
 pub returns-clause-there : goal.returns-clause-there
 returns-clause-there g c =
-    let place = c.find.ensures.place ∙ c.self.invariant.0.told c.args.id ∙ ap (λ (r : Ring). node_of (memory r.nodes) r.order c.args.id) c.self.view_is in
+    let place = c.find.ensures.place ∙ c.self.invariant.0.told c.args.id
+    ∙ ap (λ (r : Ring). node_of (memory r.nodes) r.order c.args.id) c.self.view_is in
     at_there c.args.self.now c.args.id c.find.result place
 
 pub returns-clause-none : goal.returns-clause-none
 returns-clause-none g c =
-    let place = c.find.ensures.place ∙ c.self.invariant.0.told c.args.id ∙ ap (λ (r : Ring). node_of (memory r.nodes) r.order c.args.id) c.self.view_is in
+    let place = c.find.ensures.place ∙ c.self.invariant.0.told c.args.id
+    ∙ ap (λ (r : Ring). node_of (memory r.nodes) r.order c.args.id) c.self.view_is in
     at_none c.args.self.now c.args.id c.find.result place

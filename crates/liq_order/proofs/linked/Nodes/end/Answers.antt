@@ -10,7 +10,8 @@ returns-in_err-last g c =
     let ring = c.args.self.now in
     let last = c.self.invariant.0.last_is ∙ ap (λ (r : Ring). last_or None r.order) c.self.view_is in
     c.from_residual.ensures
-    ∙ sym (last_of (memory ring.nodes) ring.order ∙ ap (λ o. option_map (λ q. (memory ring.nodes q).account) o) (sym last ∙ sym c.last.ensures ∙ c.in_err-last.was))
+    ∙ sym (last_of (memory ring.nodes) ring.order ∙ ap (λ o. option_map (λ q. (memory ring.nodes q).account) o)
+    (sym last ∙ sym c.last.ensures ∙ c.in_err-last.was))
 
 pub read-requires : goal.read-requires
 read-requires g c =
@@ -22,4 +23,5 @@ returns g c =
     let ring = c.args.self.now in
     let last = c.self.invariant.0.last_is ∙ ap (λ (r : Ring). last_or None r.order) c.self.view_is in
     ap (λ (n : Node). Some n.account) c.read.ensures.node
-    ∙ sym (last_of (memory ring.nodes) ring.order ∙ ap (λ o. option_map (λ q. (memory ring.nodes q).account) o) (sym last ∙ sym c.last.ensures ∙ c.in_ok-last.was))
+    ∙ sym (last_of (memory ring.nodes) ring.order ∙ ap (λ o. option_map (λ q. (memory ring.nodes q).account) o)
+    (sym last ∙ sym c.last.ensures ∙ c.in_ok-last.was))

@@ -16,6 +16,7 @@ returns-clause-tight g c t =
     let ring = c.args.self.now in
     let k = tight_gap ring c.args.entry c.args.hint.now.prev c.args.hint.now.next t in
     let here = one (c.in_ok-gap.ensures.tight k.front k.back k.whole k.prev_is k.above) in
-    c.ending.ensures.tight (k.next_is ∙ ap (λ (p : Gap). account_of_place ring p.next) (sym here)) (subst (λ (p : Gap). IsAhead ring c.args.entry p) (sym here) k.ahead) where
+    c.ending.ensures.tight (k.next_is ∙ ap (λ (p : Gap). account_of_place ring p.next) (sym here))
+    (subst (λ (p : Gap). IsAhead ring c.args.entry p) (sym here) k.ahead) where
       one : {p q : Gap} → Some p ≡ Some q → p ≡ q
       one e = cc

@@ -11,7 +11,8 @@ invariant_of-result c =
     let accounts = c.in_ok-of-2 in
     let nodes = cells.nodes.items in
     let place = place_of accounts.field-0 in
-    let all = chain c.args.entries.now nodes place cells.first cells.last c.requires.ascending c.requires.distinct made.nodes accounts.ensures made.first made.last in (
+    let all = chain c.args.entries.now nodes place cells.first cells.last c.requires.ascending c.requires.distinct
+    made.nodes accounts.ensures made.first made.last in (
       subst (λ l. IsRing nodes (come nodes cells.first) l place cells.first cells.last) (sym made.free) all.ring,
       record {
         used = omega (arith, all.nodes_long);
@@ -26,4 +27,5 @@ pub returns : goal.returns
 returns c =
     let cells = c.in_ok-of.field-0 in
     let made = c.in_ok-of.ensures in
-    (chain c.args.entries.now cells.nodes.items (place_of c.in_ok-of-2.field-0) cells.first cells.last c.requires.ascending c.requires.distinct made.nodes c.in_ok-of-2.ensures made.first made.last).listed
+    (chain c.args.entries.now cells.nodes.items (place_of c.in_ok-of-2.field-0) cells.first cells.last
+    c.requires.ascending c.requires.distinct made.nodes c.in_ok-of-2.ensures made.first made.last).listed

@@ -10,7 +10,8 @@ look-requires g c =
     let nodes = cells.nodes.items in
     let order = come nodes cells.first in
     let inside = all_front (λ (q : NodeNo). q.0 < length nodes) order cells.free.items c.self.invariant.0.within in
-    in_within (length nodes) c.args.at order inside (subst (λ (r : Ring). IsIn c.args.at r.order) (sym c.self.view_is) c.requires)
+    in_within (length nodes) c.args.at order inside (subst (λ (r : Ring). IsIn c.args.at r.order) (sym c.self.view_is)
+    c.requires)
 
 pub returns-clause-node : goal.returns-clause-node
 returns-clause-node g c = c.look.ensures.node ∙ ap (λ (r : Ring). memory r.nodes c.args.at) c.self.view_is

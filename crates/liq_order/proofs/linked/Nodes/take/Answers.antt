@@ -60,7 +60,8 @@ unlink-requires-clause-behind g c =
     (beside c.self.inside c.self.invariant.0 c.args.id c.take-at.result c.take-at.ensures.place).1
 
 whole : (g : given.Over) (c : goal.After-unlink g) → let new = c.unlink.new.self in
-    Out (ring_of c.self.inside) c.args.id new.nodes.items new.free.items (place_of c.take-at.new.self) new.first new.last
+    Out (ring_of c.self.inside) c.args.id new.nodes.items new.free.items (place_of c.take-at.new.self) new.first
+    new.last
 whole g c =
     let i = c.self.inside in
     let r = c.self.invariant.0 in

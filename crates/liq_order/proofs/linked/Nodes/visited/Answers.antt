@@ -6,4 +6,5 @@ use Rattle.liq_order.proofs.linked.Nodes.visited.Goals as goal
 pub returns-clause-all : goal.returns-clause-all
 returns-clause-all c =
     let ring = c.args.self.now in
-    visits ring [] ring.order None refl (subst (λ (r : Ring). Linked (memory r.nodes) None r.order None) c.self.view_is c.self.invariant.0.linked)
+    visits ring [] ring.order None refl (subst (λ (r : Ring). Linked (memory r.nodes) None r.order None) c.self.view_is
+    c.self.invariant.0.linked)

@@ -8,7 +8,13 @@ abbrev reading : List ℕ → ℕ → ℕ → Calls → SourceInMemory
 reading bytes taken chunk calls = record { left = drop taken bytes; chunk = chunk; calls = calls }
 
 pub returns-clause-taken : goal.returns-clause-taken
-returns-clause-taken c = subst (λ (old : SourceInMemory). c.read_part-count.result ≡ count_taken old (length c.args.buf.now)) c.self.view_is (omega (arith, c.read_part-count.ensures.count, ap length c.deref.ensures.value, length-drop {A = ℕ}))
+returns-clause-taken c = subst (λ (old : SourceInMemory). c.read_part-count.result
+    ≡ count_taken old (length c.args.buf.now)) c.self.view_is (omega (
+      arith,
+      c.read_part-count.ensures.count,
+      ap length c.deref.ensures.value,
+      length-drop {A = ℕ},
+    ))
 
 pub returns-clause-read : goal.returns-clause-read
 returns-clause-read c =
@@ -25,4 +31,12 @@ pub returns-clause-end : goal.returns-clause-end
 returns-clause-end c = λ is some.
     let none : c.read_part-count.result ≡ 0 = cc in
     let left = drop c.self.inside.taken c.self.inside.bytes.items in
-    subst (λ (old : SourceInMemory). old.left ≡ []) c.self.view_is (nil_from_length left (omega (arith, some, none, c.self.invariant.1, c.read_part-count.ensures.count, ap length c.deref.ensures.value, length-drop {A = ℕ})))
+    subst (λ (old : SourceInMemory). old.left ≡ []) c.self.view_is (nil_from_length left (omega (
+      arith,
+      some,
+      none,
+      c.self.invariant.1,
+      c.read_part-count.ensures.count,
+      ap length c.deref.ensures.value,
+      length-drop {A = ℕ},
+    )))

@@ -8,61 +8,138 @@ use Rattle.liq_outside.proofs.memory_disk.MemoryDiskDisk.write_at.Goals as goal
 
 pub returns-then-begin-clause-crash : goal.returns-then-begin-clause-crash
 returns-then-begin-clause-crash c =
-    let new : Roomy = (noting c.self.inside.bytes.items c.note_try.new.made.items c.fault.new.self (vec_capacity c.note_try.new.made)) in
-    subst (λ (old : Roomy). Follows (Torn c.args.place (length c.args.bytes.now)) (LeftNow disk_at old) (LeftNow disk_at new)) c.self.view_is (failed_follows (noting c.self.inside.bytes.items c.self.inside.made.items c.self.inside.schedule (vec_capacity c.self.inside.made)) new c.args.place c.args.bytes.now (noted c.self.inside.bytes.items c.self.inside.bytes.items c.self.inside.made.items c.note_try.new.made.items c.self.inside.schedule c.fault.new.self (vec_capacity c.self.inside.made) (vec_capacity c.note_try.new.made) c.args.place c.args.bytes.now c.note_try.ensures (c.fault.ensures.counted ∙ ap faulted c.begin.ensures.begun) (length-steps_of c.self.inside.made.items)))
+    let new : Roomy = (noting c.self.inside.bytes.items c.note_try.new.made.items c.fault.new.self
+    (vec_capacity c.note_try.new.made)) in
+    subst (λ (old : Roomy). Follows (Torn c.args.place (length c.args.bytes.now)) (LeftNow disk_at old)
+    (LeftNow disk_at new)) c.self.view_is (failed_follows (noting c.self.inside.bytes.items c.self.inside.made.items
+    c.self.inside.schedule (vec_capacity c.self.inside.made)) new c.args.place c.args.bytes.now
+    (noted c.self.inside.bytes.items c.self.inside.bytes.items c.self.inside.made.items c.note_try.new.made.items
+    c.self.inside.schedule c.fault.new.self (vec_capacity c.self.inside.made) (vec_capacity c.note_try.new.made)
+    c.args.place c.args.bytes.now c.note_try.ensures (c.fault.ensures.counted ∙ ap faulted c.begin.ensures.begun)
+    (length-steps_of c.self.inside.made.items)))
 
 pub returns-then-begin-clause-time : goal.returns-then-begin-clause-time
 returns-then-begin-clause-time c =
-    let new : Roomy = (noting c.self.inside.bytes.items c.note_try.new.made.items c.fault.new.self (vec_capacity c.note_try.new.made)) in
-    subst (λ (old : Roomy). Elapses disk_at old new) c.self.view_is (failed_elapses (noting c.self.inside.bytes.items c.self.inside.made.items c.self.inside.schedule (vec_capacity c.self.inside.made)) new c.args.place c.args.bytes.now (noted c.self.inside.bytes.items c.self.inside.bytes.items c.self.inside.made.items c.note_try.new.made.items c.self.inside.schedule c.fault.new.self (vec_capacity c.self.inside.made) (vec_capacity c.note_try.new.made) c.args.place c.args.bytes.now c.note_try.ensures (c.fault.ensures.counted ∙ ap faulted c.begin.ensures.begun) (length-steps_of c.self.inside.made.items)))
+    let new : Roomy = (noting c.self.inside.bytes.items c.note_try.new.made.items c.fault.new.self
+    (vec_capacity c.note_try.new.made)) in
+    subst (λ (old : Roomy). Elapses disk_at old new) c.self.view_is
+    (failed_elapses (noting c.self.inside.bytes.items c.self.inside.made.items c.self.inside.schedule
+    (vec_capacity c.self.inside.made)) new c.args.place c.args.bytes.now
+    (noted c.self.inside.bytes.items c.self.inside.bytes.items c.self.inside.made.items c.note_try.new.made.items
+    c.self.inside.schedule c.fault.new.self (vec_capacity c.self.inside.made) (vec_capacity c.note_try.new.made)
+    c.args.place c.args.bytes.now c.note_try.ensures (c.fault.ensures.counted ∙ ap faulted c.begin.ensures.begun)
+    (length-steps_of c.self.inside.made.items)))
 
 pub invariant_of-self-in-Ok : goal.invariant_of-self-in-Ok
-invariant_of-self-in-Ok c = writes_noted c.self.inside.bytes.items c.overwrite.new.held.items c.self.inside.made.items c.overwrite.new.made.items c.self.inside.schedule c.begin.new.self (vec_capacity c.self.inside.made) (vec_capacity c.overwrite.new.made) c.args.place c.args.bytes.now (subst (λ (old : Roomy). c.args.place ≤ length old.disk.held) (sym c.self.view_is) c.requires.inside) c.in-Ok.ensures.written c.in-Ok.ensures.noted c.self.invariant
+invariant_of-self-in-Ok c = writes_noted c.self.inside.bytes.items c.overwrite.new.held.items c.self.inside.made.items
+    c.overwrite.new.made.items c.self.inside.schedule c.begin.new.self (vec_capacity c.self.inside.made)
+    (vec_capacity c.overwrite.new.made) c.args.place c.args.bytes.now (subst (λ (old : Roomy). c.args.place
+    ≤ length old.disk.held) (sym c.self.view_is) c.requires.inside) c.in-Ok.ensures.written c.in-Ok.ensures.noted
+    c.self.invariant
 
 pub returns-in-Ok-clause-crash : goal.returns-in-Ok-clause-crash
 returns-in-Ok-clause-crash c =
-    let new : Roomy = (noting c.overwrite.new.held.items c.overwrite.new.made.items c.begin.new.self (vec_capacity c.overwrite.new.made)) in
-    subst (λ (old : Roomy). Follows (Torn c.args.place (length c.args.bytes.now)) (LeftNow disk_at old) (LeftNow disk_at new)) c.self.view_is (write_follows (noting c.self.inside.bytes.items c.self.inside.made.items c.self.inside.schedule (vec_capacity c.self.inside.made)) new c.args.place c.args.bytes.now (subst (λ (old : Roomy). c.args.place ≤ length old.disk.held) (sym c.self.view_is) c.requires.inside) (written_is c.self.inside.bytes.items c.overwrite.new.held.items c.self.inside.made.items c.overwrite.new.made.items c.self.inside.schedule c.begin.new.self (vec_capacity c.self.inside.made) (vec_capacity c.overwrite.new.made) c.args.place c.args.bytes.now c.in-Ok.ensures.written c.in-Ok.ensures.noted c.begin.ensures.begun))
+    let new : Roomy = (noting c.overwrite.new.held.items c.overwrite.new.made.items c.begin.new.self
+    (vec_capacity c.overwrite.new.made)) in
+    subst (λ (old : Roomy). Follows (Torn c.args.place (length c.args.bytes.now)) (LeftNow disk_at old)
+    (LeftNow disk_at new)) c.self.view_is (write_follows (noting c.self.inside.bytes.items c.self.inside.made.items
+    c.self.inside.schedule (vec_capacity c.self.inside.made)) new c.args.place c.args.bytes.now
+    (subst (λ (old : Roomy). c.args.place ≤ length old.disk.held) (sym c.self.view_is) c.requires.inside)
+    (written_is c.self.inside.bytes.items c.overwrite.new.held.items c.self.inside.made.items
+    c.overwrite.new.made.items c.self.inside.schedule c.begin.new.self (vec_capacity c.self.inside.made)
+    (vec_capacity c.overwrite.new.made) c.args.place c.args.bytes.now c.in-Ok.ensures.written c.in-Ok.ensures.noted
+    c.begin.ensures.begun))
 
 pub returns-in-Ok-clause-noted : goal.returns-in-Ok-clause-noted
 returns-in-Ok-clause-noted c =
-    let new : Roomy = (noting c.overwrite.new.held.items c.overwrite.new.made.items c.begin.new.self (vec_capacity c.overwrite.new.made)) in
-    subst (λ (old : Roomy). Reaches (Torn c.args.place (length c.args.bytes.now)) (LeftNow disk_at old) (LeftNow disk_at new)) c.self.view_is (write_reaches (noting c.self.inside.bytes.items c.self.inside.made.items c.self.inside.schedule (vec_capacity c.self.inside.made)) new c.args.place c.args.bytes.now (subst (λ (old : Roomy). c.args.place ≤ length old.disk.held) (sym c.self.view_is) c.requires.inside) (written_is c.self.inside.bytes.items c.overwrite.new.held.items c.self.inside.made.items c.overwrite.new.made.items c.self.inside.schedule c.begin.new.self (vec_capacity c.self.inside.made) (vec_capacity c.overwrite.new.made) c.args.place c.args.bytes.now c.in-Ok.ensures.written c.in-Ok.ensures.noted c.begin.ensures.begun))
+    let new : Roomy = (noting c.overwrite.new.held.items c.overwrite.new.made.items c.begin.new.self
+    (vec_capacity c.overwrite.new.made)) in
+    subst (λ (old : Roomy). Reaches (Torn c.args.place (length c.args.bytes.now)) (LeftNow disk_at old)
+    (LeftNow disk_at new)) c.self.view_is (write_reaches (noting c.self.inside.bytes.items c.self.inside.made.items
+    c.self.inside.schedule (vec_capacity c.self.inside.made)) new c.args.place c.args.bytes.now
+    (subst (λ (old : Roomy). c.args.place ≤ length old.disk.held) (sym c.self.view_is) c.requires.inside)
+    (written_is c.self.inside.bytes.items c.overwrite.new.held.items c.self.inside.made.items
+    c.overwrite.new.made.items c.self.inside.schedule c.begin.new.self (vec_capacity c.self.inside.made)
+    (vec_capacity c.overwrite.new.made) c.args.place c.args.bytes.now c.in-Ok.ensures.written c.in-Ok.ensures.noted
+    c.begin.ensures.begun))
 
 pub returns-in-Ok-clause-keeps : goal.returns-in-Ok-clause-keeps
 returns-in-Ok-clause-keeps c =
-    let new : Roomy = (noting c.overwrite.new.held.items c.overwrite.new.made.items c.begin.new.self (vec_capacity c.overwrite.new.made)) in
-    subst (λ (old : Roomy). Within (LeftNow disk_at old) (LeftNow disk_at new)) c.self.view_is (reaches_keeps (noting c.self.inside.bytes.items c.self.inside.made.items c.self.inside.schedule (vec_capacity c.self.inside.made)) new c.args.place c.args.bytes.now (write_reaches (noting c.self.inside.bytes.items c.self.inside.made.items c.self.inside.schedule (vec_capacity c.self.inside.made)) new c.args.place c.args.bytes.now (subst (λ (old : Roomy). c.args.place ≤ length old.disk.held) (sym c.self.view_is) c.requires.inside) (written_is c.self.inside.bytes.items c.overwrite.new.held.items c.self.inside.made.items c.overwrite.new.made.items c.self.inside.schedule c.begin.new.self (vec_capacity c.self.inside.made) (vec_capacity c.overwrite.new.made) c.args.place c.args.bytes.now c.in-Ok.ensures.written c.in-Ok.ensures.noted c.begin.ensures.begun)))
+    let new : Roomy = (noting c.overwrite.new.held.items c.overwrite.new.made.items c.begin.new.self
+    (vec_capacity c.overwrite.new.made)) in
+    subst (λ (old : Roomy). Within (LeftNow disk_at old) (LeftNow disk_at new)) c.self.view_is
+    (reaches_keeps (noting c.self.inside.bytes.items c.self.inside.made.items c.self.inside.schedule
+    (vec_capacity c.self.inside.made)) new c.args.place c.args.bytes.now
+    (write_reaches (noting c.self.inside.bytes.items c.self.inside.made.items c.self.inside.schedule
+    (vec_capacity c.self.inside.made)) new c.args.place c.args.bytes.now (subst (λ (old : Roomy). c.args.place
+    ≤ length old.disk.held) (sym c.self.view_is) c.requires.inside)
+    (written_is c.self.inside.bytes.items c.overwrite.new.held.items c.self.inside.made.items
+    c.overwrite.new.made.items c.self.inside.schedule c.begin.new.self (vec_capacity c.self.inside.made)
+    (vec_capacity c.overwrite.new.made) c.args.place c.args.bytes.now c.in-Ok.ensures.written c.in-Ok.ensures.noted
+    c.begin.ensures.begun)))
 
 pub returns-in-Ok-clause-time : goal.returns-in-Ok-clause-time
 returns-in-Ok-clause-time c =
-    let new : Roomy = (noting c.overwrite.new.held.items c.overwrite.new.made.items c.begin.new.self (vec_capacity c.overwrite.new.made)) in
-    subst (λ (old : Roomy). Elapses disk_at old new) c.self.view_is (write_elapses (noting c.self.inside.bytes.items c.self.inside.made.items c.self.inside.schedule (vec_capacity c.self.inside.made)) new c.args.place c.args.bytes.now (subst (λ (old : Roomy). c.args.place ≤ length old.disk.held) (sym c.self.view_is) c.requires.inside) (written_is c.self.inside.bytes.items c.overwrite.new.held.items c.self.inside.made.items c.overwrite.new.made.items c.self.inside.schedule c.begin.new.self (vec_capacity c.self.inside.made) (vec_capacity c.overwrite.new.made) c.args.place c.args.bytes.now c.in-Ok.ensures.written c.in-Ok.ensures.noted c.begin.ensures.begun))
+    let new : Roomy = (noting c.overwrite.new.held.items c.overwrite.new.made.items c.begin.new.self
+    (vec_capacity c.overwrite.new.made)) in
+    subst (λ (old : Roomy). Elapses disk_at old new) c.self.view_is
+    (write_elapses (noting c.self.inside.bytes.items c.self.inside.made.items c.self.inside.schedule
+    (vec_capacity c.self.inside.made)) new c.args.place c.args.bytes.now (subst (λ (old : Roomy). c.args.place
+    ≤ length old.disk.held) (sym c.self.view_is) c.requires.inside)
+    (written_is c.self.inside.bytes.items c.overwrite.new.held.items c.self.inside.made.items
+    c.overwrite.new.made.items c.self.inside.schedule c.begin.new.self (vec_capacity c.self.inside.made)
+    (vec_capacity c.overwrite.new.made) c.args.place c.args.bytes.now c.in-Ok.ensures.written c.in-Ok.ensures.noted
+    c.begin.ensures.begun))
 
 pub returns-in-Err-clause-unlisted : goal.returns-in-Err-clause-unlisted
 returns-in-Err-clause-unlisted c =
     let sized = length-steps_of c.self.inside.made.items in
-    subst (λ (old : Roomy). FailsNext old.disk.calls ⊎ (0 < length c.args.bytes.now) ⊎ (old.room ≤ length old.disk.steps)) c.self.view_is (inr (⊎_elim (λ (some : 0 < length c.args.bytes.now). inl some) (λ (full : vec_capacity c.self.inside.made ≤ length c.self.inside.made.items). inr (omega arith)) c.in-Err.ensures.full))
+    subst (λ (old : Roomy). FailsNext old.disk.calls ⊎ (0 < length c.args.bytes.now)
+    ⊎ (old.room ≤ length old.disk.steps)) c.self.view_is
+    (inr (⊎_elim (λ (some : 0 < length c.args.bytes.now). inl some) (λ (full : vec_capacity c.self.inside.made
+    ≤ length c.self.inside.made.items). inr (omega arith)) c.in-Err.ensures.full))
 
 pub returns-in-Err-clause-crash : goal.returns-in-Err-clause-crash
 returns-in-Err-clause-crash c =
-    let new : Roomy = (noting c.overwrite.new.held.items c.overwrite.new.made.items c.fault-in-Err.new.self (vec_capacity c.overwrite.new.made)) in
-    subst (λ (old : Roomy). Follows (Torn c.args.place (length c.args.bytes.now)) (LeftNow disk_at old) (LeftNow disk_at new)) c.self.view_is (same_follows (noting c.self.inside.bytes.items c.self.inside.made.items c.self.inside.schedule (vec_capacity c.self.inside.made)) new c.args.place c.args.bytes.now c.in-Err.ensures.not_written (ap steps_of c.in-Err.ensures.not_noted))
+    let new : Roomy = (noting c.overwrite.new.held.items c.overwrite.new.made.items c.fault-in-Err.new.self
+    (vec_capacity c.overwrite.new.made)) in
+    subst (λ (old : Roomy). Follows (Torn c.args.place (length c.args.bytes.now)) (LeftNow disk_at old)
+    (LeftNow disk_at new)) c.self.view_is (same_follows (noting c.self.inside.bytes.items c.self.inside.made.items
+    c.self.inside.schedule (vec_capacity c.self.inside.made)) new c.args.place c.args.bytes.now
+    c.in-Err.ensures.not_written (ap steps_of c.in-Err.ensures.not_noted))
 
 pub invariant_of-self : goal.invariant_of-self
-invariant_of-self c = tries_noted c.self.inside.bytes.items c.self.inside.made.items c.note_try.new.made.items (vec_capacity c.self.inside.made) c.args.place c.args.bytes.now c.note_try.ensures c.self.invariant
+invariant_of-self c = tries_noted c.self.inside.bytes.items c.self.inside.made.items c.note_try.new.made.items
+    (vec_capacity c.self.inside.made) c.args.place c.args.bytes.now c.note_try.ensures c.self.invariant
 
 pub returns-then-begin-clause-tried : goal.returns-then-begin-clause-tried
 returns-then-begin-clause-tried c =
-    let new : Roomy = (noting c.self.inside.bytes.items c.note_try.new.made.items c.fault.new.self (vec_capacity c.note_try.new.made)) in
-    λ fails. subst (λ (old : Roomy). IsNoted old c.args.place c.args.bytes.now new.disk) c.self.view_is (noted c.self.inside.bytes.items c.self.inside.bytes.items c.self.inside.made.items c.note_try.new.made.items c.self.inside.schedule c.fault.new.self (vec_capacity c.self.inside.made) (vec_capacity c.note_try.new.made) c.args.place c.args.bytes.now c.note_try.ensures (c.fault.ensures.counted ∙ ap faulted c.begin.ensures.begun) (length-steps_of c.self.inside.made.items))
+    let new : Roomy = (noting c.self.inside.bytes.items c.note_try.new.made.items c.fault.new.self
+    (vec_capacity c.note_try.new.made)) in
+    λ fails. subst (λ (old : Roomy). IsNoted old c.args.place c.args.bytes.now new.disk) c.self.view_is
+    (noted c.self.inside.bytes.items c.self.inside.bytes.items c.self.inside.made.items c.note_try.new.made.items
+    c.self.inside.schedule c.fault.new.self (vec_capacity c.self.inside.made) (vec_capacity c.note_try.new.made)
+    c.args.place c.args.bytes.now c.note_try.ensures (c.fault.ensures.counted ∙ ap faulted c.begin.ensures.begun)
+    (length-steps_of c.self.inside.made.items))
 
 pub returns-then-begin-clause-keeps : goal.returns-then-begin-clause-keeps
 returns-then-begin-clause-keeps c =
-    let new : Roomy = (noting c.self.inside.bytes.items c.note_try.new.made.items c.fault.new.self (vec_capacity c.note_try.new.made)) in
-    subst (λ (old : Roomy). Within (LeftNow disk_at old) (LeftNow disk_at new)) c.self.view_is (failed_keeps (noting c.self.inside.bytes.items c.self.inside.made.items c.self.inside.schedule (vec_capacity c.self.inside.made)) new c.args.place c.args.bytes.now (noted c.self.inside.bytes.items c.self.inside.bytes.items c.self.inside.made.items c.note_try.new.made.items c.self.inside.schedule c.fault.new.self (vec_capacity c.self.inside.made) (vec_capacity c.note_try.new.made) c.args.place c.args.bytes.now c.note_try.ensures (c.fault.ensures.counted ∙ ap faulted c.begin.ensures.begun) (length-steps_of c.self.inside.made.items)))
+    let new : Roomy = (noting c.self.inside.bytes.items c.note_try.new.made.items c.fault.new.self
+    (vec_capacity c.note_try.new.made)) in
+    subst (λ (old : Roomy). Within (LeftNow disk_at old) (LeftNow disk_at new)) c.self.view_is
+    (failed_keeps (noting c.self.inside.bytes.items c.self.inside.made.items c.self.inside.schedule
+    (vec_capacity c.self.inside.made)) new c.args.place c.args.bytes.now
+    (noted c.self.inside.bytes.items c.self.inside.bytes.items c.self.inside.made.items c.note_try.new.made.items
+    c.self.inside.schedule c.fault.new.self (vec_capacity c.self.inside.made) (vec_capacity c.note_try.new.made)
+    c.args.place c.args.bytes.now c.note_try.ensures (c.fault.ensures.counted ∙ ap faulted c.begin.ensures.begun)
+    (length-steps_of c.self.inside.made.items)))
 
 pub returns-in-Ok-clause-written : goal.returns-in-Ok-clause-written
 returns-in-Ok-clause-written c =
-    let new : Roomy = (noting c.overwrite.new.held.items c.overwrite.new.made.items c.begin.new.self (vec_capacity c.overwrite.new.made)) in
-    subst (λ (old : Roomy). new.disk ≡ after_disk_write old.disk c.args.place c.args.bytes.now) c.self.view_is (written_is c.self.inside.bytes.items c.overwrite.new.held.items c.self.inside.made.items c.overwrite.new.made.items c.self.inside.schedule c.begin.new.self (vec_capacity c.self.inside.made) (vec_capacity c.overwrite.new.made) c.args.place c.args.bytes.now c.in-Ok.ensures.written c.in-Ok.ensures.noted c.begin.ensures.begun)
+    let new : Roomy = (noting c.overwrite.new.held.items c.overwrite.new.made.items c.begin.new.self
+    (vec_capacity c.overwrite.new.made)) in
+    subst (λ (old : Roomy). new.disk ≡ after_disk_write old.disk c.args.place c.args.bytes.now) c.self.view_is
+    (written_is c.self.inside.bytes.items c.overwrite.new.held.items c.self.inside.made.items
+    c.overwrite.new.made.items c.self.inside.schedule c.begin.new.self (vec_capacity c.self.inside.made)
+    (vec_capacity c.overwrite.new.made) c.args.place c.args.bytes.now c.in-Ok.ensures.written c.in-Ok.ensures.noted
+    c.begin.ensures.begun)

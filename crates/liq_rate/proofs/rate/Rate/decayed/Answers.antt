@@ -25,6 +25,8 @@ at_once base minute now same =
 pub returns-then-self-eq0-clause-left : goal.returns-then-self-eq0-clause-left
 returns-then-self-eq0-clause-left c =
     elim c.then-self-eq0.branch [
-      | then-self-eq0-via-then-self-eq0 w ↦ nothing c.args.self.now.base c.args.self.now.minute c.args.now w.if-self-eq0.true
-      | then-self-eq0-via-else-self-eq0+then-now-self w ↦ at_once c.args.self.now.base c.args.self.now.minute c.args.now w.if-now-self.true
+      | then-self-eq0-via-then-self-eq0 w ↦ nothing c.args.self.now.base c.args.self.now.minute c.args.now
+          w.if-self-eq0.true
+      | then-self-eq0-via-else-self-eq0+then-now-self w ↦ at_once c.args.self.now.base c.args.self.now.minute c.args.now
+          w.if-now-self.true
     ]

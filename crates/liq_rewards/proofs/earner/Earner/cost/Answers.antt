@@ -6,4 +6,5 @@ pub returns-in_default : goal.returns-in_default
 returns-in_default c =
     let e = c.args.self in
     let w = c.args.words in
-    cost_one e.amount w.epoch e.epoch (w.scale - e.scale) (omega (arith, c.if-self-eq0.false)) (omega arith) c.if-words-self.false (omega (arith, c.in_default))
+    cost_one e.amount w.epoch e.epoch (w.scale - e.scale) (omega (arith, c.if-self-eq0.false))
+    (omega arith) c.if-words-self.false (omega (arith, c.in_default))

@@ -24,34 +24,51 @@ pub earner-requires : goal.earner-requires
 earner-requires c = row_before _ c.self.invariant c.args.account
 
 pub dealt-earner-requires-clause-small : goal.dealt-earner-requires-clause-small
-dealt-earner-requires-clause-small c = subst IsSmall (sym c.earner.ensures) (row_before _ c.self.invariant c.args.account)
+dealt-earner-requires-clause-small c =
+    subst IsSmall (sym c.earner.ensures) (row_before _ c.self.invariant c.args.account)
 
 pub reward-requires-clause-small : goal.reward-requires-clause-small
 reward-requires-clause-small c =
-    let own : c.earner.result ≡ earner_in (all_now c.self.inside.words c.self.inside.rows) c.args.account = c.earner.ensures in
-    let is = c.dealt-earner.ensures ∙ ap (λ (e : Earner). dealt_with e c.self.inside.words c.of-sharing.result) own ∙ ap (λ (o : Option Sharing). dealt_with (earner_in (all_now c.self.inside.words c.self.inside.rows) c.args.account) c.self.inside.words o) c.of-sharing.ensures.sharing in
+    let own : c.earner.result ≡ earner_in (all_now c.self.inside.words c.self.inside.rows) c.args.account =
+    c.earner.ensures in
+    let is = c.dealt-earner.ensures ∙ ap (λ (e : Earner). dealt_with e c.self.inside.words c.of-sharing.result) own
+    ∙ ap (λ (o : Option Sharing). dealt_with (earner_in (all_now c.self.inside.words c.self.inside.rows)
+    c.args.account) c.self.inside.words o) c.of-sharing.ensures.sharing in
     subst IsSmall (sym is) (row_after _ c.self.invariant c.args.account)
 
 pub reward-requires-clause-within : goal.reward-requires-clause-within
 reward-requires-clause-within c =
-    let own : c.earner.result ≡ earner_in (all_now c.self.inside.words c.self.inside.rows) c.args.account = c.earner.ensures in
-    let is = c.dealt-earner.ensures ∙ ap (λ (e : Earner). dealt_with e c.self.inside.words c.of-sharing.result) own ∙ ap (λ (o : Option Sharing). dealt_with (earner_in (all_now c.self.inside.words c.self.inside.rows) c.args.account) c.self.inside.words o) c.of-sharing.ensures.sharing in
+    let own : c.earner.result ≡ earner_in (all_now c.self.inside.words c.self.inside.rows) c.args.account =
+    c.earner.ensures in
+    let is = c.dealt-earner.ensures ∙ ap (λ (e : Earner). dealt_with e c.self.inside.words c.of-sharing.result) own
+    ∙ ap (λ (o : Option Sharing). dealt_with (earner_in (all_now c.self.inside.words c.self.inside.rows)
+    c.args.account) c.self.inside.words o) c.of-sharing.ensures.sharing in
     subst (λ (e : Earner). reward_by e ≤ UNITS_MOST) (sym is) (row_reward _ c.self.invariant c.args.account)
 
 pub allowance-requires : goal.allowance-requires
 allowance-requires c =
-    let own : c.earner.result ≡ earner_in (all_now c.self.inside.words c.self.inside.rows) c.args.account = c.earner.ensures in
-    let is = c.dealt-earner.ensures ∙ ap (λ (e : Earner). dealt_with e c.self.inside.words c.of-sharing.result) own ∙ ap (λ (o : Option Sharing). dealt_with (earner_in (all_now c.self.inside.words c.self.inside.rows) c.args.account) c.self.inside.words o) c.of-sharing.ensures.sharing in
+    let own : c.earner.result ≡ earner_in (all_now c.self.inside.words c.self.inside.rows) c.args.account =
+    c.earner.ensures in
+    let is = c.dealt-earner.ensures ∙ ap (λ (e : Earner). dealt_with e c.self.inside.words c.of-sharing.result) own
+    ∙ ap (λ (o : Option Sharing). dealt_with (earner_in (all_now c.self.inside.words c.self.inside.rows)
+    c.args.account) c.self.inside.words o) c.of-sharing.ensures.sharing in
     subst IsSmall (sym is) (row_after _ c.self.invariant c.args.account)
 
-row_told : (account reward allow : ℕ) (e : Earner) → reward ≡ reward_by e → allow ≡ allowance_by e → let one : RewardRow = record { account = account; reward = reward; allow = allow } in one ≡ row_by account e
+row_told : (account reward allow : ℕ) (e : Earner) → reward ≡ reward_by e → allow ≡ allowance_by e
+    → let one : RewardRow = record { account = account; reward = reward; allow = allow } in one ≡ row_by account e
 row_told account reward allow e r a = rw (r, a) refl
 
-told : (c : goal.After-allowance) (past : List Timed) → IsKeptOf c.args.self.now past → let one : RewardRow = record { account = c.args.account; reward = c.reward.result; allow = c.allowance.result } in one ≡ row_of c.args.account c.args.self.now.minute past
+told : (c : goal.After-allowance) (past : List Timed) → IsKeptOf c.args.self.now past → let one : RewardRow =
+    record { account = c.args.account; reward = c.reward.result; allow = c.allowance.result }
+    in one ≡ row_of c.args.account c.args.self.now.minute past
 told c past h =
-    let own : c.earner.result ≡ earner_in (all_now c.self.inside.words c.self.inside.rows) c.args.account = c.earner.ensures in
-    let is = c.dealt-earner.ensures ∙ ap (λ (e : Earner). dealt_with e c.self.inside.words c.of-sharing.result) own ∙ ap (λ (o : Option Sharing). dealt_with (earner_in (all_now c.self.inside.words c.self.inside.rows) c.args.account) c.self.inside.words o) c.of-sharing.ensures.sharing in
-    row_told c.args.account c.reward.result c.allowance.result c.dealt-earner.result c.reward.ensures c.allowance.ensures
+    let own : c.earner.result ≡ earner_in (all_now c.self.inside.words c.self.inside.rows) c.args.account =
+    c.earner.ensures in
+    let is = c.dealt-earner.ensures ∙ ap (λ (e : Earner). dealt_with e c.self.inside.words c.of-sharing.result) own
+    ∙ ap (λ (o : Option Sharing). dealt_with (earner_in (all_now c.self.inside.words c.self.inside.rows)
+    c.args.account) c.self.inside.words o) c.of-sharing.ensures.sharing in
+    row_told c.args.account c.reward.result c.allowance.result c.dealt-earner.result c.reward.ensures
+    c.allowance.ensures
     ∙ ap (λ (e : Earner). row_by c.args.account e) is
     ∙ row_is _ past (subst (λ (v : Kept). IsKeptOf v past) (sym c.self.view_is) h) c.args.account
     ∙ ap (λ (v : Kept). row_of c.args.account v.minute past) c.self.view_is
@@ -61,4 +78,5 @@ returns-clause-row c past h = told c past h
 
 pub returns-clause-share : goal.returns-clause-share
 returns-clause-share c past h =
-    subst (λ (r : RewardRow). IsWithinAllowance c.args.account c.args.self.now.minute past r.reward r.allow) (sym (told c past h)) (within_allowance LIM served c.args.account c.args.self.now.minute past h.lawful)
+    subst (λ (r : RewardRow). IsWithinAllowance c.args.account c.args.self.now.minute past r.reward r.allow)
+    (sym (told c past h)) (within_allowance LIM served c.args.account c.args.self.now.minute past h.lawful)

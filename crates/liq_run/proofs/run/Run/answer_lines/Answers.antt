@@ -17,7 +17,8 @@ use Rattle.liq_lines.proofs.Readings.{few_begins, few_behind, few_in_all}
 pub loop-answered-init : goal.loop-answered-init
 loop-answered-init g c = record {
   answered = λ begun held past.
-      subst (λ (before : Option (List ℕ)). Answered begun.start (g.S.Source.at c.args.input.now).left 0 c.args.self.now.store.core
+      subst (λ (before : Option (List ℕ)). Answered begun.start (g.S.Source.at c.args.input.now).left 0
+      c.args.self.now.store.core
       (unread c.args.self.now.reader (g.S.Source.at c.args.input.now).left) c.args.self.now.waiting.items begun.held
       before
       (λ requests. IsPastOf g.D.Disk.at begun requests c.args.self.now.store (g.K.Sink.at c.args.out.now).shown)) held

@@ -8,4 +8,5 @@ pub returns-clause-sound : goal.returns-clause-sound
 returns-clause-sound c =
     let s = c.self.inside in
     subst (λ v. IfSome c.get.result (λ d. IsDepositOf v.words v.finished d.now)) c.self.view_is
-    (found_sound s.words (finished_rows s.finished.items) s.deposits.rows c.args.account c.get.result c.get.ensures.row c.self.invariant)
+    (found_sound s.words (finished_rows s.finished.items) s.deposits.rows c.args.account c.get.result c.get.ensures.row
+    c.self.invariant)

@@ -9,7 +9,8 @@ use Rattle.liq_stability.proofs.deposits.Stability.from_parts.Goals as goal
 pub invariant_of-result : goal.invariant_of-result
 invariant_of-result c =
     let h = c.requires in
-    let used : IsSoundPool c.args.words (finished_rows c.args.finished.items) (rows is_used_deposit c.args.deposits.items) = record {
+    let used : IsSoundPool c.args.words (finished_rows c.args.finished.items)
+    (rows is_used_deposit c.args.deposits.items) = record {
       product = h.product;
       sum = h.sum;
       sums = h.sums;

@@ -9,5 +9,19 @@ use Rattle.liq_stability.proofs.deposits.Stability.new.Goals as goal
 
 pub invariant_of-result : goal.invariant_of-result
 invariant_of-result c =
-    subst (λ (t : Table Deposit). IsSoundPool (record { p = P_OPENING; scale = 0; epoch = 0; sum = 0; total = 0; coll = 0 }) (finished_rows c.new.result.items) t) (sym c.new-2.ensures)
-    (subst (λ (l : List FinishedSum). IsSoundPool (record { p = P_OPENING; scale = 0; epoch = 0; sum = 0; total = 0; coll = 0 }) (finished_rows l) []) (sym c.new.ensures.items) opening_sound)
+    subst (λ (t : Table Deposit). IsSoundPool (record {
+      p = P_OPENING;
+      scale = 0;
+      epoch = 0;
+      sum = 0;
+      total = 0;
+      coll = 0;
+    }) (finished_rows c.new.result.items) t) (sym c.new-2.ensures)
+    (subst (λ (l : List FinishedSum). IsSoundPool (record {
+      p = P_OPENING;
+      scale = 0;
+      epoch = 0;
+      sum = 0;
+      total = 0;
+      coll = 0;
+    }) (finished_rows l) []) (sym c.new.ensures.items) opening_sound)

@@ -8,16 +8,25 @@ use Rattle.liq_stability.specs.Kept.{IsSoundPool, finished_rows, left_in}
 use Rattle.liq_stability.proofs.Keeping.{owned_sound, written_left}
 use Rattle.liq_stability.proofs.deposits.Stability.provide.Goals as goal
 
-rows : (c : goal.After-write) → c.write.new.self.rows ≡ left_in c.self.inside.deposits.rows c.self.inside.words c.args.account (c.position_of-balance.result.0 + c.args.amount)
+rows : (c : goal.After-write) → c.write.new.self.rows ≡ left_in c.self.inside.deposits.rows c.self.inside.words
+    c.args.account (c.position_of-balance.result.0 + c.args.amount)
 rows c =
-    c.write.ensures.rows ∙ ap (λ d. written is_used_deposit c.self.inside.deposits.rows c.args.account d) c.left_now-left.ensures
-    ∙ written_left c.self.inside.deposits.rows c.self.inside.words c.args.account (c.position_of-balance.result.0 + c.args.amount)
+    c.write.ensures.rows ∙ ap (λ d. written is_used_deposit c.self.inside.deposits.rows c.args.account d)
+    c.left_now-left.ensures
+    ∙ written_left c.self.inside.deposits.rows c.self.inside.words c.args.account (c.position_of-balance.result.0
+    + c.args.amount)
 
 pub invariant_of-self : goal.invariant_of-self
 invariant_of-self c =
     let s = c.self.inside in
-    let limit : s.words.total + c.args.amount ≤ LIM = subst (λ v. v.words.total + c.args.amount ≤ LIM) (sym c.self.view_is) c.requires.limit in
-    let cap : c.position_of-balance.result.0 ≤ s.words.total = subst (λ v. c.position_of-balance.result.0 ≤ v.words.total) (sym c.self.view_is) c.position_of-balance.ensures.balance in
-    subst (λ (t : Table Deposit). IsSoundPool (record s.words { total = s.words.total + c.args.amount; coll = s.words.coll - c.position_of-balance.result.1 }) (finished_rows s.finished.items) t) (sym (rows c))
-    (owned_sound s.words (finished_rows s.finished.items) s.deposits.rows c.args.account (c.position_of-balance.result.0 + c.args.amount) (s.words.total + c.args.amount) (s.words.coll - c.position_of-balance.result.1) c.self.invariant
+    let limit : s.words.total + c.args.amount ≤ LIM = subst (λ v. v.words.total + c.args.amount
+    ≤ LIM) (sym c.self.view_is) c.requires.limit in
+    let cap : c.position_of-balance.result.0 ≤ s.words.total = subst (λ v. c.position_of-balance.result.0
+    ≤ v.words.total) (sym c.self.view_is) c.position_of-balance.ensures.balance in
+    subst (λ (t : Table Deposit). IsSoundPool (record s.words {
+      total = s.words.total + c.args.amount;
+      coll = s.words.coll - c.position_of-balance.result.1;
+    }) (finished_rows s.finished.items) t) (sym (rows c))
+    (owned_sound s.words (finished_rows s.finished.items) s.deposits.rows c.args.account (c.position_of-balance.result.0
+    + c.args.amount) (s.words.total + c.args.amount) (s.words.coll - c.position_of-balance.result.1) c.self.invariant
     (omega (arith, limit, cap)) limit (omega (arith, c.self.invariant.coll)))

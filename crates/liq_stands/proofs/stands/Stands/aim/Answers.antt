@@ -18,16 +18,23 @@ rows c = c.take.ensures.rows ∙ ap (λ (t : Table Kept). without t c.args.accou
 taken : (c : goal.After-take) → IsWritten c.args.account None c.self.inside.kept.rows c.take.new.self.rows
 taken c = as_taken c.args.account c.self.inside.kept.rows c.take.new.self.rows c.self.invariant.ascend (rows c)
 
-aimed : (c : goal.After-take) → IsWritten c.args.account (Some (record { key = c.stand-key.result.key; next = c.args.next })) c.self.inside.apart.entries c.insert.new.self.entries
-aimed c = as_updated c.args.account c.self.inside.apart c.insert.new.self (Some (record { key = c.stand-key.result.key; next = c.args.next })) c.in-Ok.ensures.updates
+aimed : (c : goal.After-take)
+    → IsWritten c.args.account (Some (record { key = c.stand-key.result.key; next = c.args.next }))
+    c.self.inside.apart.entries c.insert.new.self.entries
+aimed c = as_updated c.args.account c.self.inside.apart c.insert.new.self (Some (record {
+  key = c.stand-key.result.key;
+  next = c.args.next;
+})) c.in-Ok.ensures.updates
 
 room : (c : goal.After-take) (a : ℕ) → HasRoom c.reserve.new.self a → HasRoom c.take.new.self a
 room c a h = subst (λ (l : List ℕ). Contains l a) (sym c.take.ensures.room) h
 
 pub invariant_of-self-3 : goal.invariant_of-self-3
 invariant_of-self-3 c =
-    parted c.args.account None (Some (record { key = c.stand-key.result.key; next = c.args.next })) c.self.inside.kept c.take.new.self c.self.inside.apart.entries c.insert.new.self.entries c.self.invariant
-    (subst (λ (t : Table Kept). Ascends t) (sym (rows c)) (without-ascends c.self.inside.kept.rows c.args.account c.self.invariant.ascend))
+    parted c.args.account None (Some (record { key = c.stand-key.result.key; next = c.args.next })) c.self.inside.kept
+    c.take.new.self c.self.inside.apart.entries c.insert.new.self.entries c.self.invariant
+    (subst (λ (t : Table Kept). Ascends t) (sym (rows c)) (without-ascends c.self.inside.kept.rows c.args.account
+    c.self.invariant.ascend))
     (λ a h. room c a (c.in_ok-reserve.ensures.kept a h))
     (λ h. cc)
     (λ h. (room c c.args.account c.in_ok-reserve.ensures.room, refl)) (taken c) (aimed c)
@@ -44,4 +51,5 @@ returns-clause-ok c a =
     let aim : Stand = record { key = c.stand-key.result.key; next = c.args.next } in
     moves c.args.account None (Some aim) old new (taken c) (aimed c) a
     ∙ ap (λ (s : Stand). moved (stand_of old) c.args.account (record { key = s.key; next = c.args.next }) a) stand
-    ∙ ap (λ (p : Parts). moved (stand_of p) c.args.account (record { key = (stand_of c.args.self.now c.args.account).key; next = c.args.next }) a) c.self.view_is
+    ∙ ap (λ (p : Parts). moved (stand_of p) c.args.account
+    (record { key = (stand_of c.args.self.now c.args.account).key; next = c.args.next }) a) c.self.view_is

@@ -12,13 +12,16 @@ use Rattle.liq_stands.proofs.Moving.{IsWritten, as_before, as_taken, moves, part
 use Rattle.liq_stands.proofs.stands.Stands.leave.Goals as goal
 
 taken : (c : goal.After-take) → IsWritten c.args.account None c.self.inside.kept.rows c.take.new.self.rows
-taken c = as_taken c.args.account c.self.inside.kept.rows c.take.new.self.rows c.self.invariant.ascend c.take.ensures.rows
+taken c = as_taken c.args.account c.self.inside.kept.rows c.take.new.self.rows c.self.invariant.ascend
+    c.take.ensures.rows
 
 -- a kept account is not apart
 not_apart : (c : goal.After-take) → IsSome (at c.self.inside.apart.entries c.args.account) → ⊥
 not_apart c h =
-    let was : IsSome (at c.self.inside.kept.rows c.args.account) = subst (λ (p : Parts). IsSome (at p.kept c.args.account)) (sym c.self.view_is) c.requires in
-    let clash : IsSome {T = Kept} None = subst (λ (o : Option Kept). IsSome o) (c.self.invariant.once c.args.account h) was in cc
+    let was : IsSome (at c.self.inside.kept.rows c.args.account) =
+    subst (λ (p : Parts). IsSome (at p.kept c.args.account)) (sym c.self.view_is) c.requires in
+    let clash : IsSome {T = Kept} None = subst (λ (o : Option Kept). IsSome o) (c.self.invariant.once c.args.account h)
+    was in cc
 
 none_apart : (c : goal.After-take) → at c.self.inside.apart.entries c.args.account ≡ None
 none_apart c = by (at c.self.inside.apart.entries c.args.account) (not_apart c) where
@@ -30,7 +33,8 @@ pub invariant_of-self : goal.invariant_of-self
 invariant_of-self c =
     let apart = c.self.inside.apart.entries in
     parted c.args.account None None c.self.inside.kept c.take.new.self apart apart c.self.invariant
-    (subst (λ (t : Table Kept). Ascends t) (sym c.take.ensures.rows) (without-ascends c.self.inside.kept.rows c.args.account c.self.invariant.ascend))
+    (subst (λ (t : Table Kept). Ascends t) (sym c.take.ensures.rows) (without-ascends c.self.inside.kept.rows
+    c.args.account c.self.invariant.ascend))
     (λ a h. subst (λ (l : List ℕ). Contains l a) (sym c.take.ensures.room) h)
     (λ h. cc) (λ h. cc) (taken c) (as_before c.args.account apart None (none_apart c))
 

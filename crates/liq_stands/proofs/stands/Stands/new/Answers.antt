@@ -7,4 +7,5 @@ use Rattle.liq_stands.proofs.stands.Stands.new.Goals as goal
 
 pub returns : goal.returns
 returns c a =
-    found (record { kept = c.new.result.rows; apart = c.new-2.result.entries }) a None None (ap (λ (t : Table Kept). at t a) c.new.ensures) (ap (λ (t : Table Stand). at t a) c.new-2.ensures.empty)
+    found (record { kept = c.new.result.rows; apart = c.new-2.result.entries }) a None None
+    (ap (λ (t : Table Kept). at t a) c.new.ensures) (ap (λ (t : Table Stand). at t a) c.new-2.ensures.empty)

@@ -10,47 +10,96 @@ use Rattle.liq_store.proofs.Looking.{all_read, halted_looked, looked_from, order
 use Rattle.liq_store.proofs.store.Store.accepted.Goals as goal
 
 pub invariant_of-self : goal.invariant_of-self
-invariant_of-self g c = within_looked g.D.Disk.at g.met.D.Disk.seen_may_stay c.self.inside.side c.self.inside.taken c.read_commands.new.journal c.self.inside.beside c.self.inside.protocol c.read_commands.ensures.looked c.self.inside.stopped c.self.inside.stopped c.read_commands.ensures.same c.self.invariant (order_looked g.D.Disk.at g.met.D.Disk.seen_may_stay c.self.inside.side c.self.inside.taken c.read_commands.new.journal c.self.inside.beside c.self.inside.protocol c.read_commands.ensures.looked _ _ c.self.inside.stopped c.self.invariant.order) (λ none. none)
+invariant_of-self g c = within_looked g.D.Disk.at g.met.D.Disk.seen_may_stay c.self.inside.side c.self.inside.taken
+    c.read_commands.new.journal c.self.inside.beside c.self.inside.protocol c.read_commands.ensures.looked
+    c.self.inside.stopped c.self.inside.stopped c.read_commands.ensures.same c.self.invariant
+    (order_looked g.D.Disk.at g.met.D.Disk.seen_may_stay c.self.inside.side c.self.inside.taken
+    c.read_commands.new.journal c.self.inside.beside c.self.inside.protocol c.read_commands.ensures.looked _ _
+    c.self.inside.stopped c.self.invariant.order) (λ none. none)
 
 pub invariant_of-self-in-Err-DiskFault : goal.invariant_of-self-in-Err-DiskFault
-invariant_of-self-in-Err-DiskFault g c = within_looked g.D.Disk.at g.met.D.Disk.seen_may_stay c.self.inside.side c.self.inside.taken c.read_commands.new.journal c.self.inside.beside c.self.inside.protocol c.read_commands.ensures.looked c.self.inside.stopped (Some c.unwrap_or.result) c.read_commands.ensures.same c.self.invariant (halted_looked g.D.Disk.at g.met.D.Disk.seen_may_stay c.self.inside.side c.self.inside.taken c.read_commands.new.journal c.self.inside.beside c.self.inside.protocol c.read_commands.ensures.looked _ c.self.inside.stopped c.self.invariant.order c.unwrap_or.result) (λ none. absurd (some_isnt_none c.unwrap_or.result none))
+invariant_of-self-in-Err-DiskFault g c = within_looked g.D.Disk.at g.met.D.Disk.seen_may_stay c.self.inside.side
+    c.self.inside.taken c.read_commands.new.journal c.self.inside.beside c.self.inside.protocol
+    c.read_commands.ensures.looked c.self.inside.stopped (Some c.unwrap_or.result) c.read_commands.ensures.same
+    c.self.invariant (halted_looked g.D.Disk.at g.met.D.Disk.seen_may_stay c.self.inside.side c.self.inside.taken
+    c.read_commands.new.journal c.self.inside.beside c.self.inside.protocol c.read_commands.ensures.looked _
+    c.self.inside.stopped c.self.invariant.order c.unwrap_or.result)
+    (λ none. absurd (some_isnt_none c.unwrap_or.result none))
 
 pub invariant_of-self-in-Err-Damaged : goal.invariant_of-self-in-Err-Damaged
-invariant_of-self-in-Err-Damaged g c = within_looked g.D.Disk.at g.met.D.Disk.seen_may_stay c.self.inside.side c.self.inside.taken c.read_commands.new.journal c.self.inside.beside c.self.inside.protocol c.read_commands.ensures.looked c.self.inside.stopped c.self.inside.stopped c.read_commands.ensures.same c.self.invariant (order_looked g.D.Disk.at g.met.D.Disk.seen_may_stay c.self.inside.side c.self.inside.taken c.read_commands.new.journal c.self.inside.beside c.self.inside.protocol c.read_commands.ensures.looked _ _ c.self.inside.stopped c.self.invariant.order) (λ none. none)
+invariant_of-self-in-Err-Damaged g c = within_looked g.D.Disk.at g.met.D.Disk.seen_may_stay c.self.inside.side
+    c.self.inside.taken c.read_commands.new.journal c.self.inside.beside c.self.inside.protocol
+    c.read_commands.ensures.looked c.self.inside.stopped c.self.inside.stopped c.read_commands.ensures.same
+    c.self.invariant (order_looked g.D.Disk.at g.met.D.Disk.seen_may_stay c.self.inside.side c.self.inside.taken
+    c.read_commands.new.journal c.self.inside.beside c.self.inside.protocol c.read_commands.ensures.looked _ _
+    c.self.inside.stopped c.self.invariant.order) (λ none. none)
 
 pub invariant_of-self-in-Err-NoMemory : goal.invariant_of-self-in-Err-NoMemory
-invariant_of-self-in-Err-NoMemory g c = within_looked g.D.Disk.at g.met.D.Disk.seen_may_stay c.self.inside.side c.self.inside.taken c.read_commands.new.journal c.self.inside.beside c.self.inside.protocol c.read_commands.ensures.looked c.self.inside.stopped c.self.inside.stopped c.read_commands.ensures.same c.self.invariant (order_looked g.D.Disk.at g.met.D.Disk.seen_may_stay c.self.inside.side c.self.inside.taken c.read_commands.new.journal c.self.inside.beside c.self.inside.protocol c.read_commands.ensures.looked _ _ c.self.inside.stopped c.self.invariant.order) (λ none. none)
+invariant_of-self-in-Err-NoMemory g c = within_looked g.D.Disk.at g.met.D.Disk.seen_may_stay c.self.inside.side
+    c.self.inside.taken c.read_commands.new.journal c.self.inside.beside c.self.inside.protocol
+    c.read_commands.ensures.looked c.self.inside.stopped c.self.inside.stopped c.read_commands.ensures.same
+    c.self.invariant (order_looked g.D.Disk.at g.met.D.Disk.seen_may_stay c.self.inside.side c.self.inside.taken
+    c.read_commands.new.journal c.self.inside.beside c.self.inside.protocol c.read_commands.ensures.looked _ _
+    c.self.inside.stopped c.self.invariant.order) (λ none. none)
 
 pub returns-in-Ok-clause-order : goal.returns-in-Ok-clause-order
-returns-in-Ok-clause-order g c = order_looked g.D.Disk.at g.met.D.Disk.seen_may_stay c.self.inside.side c.self.inside.taken c.read_commands.new.journal c.self.inside.beside c.self.inside.protocol c.read_commands.ensures.looked _ _ c.self.inside.stopped c.self.invariant.order
+returns-in-Ok-clause-order g c = order_looked g.D.Disk.at g.met.D.Disk.seen_may_stay c.self.inside.side
+    c.self.inside.taken c.read_commands.new.journal c.self.inside.beside c.self.inside.protocol
+    c.read_commands.ensures.looked _ _ c.self.inside.stopped c.self.invariant.order
 
 pub returns-in-Err-DiskFault-clause-order : goal.returns-in-Err-DiskFault-clause-order
-returns-in-Err-DiskFault-clause-order g c = halted_looked g.D.Disk.at g.met.D.Disk.seen_may_stay c.self.inside.side c.self.inside.taken c.read_commands.new.journal c.self.inside.beside c.self.inside.protocol c.read_commands.ensures.looked _ c.self.inside.stopped c.self.invariant.order c.unwrap_or.result
+returns-in-Err-DiskFault-clause-order g c = halted_looked g.D.Disk.at g.met.D.Disk.seen_may_stay c.self.inside.side
+    c.self.inside.taken c.read_commands.new.journal c.self.inside.beside c.self.inside.protocol
+    c.read_commands.ensures.looked _ c.self.inside.stopped c.self.invariant.order c.unwrap_or.result
 
 pub returns-in-Err-Damaged-clause-order : goal.returns-in-Err-Damaged-clause-order
-returns-in-Err-Damaged-clause-order g c = order_looked g.D.Disk.at g.met.D.Disk.seen_may_stay c.self.inside.side c.self.inside.taken c.read_commands.new.journal c.self.inside.beside c.self.inside.protocol c.read_commands.ensures.looked _ _ c.self.inside.stopped c.self.invariant.order
+returns-in-Err-Damaged-clause-order g c = order_looked g.D.Disk.at g.met.D.Disk.seen_may_stay c.self.inside.side
+    c.self.inside.taken c.read_commands.new.journal c.self.inside.beside c.self.inside.protocol
+    c.read_commands.ensures.looked _ _ c.self.inside.stopped c.self.invariant.order
 
 pub returns-in-Err-NoMemory-clause-order : goal.returns-in-Err-NoMemory-clause-order
-returns-in-Err-NoMemory-clause-order g c = order_looked g.D.Disk.at g.met.D.Disk.seen_may_stay c.self.inside.side c.self.inside.taken c.read_commands.new.journal c.self.inside.beside c.self.inside.protocol c.read_commands.ensures.looked _ _ c.self.inside.stopped c.self.invariant.order
+returns-in-Err-NoMemory-clause-order g c = order_looked g.D.Disk.at g.met.D.Disk.seen_may_stay c.self.inside.side
+    c.self.inside.taken c.read_commands.new.journal c.self.inside.beside c.self.inside.protocol
+    c.read_commands.ensures.looked _ _ c.self.inside.stopped c.self.invariant.order
 
 pub returns-in-Ok-clause-all : goal.returns-in-Ok-clause-all
-returns-in-Ok-clause-all g c none held w told found = all_read g.D.Disk.at c.self.inside.side c.self.inside.taken c.self.inside.beside c.self.inside.protocol c.self.inside.stopped c.self.invariant c.args.self.now c.self.view_is c.in-Ok.commands.items c.in-Ok.ensures.commands none held w told found
+returns-in-Ok-clause-all g c none held w told found =
+    all_read g.D.Disk.at c.self.inside.side c.self.inside.taken c.self.inside.beside c.self.inside.protocol
+    c.self.inside.stopped c.self.invariant c.args.self.now c.self.view_is c.in-Ok.commands.items
+    c.in-Ok.ensures.commands none held w told found
 
 pub returns-in-Err-DiskFault-clause-cause : goal.returns-in-Err-DiskFault-clause-cause
 returns-in-Err-DiskFault-clause-cause g c =
     let side = c.self.inside.side in
-    let counted = subst (λ (y : AcceptedFault). CountsFault y (g.D.Disk.at c.self.inside.taken.disk).faults (g.D.Disk.at c.read_commands.new.journal.disk).faults) c.in-Err-DiskFault.field-0-is c.in-Err-DiskFault.ensures.cause in
-    subst (λ (o : Stored g.row.D.Denot). OneRose (counts_of g.D.Disk.at o.left o.right) (counts_of g.D.Disk.at (on side c.read_commands.new.journal.disk c.self.inside.beside) (on side c.self.inside.beside c.read_commands.new.journal.disk))) c.self.view_is
-    (taken_rose g.D.Disk.at side c.self.inside.taken.disk c.read_commands.new.journal.disk c.self.inside.beside counted.later counted.rose)
+    let counted = subst (λ (y : AcceptedFault). CountsFault y (g.D.Disk.at c.self.inside.taken.disk).faults
+    (g.D.Disk.at c.read_commands.new.journal.disk).faults) c.in-Err-DiskFault.field-0-is
+    c.in-Err-DiskFault.ensures.cause in
+    subst (λ (o : Stored g.row.D.Denot). OneRose (counts_of g.D.Disk.at o.left o.right) (counts_of g.D.Disk.at
+    (on side c.read_commands.new.journal.disk c.self.inside.beside)
+    (on side c.self.inside.beside c.read_commands.new.journal.disk))) c.self.view_is
+    (taken_rose g.D.Disk.at side c.self.inside.taken.disk c.read_commands.new.journal.disk c.self.inside.beside
+    counted.later counted.rose)
 
 pub returns-in-Ok-clause-looked : goal.returns-in-Ok-clause-looked
-returns-in-Ok-clause-looked g c = looked_from g.D.Disk.at c.self.inside.side c.self.inside.taken.disk c.self.inside.beside c.read_commands.new.journal.disk c.args.self.now (ap (λ (o : Stored g.row.D.Denot). o.left) c.self.view_is) (ap (λ (o : Stored g.row.D.Denot). o.right) c.self.view_is) (ap (λ (o : Stored g.row.D.Denot). o.side) c.self.view_is) c.read_commands.ensures.looked
+returns-in-Ok-clause-looked g c = looked_from g.D.Disk.at c.self.inside.side c.self.inside.taken.disk
+    c.self.inside.beside c.read_commands.new.journal.disk c.args.self.now (ap (λ (o : Stored g.row.D.Denot). o.left)
+    c.self.view_is) (ap (λ (o : Stored g.row.D.Denot). o.right) c.self.view_is) (ap (λ (o : Stored g.row.D.Denot).
+    o.side) c.self.view_is) c.read_commands.ensures.looked
 
 pub returns-in-Err-DiskFault-clause-looked : goal.returns-in-Err-DiskFault-clause-looked
-returns-in-Err-DiskFault-clause-looked g c = looked_from g.D.Disk.at c.self.inside.side c.self.inside.taken.disk c.self.inside.beside c.read_commands.new.journal.disk c.args.self.now (ap (λ (o : Stored g.row.D.Denot). o.left) c.self.view_is) (ap (λ (o : Stored g.row.D.Denot). o.right) c.self.view_is) (ap (λ (o : Stored g.row.D.Denot). o.side) c.self.view_is) c.read_commands.ensures.looked
+returns-in-Err-DiskFault-clause-looked g c = looked_from g.D.Disk.at c.self.inside.side c.self.inside.taken.disk
+    c.self.inside.beside c.read_commands.new.journal.disk c.args.self.now (ap (λ (o : Stored g.row.D.Denot). o.left)
+    c.self.view_is) (ap (λ (o : Stored g.row.D.Denot). o.right) c.self.view_is) (ap (λ (o : Stored g.row.D.Denot).
+    o.side) c.self.view_is) c.read_commands.ensures.looked
 
 pub returns-in-Err-Damaged-clause-looked : goal.returns-in-Err-Damaged-clause-looked
-returns-in-Err-Damaged-clause-looked g c = looked_from g.D.Disk.at c.self.inside.side c.self.inside.taken.disk c.self.inside.beside c.read_commands.new.journal.disk c.args.self.now (ap (λ (o : Stored g.row.D.Denot). o.left) c.self.view_is) (ap (λ (o : Stored g.row.D.Denot). o.right) c.self.view_is) (ap (λ (o : Stored g.row.D.Denot). o.side) c.self.view_is) c.read_commands.ensures.looked
+returns-in-Err-Damaged-clause-looked g c = looked_from g.D.Disk.at c.self.inside.side c.self.inside.taken.disk
+    c.self.inside.beside c.read_commands.new.journal.disk c.args.self.now (ap (λ (o : Stored g.row.D.Denot). o.left)
+    c.self.view_is) (ap (λ (o : Stored g.row.D.Denot). o.right) c.self.view_is) (ap (λ (o : Stored g.row.D.Denot).
+    o.side) c.self.view_is) c.read_commands.ensures.looked
 
 pub returns-in-Err-NoMemory-clause-looked : goal.returns-in-Err-NoMemory-clause-looked
-returns-in-Err-NoMemory-clause-looked g c = looked_from g.D.Disk.at c.self.inside.side c.self.inside.taken.disk c.self.inside.beside c.read_commands.new.journal.disk c.args.self.now (ap (λ (o : Stored g.row.D.Denot). o.left) c.self.view_is) (ap (λ (o : Stored g.row.D.Denot). o.right) c.self.view_is) (ap (λ (o : Stored g.row.D.Denot). o.side) c.self.view_is) c.read_commands.ensures.looked
+returns-in-Err-NoMemory-clause-looked g c = looked_from g.D.Disk.at c.self.inside.side c.self.inside.taken.disk
+    c.self.inside.beside c.read_commands.new.journal.disk c.args.self.now (ap (λ (o : Stored g.row.D.Denot). o.left)
+    c.self.view_is) (ap (λ (o : Stored g.row.D.Denot). o.right) c.self.view_is) (ap (λ (o : Stored g.row.D.Denot).
+    o.side) c.self.view_is) c.read_commands.ensures.looked

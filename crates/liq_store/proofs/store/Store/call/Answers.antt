@@ -10,15 +10,25 @@ use Rattle.liq_store.proofs.store.Store.call.Goals as goal
 
 pub returns-in-Ask-clause-disks : goal.returns-in-Ask-clause-disks
 returns-in-Ask-clause-disks g c =
-    subst (λ (o : Stored g.row.D.Denot). WritesOn g.D.Disk.at c.args.self.now c.args.request.now (answer.Reply c.query.result) o) c.self.view_is
-    (stays_on g.D.Disk.at c.self.inside.side c.self.inside.taken c.self.inside.beside c.self.inside.protocol c.self.inside.stopped c.self.inside.changes.items c.self.invariant c.args.self.now c.self.view_is c.self.inside.protocol c.self.inside.stopped c.self.inside.changes.items c.args.request.now (answer.Reply c.query.result)
-    (λ s stands. reply_stays s c.args.request.now c.query.result c.self.inside.side c.self.inside.taken.start (ap (is_rotation s) c.in-Ask.is)))
+    subst (λ (o : Stored g.row.D.Denot). WritesOn g.D.Disk.at c.args.self.now c.args.request.now
+    (answer.Reply c.query.result) o) c.self.view_is
+    (stays_on g.D.Disk.at c.self.inside.side c.self.inside.taken c.self.inside.beside c.self.inside.protocol
+    c.self.inside.stopped c.self.inside.changes.items c.self.invariant c.args.self.now c.self.view_is
+    c.self.inside.protocol c.self.inside.stopped c.self.inside.changes.items c.args.request.now
+    (answer.Reply c.query.result)
+    (λ s stands. reply_stays s c.args.request.now c.query.result c.self.inside.side c.self.inside.taken.start
+    (ap (is_rotation s) c.in-Ask.is)))
 
 pub returns-in-Some-clause-disks : goal.returns-in-Some-clause-disks
 returns-in-Some-clause-disks g c =
-    subst (λ (o : Stored g.row.D.Denot). WritesOn g.D.Disk.at c.args.self.now c.args.request.now (answer.Stopped c.in-Some.faults) o) c.self.view_is
-    (stays_on g.D.Disk.at c.self.inside.side c.self.inside.taken c.self.inside.beside c.self.inside.protocol c.self.inside.stopped c.self.inside.changes.items c.self.invariant c.args.self.now c.self.view_is c.self.inside.protocol c.self.inside.stopped c.self.inside.changes.items c.args.request.now (answer.Stopped c.in-Some.faults)
+    subst (λ (o : Stored g.row.D.Denot). WritesOn g.D.Disk.at c.args.self.now c.args.request.now
+    (answer.Stopped c.in-Some.faults) o) c.self.view_is
+    (stays_on g.D.Disk.at c.self.inside.side c.self.inside.taken c.self.inside.beside c.self.inside.protocol
+    c.self.inside.stopped c.self.inside.changes.items c.self.invariant c.args.self.now c.self.view_is
+    c.self.inside.protocol c.self.inside.stopped c.self.inside.changes.items c.args.request.now
+    (answer.Stopped c.in-Some.faults)
     (λ s stands. (refl, refl)))
 
 pub returns-in-Ask-clause-appended : goal.returns-in-Ask-clause-appended
-returns-in-Ask-clause-appended g c s stands accepted none = absurd (subst (λ (q : Request). IsAccepted s q) c.in-Ask.is accepted)
+returns-in-Ask-clause-appended g c s stands accepted none =
+    absurd (subst (λ (q : Request). IsAccepted s q) c.in-Ask.is accepted)

@@ -33,135 +33,236 @@ use Rattle.liq_store.proofs.store.Store.carry_out.Goals as goal
 
 pub invariant_of-self : goal.invariant_of-self
 invariant_of-self g c =
-    within_same g.D.Disk.at c.self.inside.side c.self.inside.taken c.self.inside.beside c.self.inside.protocol c.prepare.new.protocol c.self.inside.stopped c.prepare.ensures.same c.self.invariant
+    within_same g.D.Disk.at c.self.inside.side c.self.inside.taken c.self.inside.beside c.self.inside.protocol
+    c.prepare.new.protocol c.self.inside.stopped c.prepare.ensures.same c.self.invariant
 
 pub invariant_of-self-in-No : goal.invariant_of-self-in-No
 invariant_of-self-in-No g c =
-    within_same g.D.Disk.at c.self.inside.side c.self.inside.taken c.self.inside.beside c.self.inside.protocol c.prepare.new.protocol c.self.inside.stopped c.prepare.ensures.same c.self.invariant
+    within_same g.D.Disk.at c.self.inside.side c.self.inside.taken c.self.inside.beside c.self.inside.protocol
+    c.prepare.new.protocol c.self.inside.stopped c.prepare.ensures.same c.self.invariant
 
 pub invariant_of-self-in-NoMemory : goal.invariant_of-self-in-NoMemory
 invariant_of-self-in-NoMemory g c =
-    within_same g.D.Disk.at c.self.inside.side c.self.inside.taken c.self.inside.beside c.self.inside.protocol c.prepare.new.protocol c.self.inside.stopped c.prepare.ensures.same c.self.invariant
+    within_same g.D.Disk.at c.self.inside.side c.self.inside.taken c.self.inside.beside c.self.inside.protocol
+    c.prepare.new.protocol c.self.inside.stopped c.prepare.ensures.same c.self.invariant
 
 pub invariant_of-self-in_default-checkpoint_after : goal.invariant_of-self-in_default-checkpoint_after
 invariant_of-self-in_default-checkpoint_after g c =
-    within_same g.D.Disk.at c.self.inside.side c.self.inside.taken c.self.inside.beside c.self.inside.protocol c.prepare.new.protocol c.self.inside.stopped c.prepare.ensures.same c.self.invariant
+    within_same g.D.Disk.at c.self.inside.side c.self.inside.taken c.self.inside.beside c.self.inside.protocol
+    c.prepare.new.protocol c.self.inside.stopped c.prepare.ensures.same c.self.invariant
 
 pub returns-in-Again-clause-order : goal.returns-in-Again-clause-order
 returns-in-Again-clause-order g c =
-    order_same g.D.Disk.at c.self.inside.changes.items _ c.self.inside.side c.self.inside.taken c.self.inside.beside c.self.inside.protocol c.prepare.new.protocol c.self.inside.stopped c.prepare.ensures.same c.self.invariant.order
+    order_same g.D.Disk.at c.self.inside.changes.items _ c.self.inside.side c.self.inside.taken c.self.inside.beside
+    c.self.inside.protocol c.prepare.new.protocol c.self.inside.stopped c.prepare.ensures.same c.self.invariant.order
 
 pub returns-in-No-clause-order : goal.returns-in-No-clause-order
 returns-in-No-clause-order g c =
-    order_same g.D.Disk.at c.self.inside.changes.items _ c.self.inside.side c.self.inside.taken c.self.inside.beside c.self.inside.protocol c.prepare.new.protocol c.self.inside.stopped c.prepare.ensures.same c.self.invariant.order
+    order_same g.D.Disk.at c.self.inside.changes.items _ c.self.inside.side c.self.inside.taken c.self.inside.beside
+    c.self.inside.protocol c.prepare.new.protocol c.self.inside.stopped c.prepare.ensures.same c.self.invariant.order
 
 pub returns-in-NoMemory-clause-order : goal.returns-in-NoMemory-clause-order
 returns-in-NoMemory-clause-order g c =
-    order_same g.D.Disk.at c.self.inside.changes.items _ c.self.inside.side c.self.inside.taken c.self.inside.beside c.self.inside.protocol c.prepare.new.protocol c.self.inside.stopped c.prepare.ensures.same c.self.invariant.order
+    order_same g.D.Disk.at c.self.inside.changes.items _ c.self.inside.side c.self.inside.taken c.self.inside.beside
+    c.self.inside.protocol c.prepare.new.protocol c.self.inside.stopped c.prepare.ensures.same c.self.invariant.order
 
 pub returns-in_default-checkpoint_after-clause-order : goal.returns-in_default-checkpoint_after-clause-order
 returns-in_default-checkpoint_after-clause-order g c =
-    order_same g.D.Disk.at c.self.inside.changes.items _ c.self.inside.side c.self.inside.taken c.self.inside.beside c.self.inside.protocol c.prepare.new.protocol c.self.inside.stopped c.prepare.ensures.same c.self.invariant.order
+    order_same g.D.Disk.at c.self.inside.changes.items _ c.self.inside.side c.self.inside.taken c.self.inside.beside
+    c.self.inside.protocol c.prepare.new.protocol c.self.inside.stopped c.prepare.ensures.same c.self.invariant.order
 
 pub returns-in-Again-clause-disks : goal.returns-in-Again-clause-disks
 returns-in-Again-clause-disks g c =
-    stays_on g.D.Disk.at c.self.inside.side c.self.inside.taken c.self.inside.beside c.self.inside.protocol c.self.inside.stopped c.self.inside.changes.items c.self.invariant c.args.self.now c.self.view_is c.prepare.new.protocol c.self.inside.stopped c.prepare.new.changes.items c.args.request.now _
-    (λ s stands. reply_stays s c.args.request.now (Said c.in-Again.done) c.self.inside.side c.self.inside.taken.start (ap (is_rotation s) c.in-Do.is ∙ repeated_stays s c.in-Do.command c.in-Again.done (c.in-Again.ensures.prepared s stands)))
+    stays_on g.D.Disk.at c.self.inside.side c.self.inside.taken c.self.inside.beside c.self.inside.protocol
+    c.self.inside.stopped c.self.inside.changes.items c.self.invariant c.args.self.now c.self.view_is
+    c.prepare.new.protocol c.self.inside.stopped c.prepare.new.changes.items c.args.request.now _
+    (λ s stands. reply_stays s c.args.request.now (Said c.in-Again.done) c.self.inside.side c.self.inside.taken.start
+    (ap (is_rotation s) c.in-Do.is ∙ repeated_stays s c.in-Do.command c.in-Again.done
+    (c.in-Again.ensures.prepared s stands)))
 
 pub returns-in-No-clause-disks : goal.returns-in-No-clause-disks
 returns-in-No-clause-disks g c =
-    stays_on g.D.Disk.at c.self.inside.side c.self.inside.taken c.self.inside.beside c.self.inside.protocol c.self.inside.stopped c.self.inside.changes.items c.self.invariant c.args.self.now c.self.view_is c.prepare.new.protocol c.self.inside.stopped c.prepare.new.changes.items c.args.request.now _
-    (λ s stands. reply_stays s c.args.request.now (No c.in-No.refusal) c.self.inside.side c.self.inside.taken.start (ap (is_rotation s) c.in-Do.is ∙ refused_stays s c.in-Do.command c.in-No.refusal (c.in-No.ensures.prepared s stands)))
+    stays_on g.D.Disk.at c.self.inside.side c.self.inside.taken c.self.inside.beside c.self.inside.protocol
+    c.self.inside.stopped c.self.inside.changes.items c.self.invariant c.args.self.now c.self.view_is
+    c.prepare.new.protocol c.self.inside.stopped c.prepare.new.changes.items c.args.request.now _
+    (λ s stands. reply_stays s c.args.request.now (No c.in-No.refusal) c.self.inside.side c.self.inside.taken.start
+    (ap (is_rotation s) c.in-Do.is ∙ refused_stays s c.in-Do.command c.in-No.refusal
+    (c.in-No.ensures.prepared s stands)))
 
 pub returns-in-NoMemory-clause-disks : goal.returns-in-NoMemory-clause-disks
 returns-in-NoMemory-clause-disks g c =
-    stays_on g.D.Disk.at c.self.inside.side c.self.inside.taken c.self.inside.beside c.self.inside.protocol c.self.inside.stopped c.self.inside.changes.items c.self.invariant c.args.self.now c.self.view_is c.prepare.new.protocol c.self.inside.stopped c.prepare.new.changes.items c.args.request.now _
+    stays_on g.D.Disk.at c.self.inside.side c.self.inside.taken c.self.inside.beside c.self.inside.protocol
+    c.self.inside.stopped c.self.inside.changes.items c.self.invariant c.args.self.now c.self.view_is
+    c.prepare.new.protocol c.self.inside.stopped c.prepare.new.changes.items c.args.request.now _
     (λ s stands. (refl, refl))
 
 pub returns-in_default-checkpoint_after-clause-disks : goal.returns-in_default-checkpoint_after-clause-disks
 returns-in_default-checkpoint_after-clause-disks g c =
-    stays_on g.D.Disk.at c.self.inside.side c.self.inside.taken c.self.inside.beside c.self.inside.protocol c.self.inside.stopped c.self.inside.changes.items c.self.invariant c.args.self.now c.self.view_is c.prepare.new.protocol c.self.inside.stopped c.prepare.new.changes.items c.args.request.now _
+    stays_on g.D.Disk.at c.self.inside.side c.self.inside.taken c.self.inside.beside c.self.inside.protocol
+    c.self.inside.stopped c.self.inside.changes.items c.self.invariant c.args.self.now c.self.view_is
+    c.prepare.new.protocol c.self.inside.stopped c.prepare.new.changes.items c.args.request.now _
     (λ s stands. (refl, refl))
 
 pub invariant_of-self-in-Err : goal.invariant_of-self-in-Err
 invariant_of-self-in-Err g c =
-    let t = turns_by g.D.Disk.at c.self.inside.side c.self.inside.taken c.self.inside.beside c.turn.new.beside c.self.inside.protocol c.self.inside.stopped c.in-Do.command c.deref.result.now (ap (λ (o : Stored g.row.D.Denot). o.stopped) c.self.view_is ∙ c.requires.going) c.self.invariant
-    (rotation_from c.self.inside.protocol c.prepare.new.protocol c.protocol.result.now c.in-Ready.planned c.in-Do.command c.in-Ok.checkpoint.items c.deref.result.now c.prepare.ensures.same c.protocol.ensures (c.in-Ready.ensures.ready.0 ∙ unhinted_rotation c.in-Do.command c.in-Rotate.is) c.deref.ensures.value c.in-Ok.ensures.rotation)
+    let t = turns_by g.D.Disk.at c.self.inside.side c.self.inside.taken c.self.inside.beside c.turn.new.beside
+    c.self.inside.protocol c.self.inside.stopped c.in-Do.command c.deref.result.now (ap (λ (o : Stored g.row.D.Denot).
+    o.stopped) c.self.view_is ∙ c.requires.going) c.self.invariant
+    (rotation_from c.self.inside.protocol c.prepare.new.protocol c.protocol.result.now c.in-Ready.planned
+    c.in-Do.command c.in-Ok.checkpoint.items c.deref.result.now c.prepare.ensures.same c.protocol.ensures
+    (c.in-Ready.ensures.ready.0 ∙ unhinted_rotation c.in-Do.command c.in-Rotate.is) c.deref.ensures.value
+    c.in-Ok.ensures.rotation)
     c.in-Err.ensures.lasts.telling c.in-Err.ensures.crash c.in-Err.ensures.lasts.time in
-    subst (λ (j : JournalOn g.row.D.Denot). IsWithin g.D.Disk.at c.self.inside.side j c.turn.new.beside c.prepare.new.protocol (Some c.sum_of_faults.result) c.prepare.new.changes.items) (sym c.in-Err.ensures.kept)
-    (turning_halts g.D.Disk.at c.self.inside.side c.self.inside.taken c.self.inside.beside c.turn.new.beside c.self.inside.protocol c.in-Do.command c.deref.result.now t g.met.D.Disk.seen_may_stay c.self.inside.stopped c.self.invariant c.prepare.new.protocol c.prepare.ensures.same c.sum_of_faults.result)
+    subst (λ (j : JournalOn g.row.D.Denot). IsWithin g.D.Disk.at c.self.inside.side j c.turn.new.beside
+    c.prepare.new.protocol (Some c.sum_of_faults.result) c.prepare.new.changes.items) (sym c.in-Err.ensures.kept)
+    (turning_halts g.D.Disk.at c.self.inside.side c.self.inside.taken c.self.inside.beside c.turn.new.beside
+    c.self.inside.protocol c.in-Do.command c.deref.result.now t g.met.D.Disk.seen_may_stay c.self.inside.stopped
+    c.self.invariant c.prepare.new.protocol c.prepare.ensures.same c.sum_of_faults.result)
 
 pub returns-in-Err-clause-order : goal.returns-in-Err-clause-order
 returns-in-Err-clause-order g c =
-    let t = turns_by g.D.Disk.at c.self.inside.side c.self.inside.taken c.self.inside.beside c.turn.new.beside c.self.inside.protocol c.self.inside.stopped c.in-Do.command c.deref.result.now (ap (λ (o : Stored g.row.D.Denot). o.stopped) c.self.view_is ∙ c.requires.going) c.self.invariant
-    (rotation_from c.self.inside.protocol c.prepare.new.protocol c.protocol.result.now c.in-Ready.planned c.in-Do.command c.in-Ok.checkpoint.items c.deref.result.now c.prepare.ensures.same c.protocol.ensures (c.in-Ready.ensures.ready.0 ∙ unhinted_rotation c.in-Do.command c.in-Rotate.is) c.deref.ensures.value c.in-Ok.ensures.rotation)
+    let t = turns_by g.D.Disk.at c.self.inside.side c.self.inside.taken c.self.inside.beside c.turn.new.beside
+    c.self.inside.protocol c.self.inside.stopped c.in-Do.command c.deref.result.now (ap (λ (o : Stored g.row.D.Denot).
+    o.stopped) c.self.view_is ∙ c.requires.going) c.self.invariant
+    (rotation_from c.self.inside.protocol c.prepare.new.protocol c.protocol.result.now c.in-Ready.planned
+    c.in-Do.command c.in-Ok.checkpoint.items c.deref.result.now c.prepare.ensures.same c.protocol.ensures
+    (c.in-Ready.ensures.ready.0 ∙ unhinted_rotation c.in-Do.command c.in-Rotate.is) c.deref.ensures.value
+    c.in-Ok.ensures.rotation)
     c.in-Err.ensures.lasts.telling c.in-Err.ensures.crash c.in-Err.ensures.lasts.time in
-    subst (λ (j : JournalOn g.row.D.Denot). IsInOrder g.D.Disk.at (stored c.self.inside.side j c.turn.new.beside c.prepare.new.protocol (Some c.sum_of_faults.result) c.prepare.new.changes.items)) (sym c.in-Err.ensures.kept)
-    (turning_halts g.D.Disk.at c.self.inside.side c.self.inside.taken c.self.inside.beside c.turn.new.beside c.self.inside.protocol c.in-Do.command c.deref.result.now t {changes = c.prepare.new.changes.items} g.met.D.Disk.seen_may_stay c.self.inside.stopped c.self.invariant c.prepare.new.protocol c.prepare.ensures.same c.sum_of_faults.result).order
+    subst (λ (j : JournalOn g.row.D.Denot). IsInOrder g.D.Disk.at (stored c.self.inside.side j c.turn.new.beside
+    c.prepare.new.protocol (Some c.sum_of_faults.result) c.prepare.new.changes.items)) (sym c.in-Err.ensures.kept)
+    (turning_halts g.D.Disk.at c.self.inside.side c.self.inside.taken c.self.inside.beside c.turn.new.beside
+    c.self.inside.protocol c.in-Do.command c.deref.result.now t {changes = c.prepare.new.changes.items}
+    g.met.D.Disk.seen_may_stay c.self.inside.stopped c.self.invariant c.prepare.new.protocol c.prepare.ensures.same
+    c.sum_of_faults.result).order
 
 pub returns-in-Err-clause-disks : goal.returns-in-Err-clause-disks
 returns-in-Err-clause-disks g c =
-    let t = turns_by g.D.Disk.at c.self.inside.side c.self.inside.taken c.self.inside.beside c.turn.new.beside c.self.inside.protocol c.self.inside.stopped c.in-Do.command c.deref.result.now (ap (λ (o : Stored g.row.D.Denot). o.stopped) c.self.view_is ∙ c.requires.going) c.self.invariant
-    (rotation_from c.self.inside.protocol c.prepare.new.protocol c.protocol.result.now c.in-Ready.planned c.in-Do.command c.in-Ok.checkpoint.items c.deref.result.now c.prepare.ensures.same c.protocol.ensures (c.in-Ready.ensures.ready.0 ∙ unhinted_rotation c.in-Do.command c.in-Rotate.is) c.deref.ensures.value c.in-Ok.ensures.rotation)
+    let t = turns_by g.D.Disk.at c.self.inside.side c.self.inside.taken c.self.inside.beside c.turn.new.beside
+    c.self.inside.protocol c.self.inside.stopped c.in-Do.command c.deref.result.now (ap (λ (o : Stored g.row.D.Denot).
+    o.stopped) c.self.view_is ∙ c.requires.going) c.self.invariant
+    (rotation_from c.self.inside.protocol c.prepare.new.protocol c.protocol.result.now c.in-Ready.planned
+    c.in-Do.command c.in-Ok.checkpoint.items c.deref.result.now c.prepare.ensures.same c.protocol.ensures
+    (c.in-Ready.ensures.ready.0 ∙ unhinted_rotation c.in-Do.command c.in-Rotate.is) c.deref.ensures.value
+    c.in-Ok.ensures.rotation)
     c.in-Err.ensures.lasts.telling c.in-Err.ensures.crash c.in-Err.ensures.lasts.time in
-    subst (λ (j : JournalOn g.row.D.Denot). WritesOn g.D.Disk.at c.args.self.now c.args.request.now answer.DiskFault (stored c.self.inside.side j c.turn.new.beside c.prepare.new.protocol (Some c.sum_of_faults.result) c.prepare.new.changes.items)) (sym c.in-Err.ensures.kept)
-    (turning_failed g.D.Disk.at c.self.inside.side c.self.inside.taken c.self.inside.beside c.turn.new.beside c.self.inside.protocol c.in-Do.command c.deref.result.now t c.self.inside.stopped c.self.inside.changes.items c.self.invariant c.args.self.now c.self.view_is c.args.request.now c.in-Do.is c.prepare.new.protocol (Some c.sum_of_faults.result) c.prepare.new.changes.items)
+    subst (λ (j : JournalOn g.row.D.Denot). WritesOn g.D.Disk.at c.args.self.now c.args.request.now answer.DiskFault
+    (stored c.self.inside.side j c.turn.new.beside c.prepare.new.protocol (Some c.sum_of_faults.result)
+    c.prepare.new.changes.items)) (sym c.in-Err.ensures.kept)
+    (turning_failed g.D.Disk.at c.self.inside.side c.self.inside.taken c.self.inside.beside c.turn.new.beside
+    c.self.inside.protocol c.in-Do.command c.deref.result.now t c.self.inside.stopped c.self.inside.changes.items
+    c.self.invariant c.args.self.now c.self.view_is c.args.request.now c.in-Do.is c.prepare.new.protocol
+    (Some c.sum_of_faults.result) c.prepare.new.changes.items)
 
 pub invariant_of-self-in-Rotate : goal.invariant_of-self-in-Rotate
 invariant_of-self-in-Rotate g c =
-    let t = turns_by g.D.Disk.at c.self.inside.side c.self.inside.taken c.self.inside.beside c.turn.new.taken.disk c.self.inside.protocol c.self.inside.stopped c.in-Do.command c.deref.result.now (ap (λ (o : Stored g.row.D.Denot). o.stopped) c.self.view_is ∙ c.requires.going) c.self.invariant
-    (rotation_from c.self.inside.protocol c.prepare.new.protocol c.protocol.result.now c.in-Ready.planned c.in-Do.command c.in-Ok.checkpoint.items c.deref.result.now c.prepare.ensures.same c.protocol.ensures (c.in-Ready.ensures.ready.0 ∙ unhinted_rotation c.in-Do.command c.in-Rotate.is) c.deref.ensures.value c.in-Ok.ensures.rotation)
+    let t = turns_by g.D.Disk.at c.self.inside.side c.self.inside.taken c.self.inside.beside c.turn.new.taken.disk
+    c.self.inside.protocol c.self.inside.stopped c.in-Do.command c.deref.result.now (ap (λ (o : Stored g.row.D.Denot).
+    o.stopped) c.self.view_is ∙ c.requires.going) c.self.invariant
+    (rotation_from c.self.inside.protocol c.prepare.new.protocol c.protocol.result.now c.in-Ready.planned
+    c.in-Do.command c.in-Ok.checkpoint.items c.deref.result.now c.prepare.ensures.same c.protocol.ensures
+    (c.in-Ready.ensures.ready.0 ∙ unhinted_rotation c.in-Do.command c.in-Rotate.is) c.deref.ensures.value
+    c.in-Ok.ensures.rotation)
     c.in-Ok-turn.ensures.lasts.telling c.in-Ok-turn.ensures.crash c.in-Ok-turn.ensures.lasts.time in
-    subst (λ (x : Side). IsWithin g.D.Disk.at x c.turn.new.taken c.turn.new.beside c.make-done.new.protocol c.self.inside.stopped c.prepare.new.changes.items) (sym c.in-Ok-turn.ensures.side)
-    (subst (λ (d : g.row.D.Denot). IsWithin g.D.Disk.at (other c.self.inside.side) c.turn.new.taken d c.make-done.new.protocol c.self.inside.stopped c.prepare.new.changes.items) (sym c.in-Ok-turn.ensures.exchanged)
-    (subst (λ (o : Option ℕ). IsWithin g.D.Disk.at (other c.self.inside.side) c.turn.new.taken c.self.inside.taken.disk c.make-done.new.protocol o c.prepare.new.changes.items) (sym (ap (λ (o : Stored g.row.D.Denot). o.stopped) c.self.view_is ∙ c.requires.going))
-    (turning_within g.D.Disk.at c.self.inside.side c.self.inside.taken c.self.inside.beside c.turn.new.taken.disk c.self.inside.protocol c.in-Do.command c.deref.result.now t c.make-done.new.protocol (state_of c.self.inside.protocol) c.prepare.ensures.stands (λ t so. let is = c.in-Ready.ensures.prepared t so in prepared_steps c.make-done.new.protocol t c.in-Do.command c.in-Ready.planned is (c.make-done.ensures.state t (stands_after c.self.inside.protocol c.prepare.new.protocol t c.prepare.ensures.same so))) c.in-Ok-turn.ensures.durable c.in-Ok-turn.ensures.created
-    c.turn.new.taken.generation c.turn.new.taken.limit c.turn.new.taken.start c.turn.new.taken.count c.in-Ok-turn.ensures.known.0 c.in-Ok-turn.ensures.known.3 c.in-Ok-turn.ensures.settled)))
+    subst (λ (x : Side). IsWithin g.D.Disk.at x c.turn.new.taken c.turn.new.beside c.make-done.new.protocol
+    c.self.inside.stopped c.prepare.new.changes.items) (sym c.in-Ok-turn.ensures.side)
+    (subst (λ (d : g.row.D.Denot). IsWithin g.D.Disk.at (other c.self.inside.side) c.turn.new.taken d
+    c.make-done.new.protocol c.self.inside.stopped c.prepare.new.changes.items) (sym c.in-Ok-turn.ensures.exchanged)
+    (subst (λ (o : Option ℕ). IsWithin g.D.Disk.at (other c.self.inside.side) c.turn.new.taken c.self.inside.taken.disk
+    c.make-done.new.protocol o c.prepare.new.changes.items)
+    (sym (ap (λ (o : Stored g.row.D.Denot). o.stopped) c.self.view_is ∙ c.requires.going))
+    (turning_within g.D.Disk.at c.self.inside.side c.self.inside.taken c.self.inside.beside c.turn.new.taken.disk
+    c.self.inside.protocol c.in-Do.command c.deref.result.now t c.make-done.new.protocol
+    (state_of c.self.inside.protocol) c.prepare.ensures.stands (λ t so. let is = c.in-Ready.ensures.prepared t so
+    in prepared_steps c.make-done.new.protocol t c.in-Do.command c.in-Ready.planned is (c.make-done.ensures.state t
+    (stands_after c.self.inside.protocol c.prepare.new.protocol t c.prepare.ensures.same so)))
+    c.in-Ok-turn.ensures.durable c.in-Ok-turn.ensures.created
+    c.turn.new.taken.generation c.turn.new.taken.limit c.turn.new.taken.start c.turn.new.taken.count
+    c.in-Ok-turn.ensures.known.0 c.in-Ok-turn.ensures.known.3 c.in-Ok-turn.ensures.settled)))
 
 pub returns-in-Rotate-clause-order : goal.returns-in-Rotate-clause-order
 returns-in-Rotate-clause-order g c =
-    let t = turns_by g.D.Disk.at c.self.inside.side c.self.inside.taken c.self.inside.beside c.turn.new.taken.disk c.self.inside.protocol c.self.inside.stopped c.in-Do.command c.deref.result.now (ap (λ (o : Stored g.row.D.Denot). o.stopped) c.self.view_is ∙ c.requires.going) c.self.invariant
-    (rotation_from c.self.inside.protocol c.prepare.new.protocol c.protocol.result.now c.in-Ready.planned c.in-Do.command c.in-Ok.checkpoint.items c.deref.result.now c.prepare.ensures.same c.protocol.ensures (c.in-Ready.ensures.ready.0 ∙ unhinted_rotation c.in-Do.command c.in-Rotate.is) c.deref.ensures.value c.in-Ok.ensures.rotation)
+    let t = turns_by g.D.Disk.at c.self.inside.side c.self.inside.taken c.self.inside.beside c.turn.new.taken.disk
+    c.self.inside.protocol c.self.inside.stopped c.in-Do.command c.deref.result.now (ap (λ (o : Stored g.row.D.Denot).
+    o.stopped) c.self.view_is ∙ c.requires.going) c.self.invariant
+    (rotation_from c.self.inside.protocol c.prepare.new.protocol c.protocol.result.now c.in-Ready.planned
+    c.in-Do.command c.in-Ok.checkpoint.items c.deref.result.now c.prepare.ensures.same c.protocol.ensures
+    (c.in-Ready.ensures.ready.0 ∙ unhinted_rotation c.in-Do.command c.in-Rotate.is) c.deref.ensures.value
+    c.in-Ok.ensures.rotation)
     c.in-Ok-turn.ensures.lasts.telling c.in-Ok-turn.ensures.crash c.in-Ok-turn.ensures.lasts.time in
-    subst (λ (x : Side). IsInOrder g.D.Disk.at (stored x c.turn.new.taken c.turn.new.beside c.make-done.new.protocol c.self.inside.stopped c.prepare.new.changes.items)) (sym c.in-Ok-turn.ensures.side)
-    (subst (λ (d : g.row.D.Denot). IsInOrder g.D.Disk.at (stored (other c.self.inside.side) c.turn.new.taken d c.make-done.new.protocol c.self.inside.stopped c.prepare.new.changes.items)) (sym c.in-Ok-turn.ensures.exchanged)
-    (subst (λ (o : Option ℕ). IsInOrder g.D.Disk.at (stored (other c.self.inside.side) c.turn.new.taken c.self.inside.taken.disk c.make-done.new.protocol o c.prepare.new.changes.items)) (sym (ap (λ (o : Stored g.row.D.Denot). o.stopped) c.self.view_is ∙ c.requires.going))
-    (turning_within g.D.Disk.at c.self.inside.side c.self.inside.taken c.self.inside.beside c.turn.new.taken.disk c.self.inside.protocol c.in-Do.command c.deref.result.now t {changes = c.prepare.new.changes.items} c.make-done.new.protocol (state_of c.self.inside.protocol) c.prepare.ensures.stands (λ t so. let is = c.in-Ready.ensures.prepared t so in prepared_steps c.make-done.new.protocol t c.in-Do.command c.in-Ready.planned is (c.make-done.ensures.state t (stands_after c.self.inside.protocol c.prepare.new.protocol t c.prepare.ensures.same so))) c.in-Ok-turn.ensures.durable c.in-Ok-turn.ensures.created
-    c.turn.new.taken.generation c.turn.new.taken.limit c.turn.new.taken.start c.turn.new.taken.count c.in-Ok-turn.ensures.known.0 c.in-Ok-turn.ensures.known.3 c.in-Ok-turn.ensures.settled).order))
+    subst (λ (x : Side). IsInOrder g.D.Disk.at (stored x c.turn.new.taken c.turn.new.beside c.make-done.new.protocol
+    c.self.inside.stopped c.prepare.new.changes.items)) (sym c.in-Ok-turn.ensures.side)
+    (subst (λ (d : g.row.D.Denot). IsInOrder g.D.Disk.at (stored (other c.self.inside.side) c.turn.new.taken d
+    c.make-done.new.protocol c.self.inside.stopped c.prepare.new.changes.items)) (sym c.in-Ok-turn.ensures.exchanged)
+    (subst (λ (o : Option ℕ). IsInOrder g.D.Disk.at (stored (other c.self.inside.side) c.turn.new.taken
+    c.self.inside.taken.disk c.make-done.new.protocol o c.prepare.new.changes.items))
+    (sym (ap (λ (o : Stored g.row.D.Denot). o.stopped) c.self.view_is ∙ c.requires.going))
+    (turning_within g.D.Disk.at c.self.inside.side c.self.inside.taken c.self.inside.beside c.turn.new.taken.disk
+    c.self.inside.protocol c.in-Do.command c.deref.result.now t {changes = c.prepare.new.changes.items}
+    c.make-done.new.protocol (state_of c.self.inside.protocol) c.prepare.ensures.stands
+    (λ t so. let is = c.in-Ready.ensures.prepared t so
+    in prepared_steps c.make-done.new.protocol t c.in-Do.command c.in-Ready.planned is (c.make-done.ensures.state t
+    (stands_after c.self.inside.protocol c.prepare.new.protocol t c.prepare.ensures.same so)))
+    c.in-Ok-turn.ensures.durable c.in-Ok-turn.ensures.created
+    c.turn.new.taken.generation c.turn.new.taken.limit c.turn.new.taken.start c.turn.new.taken.count
+    c.in-Ok-turn.ensures.known.0 c.in-Ok-turn.ensures.known.3 c.in-Ok-turn.ensures.settled).order))
 
 pub returns-in-Rotate-clause-disks : goal.returns-in-Rotate-clause-disks
 returns-in-Rotate-clause-disks g c =
-    let t = turns_by g.D.Disk.at c.self.inside.side c.self.inside.taken c.self.inside.beside c.turn.new.taken.disk c.self.inside.protocol c.self.inside.stopped c.in-Do.command c.deref.result.now (ap (λ (o : Stored g.row.D.Denot). o.stopped) c.self.view_is ∙ c.requires.going) c.self.invariant
-    (rotation_from c.self.inside.protocol c.prepare.new.protocol c.protocol.result.now c.in-Ready.planned c.in-Do.command c.in-Ok.checkpoint.items c.deref.result.now c.prepare.ensures.same c.protocol.ensures (c.in-Ready.ensures.ready.0 ∙ unhinted_rotation c.in-Do.command c.in-Rotate.is) c.deref.ensures.value c.in-Ok.ensures.rotation)
+    let t = turns_by g.D.Disk.at c.self.inside.side c.self.inside.taken c.self.inside.beside c.turn.new.taken.disk
+    c.self.inside.protocol c.self.inside.stopped c.in-Do.command c.deref.result.now (ap (λ (o : Stored g.row.D.Denot).
+    o.stopped) c.self.view_is ∙ c.requires.going) c.self.invariant
+    (rotation_from c.self.inside.protocol c.prepare.new.protocol c.protocol.result.now c.in-Ready.planned
+    c.in-Do.command c.in-Ok.checkpoint.items c.deref.result.now c.prepare.ensures.same c.protocol.ensures
+    (c.in-Ready.ensures.ready.0 ∙ unhinted_rotation c.in-Do.command c.in-Rotate.is) c.deref.ensures.value
+    c.in-Ok.ensures.rotation)
     c.in-Ok-turn.ensures.lasts.telling c.in-Ok-turn.ensures.crash c.in-Ok-turn.ensures.lasts.time in
-    subst (λ (x : Side). WritesOn g.D.Disk.at c.args.self.now c.args.request.now (answer.Reply (Said c.make-done.result)) (stored x c.turn.new.taken c.turn.new.beside c.make-done.new.protocol c.self.inside.stopped c.prepare.new.changes.items)) (sym c.in-Ok-turn.ensures.side)
-    (subst (λ (d : g.row.D.Denot). WritesOn g.D.Disk.at c.args.self.now c.args.request.now (answer.Reply (Said c.make-done.result)) (stored (other c.self.inside.side) c.turn.new.taken d c.make-done.new.protocol c.self.inside.stopped c.prepare.new.changes.items)) (sym c.in-Ok-turn.ensures.exchanged)
-    (turning_done g.D.Disk.at c.self.inside.side c.self.inside.taken c.self.inside.beside c.turn.new.taken.disk c.self.inside.protocol c.in-Do.command c.deref.result.now t c.self.inside.stopped c.self.inside.changes.items c.self.invariant c.args.self.now c.self.view_is c.args.request.now c.in-Do.is (Said c.make-done.result) c.make-done.new.protocol c.self.inside.stopped c.prepare.new.changes.items c.turn.new.taken.generation c.turn.new.taken.limit c.turn.new.taken.start c.turn.new.taken.count c.in-Ok-turn.ensures.known.2))
+    subst (λ (x : Side). WritesOn g.D.Disk.at c.args.self.now c.args.request.now
+    (answer.Reply (Said c.make-done.result)) (stored x c.turn.new.taken c.turn.new.beside c.make-done.new.protocol
+    c.self.inside.stopped c.prepare.new.changes.items)) (sym c.in-Ok-turn.ensures.side)
+    (subst (λ (d : g.row.D.Denot). WritesOn g.D.Disk.at c.args.self.now c.args.request.now
+    (answer.Reply (Said c.make-done.result)) (stored (other c.self.inside.side) c.turn.new.taken d
+    c.make-done.new.protocol c.self.inside.stopped c.prepare.new.changes.items)) (sym c.in-Ok-turn.ensures.exchanged)
+    (turning_done g.D.Disk.at c.self.inside.side c.self.inside.taken c.self.inside.beside c.turn.new.taken.disk
+    c.self.inside.protocol c.in-Do.command c.deref.result.now t c.self.inside.stopped c.self.inside.changes.items
+    c.self.invariant c.args.self.now c.self.view_is c.args.request.now c.in-Do.is (Said c.make-done.result)
+    c.make-done.new.protocol c.self.inside.stopped c.prepare.new.changes.items c.turn.new.taken.generation
+    c.turn.new.taken.limit c.turn.new.taken.start c.turn.new.taken.count c.in-Ok-turn.ensures.known.2))
 
 pub returns-in-Rotate-clause-step : goal.returns-in-Rotate-clause-step
 returns-in-Rotate-clause-step g c s stands =
-    let here : StandsFor c.self.inside.protocol s = subst (λ (o : Stored g.row.D.Denot). StandsFor o.core s) (sym c.self.view_is) stands in
+    let here : StandsFor c.self.inside.protocol s = subst (λ (o : Stored g.row.D.Denot). StandsFor o.core s)
+    (sym c.self.view_is) stands in
     let there = stands_after c.self.inside.protocol c.prepare.new.protocol s c.prepare.ensures.same here in
-    replied c.make-done.new.protocol s c.in-Do.command c.in-Ready.planned c.args.request.now c.make-done.result c.in-Do.is (c.in-Ready.ensures.prepared s here).0 (c.make-done.ensures.state s there) (c.make-done.ensures.reply s there)
+    replied c.make-done.new.protocol s c.in-Do.command c.in-Ready.planned c.args.request.now c.make-done.result
+    c.in-Do.is (c.in-Ready.ensures.prepared s here).0 (c.make-done.ensures.state s there)
+    (c.make-done.ensures.reply s there)
 
 pub returns-clause-step : goal.returns-clause-step
 returns-clause-step g c s stands =
-    let here : StandsFor c.self.inside.protocol s = subst (λ (o : Stored g.row.D.Denot). StandsFor o.core s) (sym c.self.view_is) stands in
+    let here : StandsFor c.self.inside.protocol s = subst (λ (o : Stored g.row.D.Denot). StandsFor o.core s)
+    (sym c.self.view_is) stands in
     let there = stands_after c.self.inside.protocol c.prepare.new.protocol s c.prepare.ensures.same here in
-    replied c.make-done-2.new.protocol s c.in-Do.command c.in-Ready.planned c.args.request.now c.make-done-2.result c.in-Do.is (c.in-Ready.ensures.prepared s here).0 (c.make-done-2.ensures.state s there) (c.make-done-2.ensures.reply s there)
+    replied c.make-done-2.new.protocol s c.in-Do.command c.in-Ready.planned c.args.request.now c.make-done-2.result
+    c.in-Do.is (c.in-Ready.ensures.prepared s here).0 (c.make-done-2.ensures.state s there)
+    (c.make-done-2.ensures.reply s there)
 
 pub returns-in-Err-write_record-clause-step : goal.returns-in-Err-write_record-clause-step
 returns-in-Err-write_record-clause-step g c s stands =
-    let here : StandsFor c.self.inside.protocol s = subst (λ (o : Stored g.row.D.Denot). StandsFor o.core s) (sym c.self.view_is) stands in (
+    let here : StandsFor c.self.inside.protocol s = subst (λ (o : Stored g.row.D.Denot). StandsFor o.core s)
+    (sym c.self.view_is) stands in (
       stands_after c.self.inside.protocol c.prepare.new.protocol s c.prepare.ensures.same here,
-      subst (IsAccepted s) (sym c.in-Do.is) (prepared_allowed s c.in-Do.command c.in-Ready.planned (c.in-Ready.ensures.prepared s here)),
+      subst (IsAccepted s) (sym c.in-Do.is) (prepared_allowed s c.in-Do.command c.in-Ready.planned
+          (c.in-Ready.ensures.prepared s here)),
     )
 
 pub returns-clause-told : goal.returns-clause-told
 returns-clause-told g c s stands =
-    let here : StandsFor c.self.inside.protocol s = subst (λ (o : Stored g.row.D.Denot). StandsFor o.core s) (sym c.self.view_is) stands in
+    let here : StandsFor c.self.inside.protocol s = subst (λ (o : Stored g.row.D.Denot). StandsFor o.core s)
+    (sym c.self.view_is) stands in
     let was = c.prepare.ensures.changes ∙ ap (λ (o : Stored g.row.D.Denot). o.changes) c.self.view_is in
-    let more = c.list_changes.ensures ∙ prepared_told s c.in-Do.command c.in-Ready.planned c.args.request.now c.in-Do.is (c.in-Ready.ensures.prepared s here) in
+    let more = c.list_changes.ensures ∙ prepared_told s c.in-Do.command c.in-Ready.planned c.args.request.now c.in-Do.is
+    (c.in-Ready.ensures.prepared s here) in
     c.note.ensures ∙ (λ i. was i ++ more i)
 
 pub write_record-requires-clause-stays : goal.write_record-requires-clause-stays
@@ -169,68 +270,144 @@ write_record-requires-clause-stays g c = not_rotate c.in-Do.command.call c.in_de
 
 pub write_record-requires-clause-few : goal.write_record-requires-clause-few
 write_record-requires-clause-few g c =
-    let few = c.in-Ready.ensures.ready.2 (not_rotate c.in-Do.command.call c.in_default.not-Rotate) in omega (arith, few, c.prepare.ensures.same.records, c.self.invariant.count_is)
+    let few = c.in-Ready.ensures.ready.2 (not_rotate c.in-Do.command.call c.in_default.not-Rotate)
+    in omega (arith, few, c.prepare.ensures.same.records, c.self.invariant.count_is)
 
 pub invariant_of-self-in-Err-write_record : goal.invariant_of-self-in-Err-write_record
 invariant_of-self-in-Err-write_record g c =
-    let a = appends g.D.Disk.at c.self.inside.side c.self.inside.taken c.write_record.new.taken c.self.inside.beside c.self.inside.protocol c.self.inside.stopped c.in-Do.command c.in-Ready.planned (ap (λ (o : Stored g.row.D.Denot). o.stopped) c.self.view_is ∙ c.requires.going) c.self.invariant c.in-Ready.ensures.prepared c.write_record.ensures.called.lasts.telling c.write_record.ensures.crash in
+    let a = appends g.D.Disk.at c.self.inside.side c.self.inside.taken c.write_record.new.taken c.self.inside.beside
+    c.self.inside.protocol c.self.inside.stopped c.in-Do.command c.in-Ready.planned (ap (λ (o : Stored g.row.D.Denot).
+    o.stopped) c.self.view_is ∙ c.requires.going) c.self.invariant c.in-Ready.ensures.prepared
+    c.write_record.ensures.called.lasts.telling c.write_record.ensures.crash in
     record {
-      order = order_same g.D.Disk.at c.self.inside.changes.items _ c.self.inside.side c.write_record.new.taken c.self.inside.beside c.self.inside.protocol c.prepare.new.protocol (Some c.sum_of_faults-in-Err-write_record.result) c.prepare.ensures.same (order_halted g.D.Disk.at c.self.inside.side c.write_record.new.taken c.self.inside.beside c.self.inside.protocol c.sum_of_faults-in-Err-write_record.result g.met.D.Disk.seen_may_stay (kept_near g.D.Disk.at c.self.inside.side c.self.inside.taken c.write_record.new.taken c.self.inside.beside c.self.inside.protocol c.in-Do.command a));
-      generation_is = (ap (λ j. j.generation) c.write_record.ensures.same) ∙ c.self.invariant.generation_is ∙ sym (ap (λ (i : Image). i.generation) c.prepare.ensures.same.image);
+      order = order_same g.D.Disk.at c.self.inside.changes.items _ c.self.inside.side c.write_record.new.taken
+          c.self.inside.beside c.self.inside.protocol c.prepare.new.protocol
+          (Some c.sum_of_faults-in-Err-write_record.result) c.prepare.ensures.same
+          (order_halted g.D.Disk.at c.self.inside.side c.write_record.new.taken c.self.inside.beside
+          c.self.inside.protocol c.sum_of_faults-in-Err-write_record.result g.met.D.Disk.seen_may_stay
+          (kept_near g.D.Disk.at c.self.inside.side c.self.inside.taken c.write_record.new.taken c.self.inside.beside
+          c.self.inside.protocol c.in-Do.command a));
+      generation_is = (ap (λ j. j.generation) c.write_record.ensures.same) ∙ c.self.invariant.generation_is
+          ∙ sym (ap (λ (i : Image). i.generation) c.prepare.ensures.same.image);
       parity_is = ap is_odd (ap (λ j. j.generation) c.write_record.ensures.same) ∙ c.self.invariant.parity_is;
       count_is = c.in-Err-write_record.ensures.no_more ∙ c.self.invariant.count_is ∙ sym c.prepare.ensures.same.records;
-      told = has_same (g.D.Disk.at c.write_record.new.taken.disk).seen c.self.inside.taken.generation c.self.inside.taken.start c.self.inside.taken.count c.write_record.new.taken.generation c.write_record.new.taken.start c.write_record.new.taken.count (ap (λ j. j.generation) c.write_record.ensures.same) (ap (λ j. j.start) c.write_record.ensures.same) c.in-Err-write_record.ensures.no_more (still_has g.D.Disk.at c.self.inside.side c.self.inside.taken c.write_record.new.taken c.self.inside.beside c.self.inside.protocol c.in-Do.command a g.met.D.Disk.seen_may_stay);
+      told = has_same (g.D.Disk.at c.write_record.new.taken.disk).seen c.self.inside.taken.generation
+          c.self.inside.taken.start c.self.inside.taken.count c.write_record.new.taken.generation
+          c.write_record.new.taken.start c.write_record.new.taken.count
+          (ap (λ j. j.generation) c.write_record.ensures.same) (ap (λ j. j.start) c.write_record.ensures.same)
+          c.in-Err-write_record.ensures.no_more (still_has g.D.Disk.at c.self.inside.side c.self.inside.taken
+          c.write_record.new.taken c.self.inside.beside c.self.inside.protocol c.in-Do.command a
+          g.met.D.Disk.seen_may_stay);
       settled = λ no. absurd (some_isnt_none c.sum_of_faults-in-Err-write_record.result no);
     }
 
 pub returns-in-Err-write_record-clause-order : goal.returns-in-Err-write_record-clause-order
 returns-in-Err-write_record-clause-order g c =
-    let a = appends g.D.Disk.at c.self.inside.side c.self.inside.taken c.write_record.new.taken c.self.inside.beside c.self.inside.protocol c.self.inside.stopped c.in-Do.command c.in-Ready.planned (ap (λ (o : Stored g.row.D.Denot). o.stopped) c.self.view_is ∙ c.requires.going) c.self.invariant c.in-Ready.ensures.prepared c.write_record.ensures.called.lasts.telling c.write_record.ensures.crash in
-    order_same g.D.Disk.at c.self.inside.changes.items _ c.self.inside.side c.write_record.new.taken c.self.inside.beside c.self.inside.protocol c.prepare.new.protocol (Some c.sum_of_faults-in-Err-write_record.result) c.prepare.ensures.same (order_halted g.D.Disk.at c.self.inside.side c.write_record.new.taken c.self.inside.beside c.self.inside.protocol c.sum_of_faults-in-Err-write_record.result g.met.D.Disk.seen_may_stay (kept_near g.D.Disk.at c.self.inside.side c.self.inside.taken c.write_record.new.taken c.self.inside.beside c.self.inside.protocol c.in-Do.command a))
+    let a = appends g.D.Disk.at c.self.inside.side c.self.inside.taken c.write_record.new.taken c.self.inside.beside
+    c.self.inside.protocol c.self.inside.stopped c.in-Do.command c.in-Ready.planned (ap (λ (o : Stored g.row.D.Denot).
+    o.stopped) c.self.view_is ∙ c.requires.going) c.self.invariant c.in-Ready.ensures.prepared
+    c.write_record.ensures.called.lasts.telling c.write_record.ensures.crash in
+    order_same g.D.Disk.at c.self.inside.changes.items _ c.self.inside.side c.write_record.new.taken
+    c.self.inside.beside c.self.inside.protocol c.prepare.new.protocol
+    (Some c.sum_of_faults-in-Err-write_record.result) c.prepare.ensures.same
+    (order_halted g.D.Disk.at c.self.inside.side c.write_record.new.taken c.self.inside.beside c.self.inside.protocol
+    c.sum_of_faults-in-Err-write_record.result g.met.D.Disk.seen_may_stay (kept_near g.D.Disk.at c.self.inside.side
+    c.self.inside.taken c.write_record.new.taken c.self.inside.beside c.self.inside.protocol c.in-Do.command a))
 
 pub returns-in-Err-write_record-clause-disks : goal.returns-in-Err-write_record-clause-disks
 returns-in-Err-write_record-clause-disks g c =
-    let a = appends g.D.Disk.at c.self.inside.side c.self.inside.taken c.write_record.new.taken c.self.inside.beside c.self.inside.protocol c.self.inside.stopped c.in-Do.command c.in-Ready.planned (ap (λ (o : Stored g.row.D.Denot). o.stopped) c.self.view_is ∙ c.requires.going) c.self.invariant c.in-Ready.ensures.prepared c.write_record.ensures.called.lasts.telling c.write_record.ensures.crash in
-    appends_on g.D.Disk.at c.self.inside.side c.self.inside.taken c.write_record.new.taken c.self.inside.beside c.self.inside.protocol c.in-Do.command a c.args.self.now c.self.inside.stopped c.self.view_is c.args.request.now c.in-Do.is (not_rotate c.in-Do.command.call c.in_default.not-Rotate) (ap (λ j. j.start) c.write_record.ensures.same) c.write_record.ensures.called.lasts.time answer.DiskFault (λ none. absurd (cc (none))) c.prepare.new.protocol (Some c.sum_of_faults-in-Err-write_record.result) c.prepare.new.changes.items
+    let a = appends g.D.Disk.at c.self.inside.side c.self.inside.taken c.write_record.new.taken c.self.inside.beside
+    c.self.inside.protocol c.self.inside.stopped c.in-Do.command c.in-Ready.planned (ap (λ (o : Stored g.row.D.Denot).
+    o.stopped) c.self.view_is ∙ c.requires.going) c.self.invariant c.in-Ready.ensures.prepared
+    c.write_record.ensures.called.lasts.telling c.write_record.ensures.crash in
+    appends_on g.D.Disk.at c.self.inside.side c.self.inside.taken c.write_record.new.taken c.self.inside.beside
+    c.self.inside.protocol c.in-Do.command a c.args.self.now c.self.inside.stopped c.self.view_is c.args.request.now
+    c.in-Do.is (not_rotate c.in-Do.command.call c.in_default.not-Rotate)
+    (ap (λ j. j.start) c.write_record.ensures.same) c.write_record.ensures.called.lasts.time answer.DiskFault
+    (λ none. absurd (cc (none))) c.prepare.new.protocol (Some c.sum_of_faults-in-Err-write_record.result)
+    c.prepare.new.changes.items
 
 pub invariant_of-self-2 : goal.invariant_of-self-2
 invariant_of-self-2 g c =
-    let a = appends g.D.Disk.at c.self.inside.side c.self.inside.taken c.write_record.new.taken c.self.inside.beside c.self.inside.protocol c.self.inside.stopped c.in-Do.command c.in-Ready.planned (ap (λ (o : Stored g.row.D.Denot). o.stopped) c.self.view_is ∙ c.requires.going) c.self.invariant c.in-Ready.ensures.prepared c.write_record.ensures.called.lasts.telling c.write_record.ensures.crash in
+    let a = appends g.D.Disk.at c.self.inside.side c.self.inside.taken c.write_record.new.taken c.self.inside.beside
+    c.self.inside.protocol c.self.inside.stopped c.in-Do.command c.in-Ready.planned (ap (λ (o : Stored g.row.D.Denot).
+    o.stopped) c.self.view_is ∙ c.requires.going) c.self.invariant c.in-Ready.ensures.prepared
+    c.write_record.ensures.called.lasts.telling c.write_record.ensures.crash in
     let settled = c.in-Ok-write_record.ensures.settled in
     let s = state_of c.self.inside.protocol in
     let stands = c.prepare.ensures.stands in
-    let steps : (t : State) → StandsFor c.self.inside.protocol t → StandsFor c.make-done-2.new.protocol (after t c.in-Do.command) = (λ t so. let is = c.in-Ready.ensures.prepared t so in prepared_steps c.make-done-2.new.protocol t c.in-Do.command c.in-Ready.planned is (c.make-done-2.ensures.state t (stands_after c.self.inside.protocol c.prepare.new.protocol t c.prepare.ensures.same so))) in
+    let steps : (t : State) → StandsFor c.self.inside.protocol t
+    → StandsFor c.make-done-2.new.protocol (after t c.in-Do.command) =
+    (λ t so. let is = c.in-Ready.ensures.prepared t so
+    in prepared_steps c.make-done-2.new.protocol t c.in-Do.command c.in-Ready.planned is
+    (c.make-done-2.ensures.state t (stands_after c.self.inside.protocol c.prepare.new.protocol t
+    c.prepare.ensures.same so))) in
     let step = steps s stands in
     let stays = never_rotates c.in-Do.command.call (not_rotate c.in-Do.command.call c.in_default.not-Rotate) in
     let counted = counts_on c.self.inside.protocol c.make-done-2.new.protocol s c.in-Do.command stays stands step in
     record {
-      order = subst (λ (o : Option ℕ). IsInOrder g.D.Disk.at (stored c.self.inside.side c.write_record.new.taken c.self.inside.beside c.make-done-2.new.protocol o c.note.new.changes.items)) (sym (ap (λ (o : Stored g.row.D.Denot). o.stopped) c.self.view_is ∙ c.requires.going)) (order_going g.D.Disk.at c.self.inside.side c.write_record.new.taken c.self.inside.beside c.make-done-2.new.protocol (went_on g.D.Disk.at c.self.inside.side c.self.inside.taken c.write_record.new.taken c.self.inside.beside c.self.inside.protocol c.in-Do.command a c.make-done-2.new.protocol (state_of c.self.inside.protocol) c.prepare.ensures.stands (λ t so. let is = c.in-Ready.ensures.prepared t so in prepared_steps c.make-done-2.new.protocol t c.in-Do.command c.in-Ready.planned is (c.make-done-2.ensures.state t (stands_after c.self.inside.protocol c.prepare.new.protocol t c.prepare.ensures.same so))) c.in-Ok-write_record.ensures.durable c.in-Ok-write_record.ensures.appended));
-      generation_is = (ap (λ j. j.generation) c.write_record.ensures.same) ∙ c.self.invariant.generation_is ∙ sym (generation_stays c.self.inside.protocol c.make-done-2.new.protocol s c.in-Do.command stays stands step);
+      order = subst (λ (o : Option ℕ). IsInOrder g.D.Disk.at (stored c.self.inside.side c.write_record.new.taken
+          c.self.inside.beside c.make-done-2.new.protocol o c.note.new.changes.items))
+          (sym (ap (λ (o : Stored g.row.D.Denot). o.stopped) c.self.view_is ∙ c.requires.going))
+          (order_going g.D.Disk.at c.self.inside.side c.write_record.new.taken c.self.inside.beside
+          c.make-done-2.new.protocol (went_on g.D.Disk.at c.self.inside.side c.self.inside.taken c.write_record.new.taken
+          c.self.inside.beside c.self.inside.protocol c.in-Do.command a c.make-done-2.new.protocol
+          (state_of c.self.inside.protocol) c.prepare.ensures.stands (λ t so. let is = c.in-Ready.ensures.prepared t so
+          in prepared_steps c.make-done-2.new.protocol t c.in-Do.command c.in-Ready.planned is
+          (c.make-done-2.ensures.state t (stands_after c.self.inside.protocol c.prepare.new.protocol t
+          c.prepare.ensures.same so))) c.in-Ok-write_record.ensures.durable c.in-Ok-write_record.ensures.appended));
+      generation_is = (ap (λ j. j.generation) c.write_record.ensures.same) ∙ c.self.invariant.generation_is
+          ∙ sym (generation_stays c.self.inside.protocol c.make-done-2.new.protocol s c.in-Do.command stays stands step);
       parity_is = ap is_odd (ap (λ j. j.generation) c.write_record.ensures.same) ∙ c.self.invariant.parity_is;
       count_is = omega (arith, c.in-Ok-write_record.ensures.one_more, c.self.invariant.count_is, counted);
-      told = all_has (g.D.Disk.at c.write_record.new.taken.disk).seen c.write_record.new.taken.generation c.write_record.new.taken.start c.write_record.new.taken.count settled;
+      told = all_has (g.D.Disk.at c.write_record.new.taken.disk).seen c.write_record.new.taken.generation
+          c.write_record.new.taken.start c.write_record.new.taken.count settled;
       settled = λ none. settled;
     }
 
 pub returns-clause-order : goal.returns-clause-order
 returns-clause-order g c =
-    let a = appends g.D.Disk.at c.self.inside.side c.self.inside.taken c.write_record.new.taken c.self.inside.beside c.self.inside.protocol c.self.inside.stopped c.in-Do.command c.in-Ready.planned (ap (λ (o : Stored g.row.D.Denot). o.stopped) c.self.view_is ∙ c.requires.going) c.self.invariant c.in-Ready.ensures.prepared c.write_record.ensures.called.lasts.telling c.write_record.ensures.crash in
-    subst (λ (o : Option ℕ). IsInOrder g.D.Disk.at (stored c.self.inside.side c.write_record.new.taken c.self.inside.beside c.make-done-2.new.protocol o c.note.new.changes.items)) (sym (ap (λ (o : Stored g.row.D.Denot). o.stopped) c.self.view_is ∙ c.requires.going)) (order_going g.D.Disk.at c.self.inside.side c.write_record.new.taken c.self.inside.beside c.make-done-2.new.protocol (went_on g.D.Disk.at c.self.inside.side c.self.inside.taken c.write_record.new.taken c.self.inside.beside c.self.inside.protocol c.in-Do.command a c.make-done-2.new.protocol (state_of c.self.inside.protocol) c.prepare.ensures.stands (λ t so. let is = c.in-Ready.ensures.prepared t so in prepared_steps c.make-done-2.new.protocol t c.in-Do.command c.in-Ready.planned is (c.make-done-2.ensures.state t (stands_after c.self.inside.protocol c.prepare.new.protocol t c.prepare.ensures.same so))) c.in-Ok-write_record.ensures.durable c.in-Ok-write_record.ensures.appended))
+    let a = appends g.D.Disk.at c.self.inside.side c.self.inside.taken c.write_record.new.taken c.self.inside.beside
+    c.self.inside.protocol c.self.inside.stopped c.in-Do.command c.in-Ready.planned (ap (λ (o : Stored g.row.D.Denot).
+    o.stopped) c.self.view_is ∙ c.requires.going) c.self.invariant c.in-Ready.ensures.prepared
+    c.write_record.ensures.called.lasts.telling c.write_record.ensures.crash in
+    subst (λ (o : Option ℕ). IsInOrder g.D.Disk.at (stored c.self.inside.side c.write_record.new.taken
+    c.self.inside.beside c.make-done-2.new.protocol o c.note.new.changes.items))
+    (sym (ap (λ (o : Stored g.row.D.Denot). o.stopped) c.self.view_is ∙ c.requires.going))
+    (order_going g.D.Disk.at c.self.inside.side c.write_record.new.taken c.self.inside.beside
+    c.make-done-2.new.protocol (went_on g.D.Disk.at c.self.inside.side c.self.inside.taken c.write_record.new.taken
+    c.self.inside.beside c.self.inside.protocol c.in-Do.command a c.make-done-2.new.protocol
+    (state_of c.self.inside.protocol) c.prepare.ensures.stands (λ t so. let is = c.in-Ready.ensures.prepared t so
+    in prepared_steps c.make-done-2.new.protocol t c.in-Do.command c.in-Ready.planned is
+    (c.make-done-2.ensures.state t (stands_after c.self.inside.protocol c.prepare.new.protocol t
+    c.prepare.ensures.same so))) c.in-Ok-write_record.ensures.durable c.in-Ok-write_record.ensures.appended))
 
 pub returns-clause-disks : goal.returns-clause-disks
 returns-clause-disks g c =
-    let a = appends g.D.Disk.at c.self.inside.side c.self.inside.taken c.write_record.new.taken c.self.inside.beside c.self.inside.protocol c.self.inside.stopped c.in-Do.command c.in-Ready.planned (ap (λ (o : Stored g.row.D.Denot). o.stopped) c.self.view_is ∙ c.requires.going) c.self.invariant c.in-Ready.ensures.prepared c.write_record.ensures.called.lasts.telling c.write_record.ensures.crash in
-    appends_on g.D.Disk.at c.self.inside.side c.self.inside.taken c.write_record.new.taken c.self.inside.beside c.self.inside.protocol c.in-Do.command a c.args.self.now c.self.inside.stopped c.self.view_is c.args.request.now c.in-Do.is (not_rotate c.in-Do.command.call c.in_default.not-Rotate) (ap (λ j. j.start) c.write_record.ensures.same) c.write_record.ensures.called.lasts.time (answer.Reply (Said c.make-done-2.result)) (λ none. absurd (cc (none))) c.make-done-2.new.protocol c.self.inside.stopped c.note.new.changes.items
+    let a = appends g.D.Disk.at c.self.inside.side c.self.inside.taken c.write_record.new.taken c.self.inside.beside
+    c.self.inside.protocol c.self.inside.stopped c.in-Do.command c.in-Ready.planned (ap (λ (o : Stored g.row.D.Denot).
+    o.stopped) c.self.view_is ∙ c.requires.going) c.self.invariant c.in-Ready.ensures.prepared
+    c.write_record.ensures.called.lasts.telling c.write_record.ensures.crash in
+    appends_on g.D.Disk.at c.self.inside.side c.self.inside.taken c.write_record.new.taken c.self.inside.beside
+    c.self.inside.protocol c.in-Do.command a c.args.self.now c.self.inside.stopped c.self.view_is c.args.request.now
+    c.in-Do.is (not_rotate c.in-Do.command.call c.in_default.not-Rotate)
+    (ap (λ j. j.start) c.write_record.ensures.same) c.write_record.ensures.called.lasts.time
+    (answer.Reply (Said c.make-done-2.result)) (λ none. absurd (cc (none))) c.make-done-2.new.protocol
+    c.self.inside.stopped c.note.new.changes.items
 
 pub returns-in-Again-clause-appended : goal.returns-in-Again-clause-appended
 returns-in-Again-clause-appended g c s stands accepted none =
-    let here : StandsFor c.self.inside.protocol s = subst (λ (o : Stored g.row.D.Denot). StandsFor o.core s) (sym c.self.view_is) stands in
-    absurd (repeated_not s c.args.request.now c.in-Do.command c.in-Again.done c.in-Do.is (c.in-Again.ensures.prepared s here) accepted)
+    let here : StandsFor c.self.inside.protocol s = subst (λ (o : Stored g.row.D.Denot). StandsFor o.core s)
+    (sym c.self.view_is) stands in
+    absurd (repeated_not s c.args.request.now c.in-Do.command c.in-Again.done c.in-Do.is
+    (c.in-Again.ensures.prepared s here) accepted)
 
 pub returns-in-No-clause-appended : goal.returns-in-No-clause-appended
 returns-in-No-clause-appended g c s stands accepted none =
-    let here : StandsFor c.self.inside.protocol s = subst (λ (o : Stored g.row.D.Denot). StandsFor o.core s) (sym c.self.view_is) stands in
-    absurd (refused_not s c.args.request.now c.in-Do.command c.in-No.refusal c.in-Do.is (c.in-No.ensures.prepared s here) accepted)
+    let here : StandsFor c.self.inside.protocol s = subst (λ (o : Stored g.row.D.Denot). StandsFor o.core s)
+    (sym c.self.view_is) stands in
+    absurd (refused_not s c.args.request.now c.in-Do.command c.in-No.refusal c.in-Do.is
+    (c.in-No.ensures.prepared s here) accepted)
 
 pub returns-in-Rotate-clause-appended : goal.returns-in-Rotate-clause-appended
 returns-in-Rotate-clause-appended g c s stands accepted none =
@@ -238,71 +415,104 @@ returns-in-Rotate-clause-appended g c s stands accepted none =
 
 pub returns-clause-appended : goal.returns-clause-appended
 returns-clause-appended g c s stands accepted none =
-    subst (λ (o : Stored g.row.D.Denot). IsLater g.D.Disk.at 4 (taken_disk o) (taken_disk (stored c.self.inside.side c.write_record.new.taken c.self.inside.beside c.make-done-2.new.protocol c.self.inside.stopped c.note.new.changes.items))) c.self.view_is
-    (taken_later g.D.Disk.at c.self.inside.side c.self.inside.taken.disk c.self.inside.beside c.write_record.new.taken.disk c.self.inside.beside 4 c.in-Ok-write_record.ensures.calls)
+    subst (λ (o : Stored g.row.D.Denot). IsLater g.D.Disk.at 4 (taken_disk o)
+    (taken_disk (stored c.self.inside.side c.write_record.new.taken c.self.inside.beside c.make-done-2.new.protocol
+    c.self.inside.stopped c.note.new.changes.items))) c.self.view_is
+    (taken_later g.D.Disk.at c.self.inside.side c.self.inside.taken.disk c.self.inside.beside
+    c.write_record.new.taken.disk c.self.inside.beside 4 c.in-Ok-write_record.ensures.calls)
 
 pub returns-in-Again-clause-step : goal.returns-in-Again-clause-step
 returns-in-Again-clause-step g c s stands =
-    let here : StandsFor c.self.inside.protocol s = subst (λ (o : Stored g.row.D.Denot). StandsFor o.core s) (sym c.self.view_is) stands in
-    ruled c.prepare.new.protocol s c.in-Do.command c.args.request.now (Repeated c.in-Again.done) (Said c.in-Again.done) c.in-Do.is (c.in-Again.ensures.prepared s here) (stands_after c.self.inside.protocol c.prepare.new.protocol s c.prepare.ensures.same here) refl
+    let here : StandsFor c.self.inside.protocol s = subst (λ (o : Stored g.row.D.Denot). StandsFor o.core s)
+    (sym c.self.view_is) stands in
+    ruled c.prepare.new.protocol s c.in-Do.command c.args.request.now (Repeated c.in-Again.done) (Said c.in-Again.done)
+    c.in-Do.is (c.in-Again.ensures.prepared s here) (stands_after c.self.inside.protocol c.prepare.new.protocol s
+    c.prepare.ensures.same here) refl
 
 pub returns-in-No-clause-step : goal.returns-in-No-clause-step
 returns-in-No-clause-step g c s stands =
-    let here : StandsFor c.self.inside.protocol s = subst (λ (o : Stored g.row.D.Denot). StandsFor o.core s) (sym c.self.view_is) stands in
-    ruled c.prepare.new.protocol s c.in-Do.command c.args.request.now (Refused c.in-No.refusal) (No c.in-No.refusal) c.in-Do.is (c.in-No.ensures.prepared s here) (stands_after c.self.inside.protocol c.prepare.new.protocol s c.prepare.ensures.same here) refl
+    let here : StandsFor c.self.inside.protocol s = subst (λ (o : Stored g.row.D.Denot). StandsFor o.core s)
+    (sym c.self.view_is) stands in
+    ruled c.prepare.new.protocol s c.in-Do.command c.args.request.now (Refused c.in-No.refusal) (No c.in-No.refusal)
+    c.in-Do.is (c.in-No.ensures.prepared s here) (stands_after c.self.inside.protocol c.prepare.new.protocol s
+    c.prepare.ensures.same here) refl
 
 pub returns-in-NoMemory-clause-step : goal.returns-in-NoMemory-clause-step
 returns-in-NoMemory-clause-step g c s stands =
-    let here : StandsFor c.self.inside.protocol s = subst (λ (o : Stored g.row.D.Denot). StandsFor o.core s) (sym c.self.view_is) stands in (
+    let here : StandsFor c.self.inside.protocol s = subst (λ (o : Stored g.row.D.Denot). StandsFor o.core s)
+    (sym c.self.view_is) stands in (
       stands_after c.self.inside.protocol c.prepare.new.protocol s c.prepare.ensures.same here,
       subst (TakesMemory s) (sym c.in-Do.is) (c.in-NoMemory.ensures.prepared s here),
     )
 
 pub returns-in_default-checkpoint_after-clause-step : goal.returns-in_default-checkpoint_after-clause-step
 returns-in_default-checkpoint_after-clause-step g c s stands =
-    let here : StandsFor c.self.inside.protocol s = subst (λ (o : Stored g.row.D.Denot). StandsFor o.core s) (sym c.self.view_is) stands in (
+    let here : StandsFor c.self.inside.protocol s = subst (λ (o : Stored g.row.D.Denot). StandsFor o.core s)
+    (sym c.self.view_is) stands in (
       stands_after c.self.inside.protocol c.prepare.new.protocol s c.prepare.ensures.same here,
-      subst (TakesMemory s) (sym c.in-Do.is) (inl (prepared_allowed s c.in-Do.command c.in-Ready.planned (c.in-Ready.ensures.prepared s here))),
+      subst (TakesMemory s) (sym c.in-Do.is) (inl (prepared_allowed s c.in-Do.command c.in-Ready.planned
+          (c.in-Ready.ensures.prepared s here))),
     )
 
 pub returns-in-Err-clause-step : goal.returns-in-Err-clause-step
 returns-in-Err-clause-step g c s stands =
-    let here : StandsFor c.self.inside.protocol s = subst (λ (o : Stored g.row.D.Denot). StandsFor o.core s) (sym c.self.view_is) stands in (
+    let here : StandsFor c.self.inside.protocol s = subst (λ (o : Stored g.row.D.Denot). StandsFor o.core s)
+    (sym c.self.view_is) stands in (
       stands_after c.self.inside.protocol c.prepare.new.protocol s c.prepare.ensures.same here,
-      subst (IsAccepted s) (sym c.in-Do.is) (prepared_allowed s c.in-Do.command c.in-Ready.planned (c.in-Ready.ensures.prepared s here)),
+      subst (IsAccepted s) (sym c.in-Do.is) (prepared_allowed s c.in-Do.command c.in-Ready.planned
+          (c.in-Ready.ensures.prepared s here)),
     )
 
 pub returns-in-Again-clause-told : goal.returns-in-Again-clause-told
 returns-in-Again-clause-told g c s stands =
-    let here : StandsFor c.self.inside.protocol s = subst (λ (o : Stored g.row.D.Denot). StandsFor o.core s) (sym c.self.view_is) stands in
-    none_told s c.args.request.now (answer.Reply (Said c.in-Again.done)) c.args.self.now.changes c.prepare.new.changes.items (c.prepare.ensures.changes ∙ ap (λ (o : Stored g.row.D.Denot). o.changes) c.self.view_is) (told_by_ruling s c.in-Do.command c.args.request.now (Repeated c.in-Again.done) c.in-Do.is (c.in-Again.ensures.prepared s here))
+    let here : StandsFor c.self.inside.protocol s = subst (λ (o : Stored g.row.D.Denot). StandsFor o.core s)
+    (sym c.self.view_is) stands in
+    none_told s c.args.request.now (answer.Reply (Said c.in-Again.done)) c.args.self.now.changes
+    c.prepare.new.changes.items (c.prepare.ensures.changes
+    ∙ ap (λ (o : Stored g.row.D.Denot). o.changes) c.self.view_is)
+    (told_by_ruling s c.in-Do.command c.args.request.now (Repeated c.in-Again.done) c.in-Do.is
+    (c.in-Again.ensures.prepared s here))
 
 pub returns-in-No-clause-told : goal.returns-in-No-clause-told
 returns-in-No-clause-told g c s stands =
-    let here : StandsFor c.self.inside.protocol s = subst (λ (o : Stored g.row.D.Denot). StandsFor o.core s) (sym c.self.view_is) stands in
-    none_told s c.args.request.now (answer.Reply (No c.in-No.refusal)) c.args.self.now.changes c.prepare.new.changes.items (c.prepare.ensures.changes ∙ ap (λ (o : Stored g.row.D.Denot). o.changes) c.self.view_is) (told_by_ruling s c.in-Do.command c.args.request.now (Refused c.in-No.refusal) c.in-Do.is (c.in-No.ensures.prepared s here))
+    let here : StandsFor c.self.inside.protocol s = subst (λ (o : Stored g.row.D.Denot). StandsFor o.core s)
+    (sym c.self.view_is) stands in
+    none_told s c.args.request.now (answer.Reply (No c.in-No.refusal)) c.args.self.now.changes
+    c.prepare.new.changes.items (c.prepare.ensures.changes
+    ∙ ap (λ (o : Stored g.row.D.Denot). o.changes) c.self.view_is)
+    (told_by_ruling s c.in-Do.command c.args.request.now (Refused c.in-No.refusal) c.in-Do.is
+    (c.in-No.ensures.prepared s here))
 
 pub returns-in-NoMemory-clause-told : goal.returns-in-NoMemory-clause-told
 returns-in-NoMemory-clause-told g c s stands =
-    none_told s c.args.request.now answer.NoMemory c.args.self.now.changes c.prepare.new.changes.items (c.prepare.ensures.changes ∙ ap (λ (o : Stored g.row.D.Denot). o.changes) c.self.view_is) refl
+    none_told s c.args.request.now answer.NoMemory c.args.self.now.changes c.prepare.new.changes.items
+    (c.prepare.ensures.changes ∙ ap (λ (o : Stored g.row.D.Denot). o.changes) c.self.view_is) refl
 
 pub returns-in_default-checkpoint_after-clause-told : goal.returns-in_default-checkpoint_after-clause-told
 returns-in_default-checkpoint_after-clause-told g c s stands =
-    none_told s c.args.request.now answer.NoMemory c.args.self.now.changes c.prepare.new.changes.items (c.prepare.ensures.changes ∙ ap (λ (o : Stored g.row.D.Denot). o.changes) c.self.view_is) refl
+    none_told s c.args.request.now answer.NoMemory c.args.self.now.changes c.prepare.new.changes.items
+    (c.prepare.ensures.changes ∙ ap (λ (o : Stored g.row.D.Denot). o.changes) c.self.view_is) refl
 
 pub returns-in-Err-clause-told : goal.returns-in-Err-clause-told
 returns-in-Err-clause-told g c s stands =
-    none_told s c.args.request.now answer.DiskFault c.args.self.now.changes c.prepare.new.changes.items (c.prepare.ensures.changes ∙ ap (λ (o : Stored g.row.D.Denot). o.changes) c.self.view_is) refl
+    none_told s c.args.request.now answer.DiskFault c.args.self.now.changes c.prepare.new.changes.items
+    (c.prepare.ensures.changes ∙ ap (λ (o : Stored g.row.D.Denot). o.changes) c.self.view_is) refl
 
 pub returns-in-Err-write_record-clause-told : goal.returns-in-Err-write_record-clause-told
 returns-in-Err-write_record-clause-told g c s stands =
-    none_told s c.args.request.now answer.DiskFault c.args.self.now.changes c.prepare.new.changes.items (c.prepare.ensures.changes ∙ ap (λ (o : Stored g.row.D.Denot). o.changes) c.self.view_is) refl
+    none_told s c.args.request.now answer.DiskFault c.args.self.now.changes c.prepare.new.changes.items
+    (c.prepare.ensures.changes ∙ ap (λ (o : Stored g.row.D.Denot). o.changes) c.self.view_is) refl
 
 pub returns-in-Rotate-clause-told : goal.returns-in-Rotate-clause-told
 returns-in-Rotate-clause-told g c s stands =
-    let here : StandsFor c.self.inside.protocol s = subst (λ (o : Stored g.row.D.Denot). StandsFor o.core s) (sym c.self.view_is) stands in
-    let none = told_by_ruling s c.in-Do.command c.args.request.now Allowed c.in-Do.is (prepared_allowed s c.in-Do.command c.in-Ready.planned (c.in-Ready.ensures.prepared s here)) ∙ ap (call_changes s) c.in-Rotate.is in
-    none_told s c.args.request.now (answer.Reply (Said c.make-done.result)) c.args.self.now.changes c.prepare.new.changes.items (c.prepare.ensures.changes ∙ ap (λ (o : Stored g.row.D.Denot). o.changes) c.self.view_is) none
+    let here : StandsFor c.self.inside.protocol s = subst (λ (o : Stored g.row.D.Denot). StandsFor o.core s)
+    (sym c.self.view_is) stands in
+    let none = told_by_ruling s c.in-Do.command c.args.request.now Allowed c.in-Do.is
+    (prepared_allowed s c.in-Do.command c.in-Ready.planned (c.in-Ready.ensures.prepared s here))
+    ∙ ap (call_changes s) c.in-Rotate.is in
+    none_told s c.args.request.now (answer.Reply (Said c.make-done.result)) c.args.self.now.changes
+    c.prepare.new.changes.items (c.prepare.ensures.changes
+    ∙ ap (λ (o : Stored g.row.D.Denot). o.changes) c.self.view_is) none
 
 pub returns-in-Again-clause-stops : goal.returns-in-Again-clause-stops
 returns-in-Again-clause-stops g c = ap (λ (o : Stored g.row.D.Denot). o.stopped) c.self.view_is
@@ -324,11 +534,13 @@ returns-clause-stops g c = ap (λ (o : Stored g.row.D.Denot). o.stopped) c.self.
 
 pub returns-in-Err-clause-stops : goal.returns-in-Err-clause-stops
 returns-in-Err-clause-stops g c =
-    stopped_on g.D.Disk.at c.self.inside.side c.turn.new.taken.disk c.turn.new.beside c.args.self.now.stopped c.sum_of_faults.result c.requires.going c.sum_of_faults.ensures
+    stopped_on g.D.Disk.at c.self.inside.side c.turn.new.taken.disk c.turn.new.beside c.args.self.now.stopped
+    c.sum_of_faults.result c.requires.going c.sum_of_faults.ensures
 
 pub returns-in-Err-write_record-clause-stops : goal.returns-in-Err-write_record-clause-stops
 returns-in-Err-write_record-clause-stops g c =
-    stopped_on g.D.Disk.at c.self.inside.side c.write_record.new.taken.disk c.self.inside.beside c.args.self.now.stopped c.sum_of_faults-in-Err-write_record.result c.requires.going c.sum_of_faults-in-Err-write_record.ensures
+    stopped_on g.D.Disk.at c.self.inside.side c.write_record.new.taken.disk c.self.inside.beside c.args.self.now.stopped
+    c.sum_of_faults-in-Err-write_record.result c.requires.going c.sum_of_faults-in-Err-write_record.ensures
 
 pub returns-in-Again-clause-cause : goal.returns-in-Again-clause-cause
 returns-in-Again-clause-cause g c =
@@ -348,40 +560,55 @@ returns-in_default-checkpoint_after-clause-cause g c =
 
 pub returns-clause-cause : goal.returns-clause-cause
 returns-clause-cause g c =
-    taken_still g.D.Disk.at c.self.inside.side c.self.inside.taken.disk c.write_record.new.taken.disk c.self.inside.beside c.in-Ok-write_record.ensures.called.cause.ok
+    taken_still g.D.Disk.at c.self.inside.side c.self.inside.taken.disk c.write_record.new.taken.disk
+    c.self.inside.beside c.in-Ok-write_record.ensures.called.cause.ok
     ∙ ap (λ (o : Stored g.row.D.Denot). counts_of g.D.Disk.at o.left o.right) c.self.view_is
 
 pub returns-in-Rotate-clause-cause : goal.returns-in-Rotate-clause-cause
 returns-in-Rotate-clause-cause g c =
-    ap₂ (λ (x : Side) (d : g.row.D.Denot). counts_of g.D.Disk.at (on x c.turn.new.taken.disk d) (on x d c.turn.new.taken.disk)) c.in-Ok-turn.ensures.side c.in-Ok-turn.ensures.exchanged
-    ∙ turned_still g.D.Disk.at c.self.inside.side c.self.inside.taken.disk c.self.inside.beside c.turn.new.taken.disk c.in-Ok-turn.ensures.cause
+    ap₂ (λ (x : Side) (d : g.row.D.Denot). counts_of g.D.Disk.at (on x c.turn.new.taken.disk d)
+    (on x d c.turn.new.taken.disk)) c.in-Ok-turn.ensures.side c.in-Ok-turn.ensures.exchanged
+    ∙ turned_still g.D.Disk.at c.self.inside.side c.self.inside.taken.disk c.self.inside.beside c.turn.new.taken.disk
+    c.in-Ok-turn.ensures.cause
     ∙ ap (λ (o : Stored g.row.D.Denot). counts_of g.D.Disk.at o.left o.right) c.self.view_is
 
 pub returns-in-Err-clause-cause : goal.returns-in-Err-clause-cause
 returns-in-Err-clause-cause g c =
     let side = c.self.inside.side in
     let before = counts_of g.D.Disk.at c.args.self.now.left c.args.self.now.right in
-    subst (λ (j : JournalOn g.row.D.Denot). OneRose before (counts_of g.D.Disk.at (on side j.disk c.turn.new.beside) (on side c.turn.new.beside j.disk))) (sym c.in-Err.ensures.kept)
-    (subst (λ (o : Stored g.row.D.Denot). OneRose (counts_of g.D.Disk.at o.left o.right) (counts_of g.D.Disk.at (on side c.self.inside.taken.disk c.turn.new.beside) (on side c.turn.new.beside c.self.inside.taken.disk))) c.self.view_is
-    (beside_rose g.D.Disk.at side c.self.inside.taken.disk c.self.inside.beside c.turn.new.beside c.in-Err.ensures.cause.later c.in-Err.ensures.cause.rose))
+    subst (λ (j : JournalOn g.row.D.Denot). OneRose before (counts_of g.D.Disk.at (on side j.disk c.turn.new.beside)
+    (on side c.turn.new.beside j.disk))) (sym c.in-Err.ensures.kept)
+    (subst (λ (o : Stored g.row.D.Denot). OneRose (counts_of g.D.Disk.at o.left o.right) (counts_of g.D.Disk.at
+    (on side c.self.inside.taken.disk c.turn.new.beside) (on side c.turn.new.beside c.self.inside.taken.disk)))
+    c.self.view_is
+    (beside_rose g.D.Disk.at side c.self.inside.taken.disk c.self.inside.beside c.turn.new.beside
+    c.in-Err.ensures.cause.later c.in-Err.ensures.cause.rose))
 
 pub returns-in-Err-write_record-clause-cause : goal.returns-in-Err-write_record-clause-cause
 returns-in-Err-write_record-clause-cause g c =
     let side = c.self.inside.side in
-    subst (λ (o : Stored g.row.D.Denot). OneRose (counts_of g.D.Disk.at o.left o.right) (counts_of g.D.Disk.at (on side c.write_record.new.taken.disk c.self.inside.beside) (on side c.self.inside.beside c.write_record.new.taken.disk))) c.self.view_is
-    (taken_rose g.D.Disk.at side c.self.inside.taken.disk c.write_record.new.taken.disk c.self.inside.beside c.in-Err-write_record.ensures.called.cause.later c.in-Err-write_record.ensures.called.cause.failed)
+    subst (λ (o : Stored g.row.D.Denot). OneRose (counts_of g.D.Disk.at o.left o.right) (counts_of g.D.Disk.at
+    (on side c.write_record.new.taken.disk c.self.inside.beside)
+    (on side c.self.inside.beside c.write_record.new.taken.disk))) c.self.view_is
+    (taken_rose g.D.Disk.at side c.self.inside.taken.disk c.write_record.new.taken.disk c.self.inside.beside
+    c.in-Err-write_record.ensures.called.cause.later c.in-Err-write_record.ensures.called.cause.failed)
 
 pub write_record-requires-clause-settled : goal.write_record-requires-clause-settled
-write_record-requires-clause-settled g c = c.self.invariant.settled (ap (λ (o : Stored g.row.D.Denot). o.stopped) c.self.view_is ∙ c.requires.going)
+write_record-requires-clause-settled g c =
+    c.self.invariant.settled (ap (λ (o : Stored g.row.D.Denot). o.stopped) c.self.view_is ∙ c.requires.going)
 
 pub make-done-requires-clause-planned : goal.make-done-requires-clause-planned
-make-done-requires-clause-planned g c s stands = (c.in-Ready.ensures.prepared s (stands_before c.self.inside.protocol c.prepare.new.protocol s c.prepare.ensures.same stands)).1
+make-done-requires-clause-planned g c s stands =
+    (c.in-Ready.ensures.prepared s (stands_before c.self.inside.protocol c.prepare.new.protocol s c.prepare.ensures.same
+    stands)).1
 
 pub make-done-requires-clause-room : goal.make-done-requires-clause-room
 make-done-requires-clause-room g c = c.in-Ready.ensures.ready.1
 
 pub make-done-requires-2-clause-planned : goal.make-done-requires-2-clause-planned
-make-done-requires-2-clause-planned g c s stands = (c.in-Ready.ensures.prepared s (stands_before c.self.inside.protocol c.prepare.new.protocol s c.prepare.ensures.same stands)).1
+make-done-requires-2-clause-planned g c s stands =
+    (c.in-Ready.ensures.prepared s (stands_before c.self.inside.protocol c.prepare.new.protocol s c.prepare.ensures.same
+    stands)).1
 
 pub make-done-requires-2-clause-room : goal.make-done-requires-2-clause-room
 make-done-requires-2-clause-room g c = c.in-Ready.ensures.ready.1

@@ -5,7 +5,8 @@ use Rattle.liq_tables.proofs.places.Places.reach.Given as goal
 
 abbrev pub invariant-loop-self : goal.invariant-loop-self
 invariant-loop-self l =
-    ((k : ℕ) → place (map (λ page. page.items) l.self-inside.pages.items) k ≡ place l.fn.self k) × (l.self-inside.pages.len ≤ PAGES)
+    ((k : ℕ) → place (map (λ page. page.items) l.self-inside.pages.items) k ≡ place l.fn.self k)
+    × (l.self-inside.pages.len ≤ PAGES)
 
 abbrev pub decreases-loop-self : goal.decreases-loop-self
 decreases-loop-self l = l.index + 1 - l.self-inside.pages.len

@@ -24,7 +24,15 @@ pub overflow_add-count : goal.overflow_add-count
 overflow_add-count g c =
     let short = listed_few (at c.args.self.now.rows) 0 c.loop-key.key in
     let one = few c.is_some.result in
-    omega (arith, short, one, c.from-count.ensures, c.loop-key.invariant, c.loop-key-test.true, c.end-key-end.ensures.few)
+    omega (
+      arith,
+      short,
+      one,
+      c.from-count.ensures,
+      c.loop-key.invariant,
+      c.loop-key-test.true,
+      c.end-key-end.ensures.few,
+    )
 
 pub loop-key-preserved : goal.loop-key-preserved
 loop-key-preserved g c =
@@ -37,4 +45,6 @@ returns g c =
     let past : c.loop-key.key ≡ c.end-key-end.result = omega (arith, c.loop-key-test.false, c.loop-key.auto.key-end) in
     c.loop-key.invariant
     ∙ ap (λ n. length (listed (at c.args.self.now.rows) 0 n)) past
-    ∙ ap length (all_seen g.X.Row.used c.self.inside.index c.args.self.now.rows c.end-key-end.result (ap (λ (t : WithRoom g.row.X.Denot). t.rows) c.self.view_is) c.end-key-end.ensures.ascend c.end-key-end.ensures.above)
+    ∙ ap length (all_seen g.X.Row.used c.self.inside.index c.args.self.now.rows c.end-key-end.result
+    (ap (λ (t : WithRoom g.row.X.Denot). t.rows) c.self.view_is) c.end-key-end.ensures.ascend
+    c.end-key-end.ensures.above)

@@ -10,6 +10,8 @@ loop-row-preserved g c =
     let i = c.loop-row.row-index in
     let row = c.row-item.result in
     c.write.ensures.rows
-    ∙ ap (λ (t : Table g.row.X.Denot). written g.X.Row.used t row.0 row.1) (c.in_ok-reserve.ensures.rows ∙ c.loop-row.invariant)
-    ∙ subst (λ (e : ℕ × g.row.X.Denot). written g.X.Row.used (rows g.X.Row.used (take i all)) e.0 e.1 ≡ rows g.X.Row.used (take (i + 1) all)) (sym c.row-item.is)
+    ∙ ap (λ (t : Table g.row.X.Denot). written g.X.Row.used t row.0 row.1) (c.in_ok-reserve.ensures.rows
+    ∙ c.loop-row.invariant)
+    ∙ subst (λ (e : ℕ × g.row.X.Denot). written g.X.Row.used (rows g.X.Row.used (take i all)) e.0 e.1
+    ≡ rows g.X.Row.used (take (i + 1) all)) (sym c.row-item.is)
     (fill_next g.X.Row.used all i row c.loop-row-test.true c.requires)

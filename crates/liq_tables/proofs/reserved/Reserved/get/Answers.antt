@@ -17,13 +17,15 @@ returns-in_err-row-clause-row g c =
 pub returns-then-is_used-clause-row : goal.returns-then-is_used-clause-row
 returns-then-is_used-clause-row g c =
     sym (ap (λ (t : WithRoom g.row.X.Denot). at t.rows c.args.key) (sym c.self.view_is)
-    ∙ read g.X.Row.used c.self.inside.index c.args.key (Some c.in_ok-row.row.now) c.get.ensures.ascend (sym c.in_ok-row.ensures.row)
+    ∙ read g.X.Row.used c.self.inside.index c.args.key (Some c.in_ok-row.row.now) c.get.ensures.ascend
+    (sym c.in_ok-row.ensures.row)
     ∙ ap (λ b. cond b (Some c.in_ok-row.row.now) None) (sym c.is_used.ensures ∙ c.if-is_used.true))
 
 pub returns-else-is_used-clause-row : goal.returns-else-is_used-clause-row
 returns-else-is_used-clause-row g c =
     sym (ap (λ (t : WithRoom g.row.X.Denot). at t.rows c.args.key) (sym c.self.view_is)
-    ∙ read g.X.Row.used c.self.inside.index c.args.key (Some c.in_ok-row.row.now) c.get.ensures.ascend (sym c.in_ok-row.ensures.row)
+    ∙ read g.X.Row.used c.self.inside.index c.args.key (Some c.in_ok-row.row.now) c.get.ensures.ascend
+    (sym c.in_ok-row.ensures.row)
     ∙ ap (λ b. cond b (Some c.in_ok-row.row.now) None) (sym c.is_used.ensures ∙ c.if-is_used.false))
 
 pub returns-then-is_used-clause-room : goal.returns-then-is_used-clause-room
@@ -34,12 +36,15 @@ returns-then-is_used-clause-room g c =
 
 pub returns-in_err-row-clause-ascend : goal.returns-in_err-row-clause-ascend
 returns-in_err-row-clause-ascend g c =
-    subst (λ (t : WithRoom g.row.X.Denot). Ascends t.rows) c.self.view_is (rows-ascends g.X.Row.used c.self.inside.index c.get.ensures.ascend)
+    subst (λ (t : WithRoom g.row.X.Denot). Ascends t.rows) c.self.view_is (rows-ascends g.X.Row.used c.self.inside.index
+    c.get.ensures.ascend)
 
 pub returns-then-is_used-clause-ascend : goal.returns-then-is_used-clause-ascend
 returns-then-is_used-clause-ascend g c =
-    subst (λ (t : WithRoom g.row.X.Denot). Ascends t.rows) c.self.view_is (rows-ascends g.X.Row.used c.self.inside.index c.get.ensures.ascend)
+    subst (λ (t : WithRoom g.row.X.Denot). Ascends t.rows) c.self.view_is (rows-ascends g.X.Row.used c.self.inside.index
+    c.get.ensures.ascend)
 
 pub returns-else-is_used-clause-ascend : goal.returns-else-is_used-clause-ascend
 returns-else-is_used-clause-ascend g c =
-    subst (λ (t : WithRoom g.row.X.Denot). Ascends t.rows) c.self.view_is (rows-ascends g.X.Row.used c.self.inside.index c.get.ensures.ascend)
+    subst (λ (t : WithRoom g.row.X.Denot). Ascends t.rows) c.self.view_is (rows-ascends g.X.Row.used c.self.inside.index
+    c.get.ensures.ascend)

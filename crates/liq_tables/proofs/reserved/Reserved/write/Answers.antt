@@ -16,8 +16,10 @@ pub returns-in_err-before-clause-rows : goal.returns-in_err-before-clause-rows
 returns-in_err-before-clause-rows g c =
     let table = c.self.inside.index in
     let none = sym c.replace.ensures.before ∙ c.in_err-before.was in
-    let room = subst (λ (t : WithRoom g.row.X.Denot). g.X.Row.used c.args.row ≡ true → HasRoom t c.args.key) (sym c.self.view_is) c.requires in
-    ap (λ (t : Table g.row.X.Denot). rows g.X.Row.used t) (replaced-none table c.replace.new.self c.args.key c.args.row c.replace.ensures.rows none)
+    let room = subst (λ (t : WithRoom g.row.X.Denot). g.X.Row.used c.args.row ≡ true
+    → HasRoom t c.args.key) (sym c.self.view_is) c.requires in
+    ap (λ (t : Table g.row.X.Denot). rows g.X.Row.used t) (replaced-none table c.replace.new.self c.args.key c.args.row
+    c.replace.ensures.rows none)
     ∙ sym (unwritten g.X.Row.used table c.args.key c.args.row c.replace.ensures.ascend none room)
     ∙ ap (λ (t : WithRoom g.row.X.Denot). written g.X.Row.used t.rows c.args.key c.args.row) c.self.view_is
 
@@ -31,13 +33,15 @@ returns-then-is_used-clause-before g c =
 pub returns-then-is_used-clause-rows : goal.returns-then-is_used-clause-rows
 returns-then-is_used-clause-rows g c =
     let there = sym c.replace.ensures.before ∙ c.in_ok-before.was in
-    replaced-rows g.X.Row.used c.self.inside.index c.replace.new.self c.args.key c.args.row c.in_ok-before.before c.replace.ensures.ascend c.replace.ensures.rows there
+    replaced-rows g.X.Row.used c.self.inside.index c.replace.new.self c.args.key c.args.row c.in_ok-before.before
+    c.replace.ensures.ascend c.replace.ensures.rows there
     ∙ ap (λ (t : WithRoom g.row.X.Denot). written g.X.Row.used t.rows c.args.key c.args.row) c.self.view_is
 
 pub returns-then-is_used-clause-room : goal.returns-then-is_used-clause-room
 returns-then-is_used-clause-room g c =
     let there = sym c.replace.ensures.before ∙ c.in_ok-before.was in
-    replaced-keys c.self.inside.index c.replace.new.self c.args.key c.args.row c.in_ok-before.before c.replace.ensures.ascend c.replace.ensures.rows there
+    replaced-keys c.self.inside.index c.replace.new.self c.args.key c.args.row c.in_ok-before.before
+    c.replace.ensures.ascend c.replace.ensures.rows there
     ∙ ap (λ (t : WithRoom g.row.X.Denot). t.room) c.self.view_is
 
 pub returns-clause-before : goal.returns-clause-before
@@ -50,16 +54,20 @@ returns-clause-before g c =
 pub returns-clause-rows : goal.returns-clause-rows
 returns-clause-rows g c =
     let there = sym c.replace.ensures.before ∙ c.in_ok-before.was in
-    replaced-rows g.X.Row.used c.self.inside.index c.replace.new.self c.args.key c.args.row c.in_ok-before.before c.replace.ensures.ascend c.replace.ensures.rows there
+    replaced-rows g.X.Row.used c.self.inside.index c.replace.new.self c.args.key c.args.row c.in_ok-before.before
+    c.replace.ensures.ascend c.replace.ensures.rows there
     ∙ ap (λ (t : WithRoom g.row.X.Denot). written g.X.Row.used t.rows c.args.key c.args.row) c.self.view_is
 
 pub returns-clause-room : goal.returns-clause-room
 returns-clause-room g c =
     let there = sym c.replace.ensures.before ∙ c.in_ok-before.was in
-    replaced-keys c.self.inside.index c.replace.new.self c.args.key c.args.row c.in_ok-before.before c.replace.ensures.ascend c.replace.ensures.rows there
+    replaced-keys c.self.inside.index c.replace.new.self c.args.key c.args.row c.in_ok-before.before
+    c.replace.ensures.ascend c.replace.ensures.rows there
     ∙ ap (λ (t : WithRoom g.row.X.Denot). t.room) c.self.view_is
 
 pub returns-then-is_used-clause-had : goal.returns-then-is_used-clause-had
 returns-then-is_used-clause-had g c =
-    let there = some (at c.self.inside.index c.args.key) c.in_ok-before.before (sym c.replace.ensures.before ∙ c.in_ok-before.was) in
-    subst (λ (t : WithRoom g.row.X.Denot). HasRoom t c.args.key) c.self.view_is (room_from_row c.self.inside.index c.args.key there)
+    let there = some (at c.self.inside.index c.args.key) c.in_ok-before.before (sym c.replace.ensures.before
+    ∙ c.in_ok-before.was) in
+    subst (λ (t : WithRoom g.row.X.Denot). HasRoom t c.args.key) c.self.view_is
+    (room_from_row c.self.inside.index c.args.key there)

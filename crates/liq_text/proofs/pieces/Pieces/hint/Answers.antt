@@ -5,13 +5,17 @@ use Rattle.liq_text.proofs.FormLaws.{value_known, well_known, value_unknown, fai
 use Rattle.liq_text.proofs.pieces.Pieces.hint.Goals as goal
 
 pub returns-in-Some-clause-value : goal.returns-in-Some-clause-value
-returns-in-Some-clause-value c = value_known a_hint (pieces_left c.args.self.now) _ (c.in-Some.ensures ∙ ap hint_of c.next.ensures.word)
+returns-in-Some-clause-value c = value_known a_hint (pieces_left c.args.self.now) _ (c.in-Some.ensures
+    ∙ ap hint_of c.next.ensures.word)
 
 pub returns-in-Some-clause-failed : goal.returns-in-Some-clause-failed
-returns-in-Some-clause-failed c = c.next.ensures.same ∙ well_known a_hint c.args.self.now.has_failed (pieces_left c.args.self.now) c.in-Some.hint (c.in-Some.ensures ∙ ap hint_of c.next.ensures.word)
+returns-in-Some-clause-failed c = c.next.ensures.same ∙ well_known a_hint c.args.self.now.has_failed
+    (pieces_left c.args.self.now) c.in-Some.hint (c.in-Some.ensures ∙ ap hint_of c.next.ensures.word)
 
 pub returns-in-None-clause-value : goal.returns-in-None-clause-value
-returns-in-None-clause-value c = value_unknown a_hint (pieces_left c.args.self.now) (c.in-None.ensures ∙ ap hint_of c.next.ensures.word)
+returns-in-None-clause-value c = value_unknown a_hint (pieces_left c.args.self.now) (c.in-None.ensures
+    ∙ ap hint_of c.next.ensures.word)
 
 pub returns-in-None-clause-failed : goal.returns-in-None-clause-failed
-returns-in-None-clause-failed c = fails_unknown a_hint c.args.self.now.has_failed (pieces_left c.args.self.now) (c.in-None.ensures ∙ ap hint_of c.next.ensures.word)
+returns-in-None-clause-failed c = fails_unknown a_hint c.args.self.now.has_failed (pieces_left c.args.self.now)
+    (c.in-None.ensures ∙ ap hint_of c.next.ensures.word)

@@ -19,4 +19,10 @@ none = record {
 }
 
 pub invariant_of-result : goal.invariant_of-result
-invariant_of-result c = subst (λ (t : Table Trove). AreKept t (record { coll = 0; debt = 0; stakes = 0; snap_stakes = 0; snap_coll = 0 }) 0) (sym c.new.ensures) none
+invariant_of-result c = subst (λ (t : Table Trove). AreKept t (record {
+  coll = 0;
+  debt = 0;
+  stakes = 0;
+  snap_stakes = 0;
+  snap_coll = 0;
+}) 0) (sym c.new.ensures) none

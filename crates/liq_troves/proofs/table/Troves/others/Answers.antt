@@ -9,8 +9,10 @@ use Rattle.liq_types.proofs.Lookups.{length-without}
 there : (c : goal.In-Some) → at c.self.inside.table.rows c.args.account ≡ Some c.in-Some.trove.now
 there c = sym c.in-Some.ensures.row
 
-stakes : (c : goal.In-Some) → stakes_in (without c.self.inside.table.rows c.args.account) + c.in-Some.trove.now.stake ≡ c.self.inside.sums.stakes
-stakes c = stakes_taken c.self.inside.table.rows c.self.inside.sums c.self.inside.count c.args.account c.in-Some.trove.now c.self.invariant (there c)
+stakes : (c : goal.In-Some) → stakes_in (without c.self.inside.table.rows c.args.account) + c.in-Some.trove.now.stake
+    ≡ c.self.inside.sums.stakes
+stakes c = stakes_taken c.self.inside.table.rows c.self.inside.sums c.self.inside.count c.args.account
+    c.in-Some.trove.now c.self.invariant (there c)
 
 pub overflow_sub-result-in-Some : goal.overflow_sub-result-in-Some
 overflow_sub-result-in-Some c = omega (arith, stakes c)

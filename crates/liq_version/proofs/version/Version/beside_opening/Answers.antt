@@ -12,12 +12,16 @@ pub returns-in-Some : goal.returns-in-Some
 returns-in-Some c =
     let guide = c.self.inside.guide in
     let fits : SFits w128 c.in-Some.key = search rules in
-    let beside : c.neighbours.result ≡ neighbours guide (c.in-Some.key, c.args.account) = simp (to_z-of_z, fits) at c.neighbours.ensures in
+    let beside : c.neighbours.result ≡ neighbours guide (c.in-Some.key, c.args.account) =
+    simp (to_z-of_z, fits) at c.neighbours.ensures in
     beside
     ∙ ap (λ (k : ℤ). neighbours guide (k, c.args.account)) c.in-Some.ensures
-    ∙ ap (λ (v : Numbered). neighbours v.view.list (key_seen v.view c.args.coll c.args.borrow, c.args.account)) c.self.view_is
+    ∙ ap (λ (v : Numbered). neighbours v.view.list (key_seen v.view c.args.coll c.args.borrow, c.args.account))
+    c.self.view_is
 
 pub returns-in-None : goal.returns-in-None
 returns-in-None c =
-    c.neighbours_below_all.ensures (key_seen (seen c.self.inside.guide c.self.inside.words) c.args.coll c.args.borrow) c.in-None.ensures
-    ∙ ap (λ (v : Numbered). neighbours v.view.list (key_seen v.view c.args.coll c.args.borrow, c.args.account)) c.self.view_is
+    c.neighbours_below_all.ensures (key_seen (seen c.self.inside.guide c.self.inside.words) c.args.coll c.args.borrow)
+    c.in-None.ensures
+    ∙ ap (λ (v : Numbered). neighbours v.view.list (key_seen v.view c.args.coll c.args.borrow, c.args.account))
+    c.self.view_is

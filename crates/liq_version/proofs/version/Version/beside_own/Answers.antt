@@ -12,8 +12,11 @@ pub returns : goal.returns
 returns c =
     let guide = c.self.inside.guide in
     let fits : SFits w128 c.unwrap_or-key.result = search rules in
-    let beside : c.neighbours.result ≡ neighbours guide (c.unwrap_or-key.result, c.args.account) = simp (to_z-of_z, fits) at c.neighbours.ensures in
-    let key : c.unwrap_or-key.result ≡ unwrap_or (key_in guide c.args.account) (pos 0) = c.unwrap_or-key.ensures ∙ ap (λ (o : Option ℤ). unwrap_or o (pos 0)) c.key_of.ensures in
+    let beside : c.neighbours.result ≡ neighbours guide (c.unwrap_or-key.result, c.args.account) =
+    simp (to_z-of_z, fits) at c.neighbours.ensures in
+    let key : c.unwrap_or-key.result ≡ unwrap_or (key_in guide c.args.account) (pos 0) = c.unwrap_or-key.ensures
+    ∙ ap (λ (o : Option ℤ). unwrap_or o (pos 0)) c.key_of.ensures in
     beside
     ∙ ap (λ (k : ℤ). neighbours guide (k, c.args.account)) key
-    ∙ ap (λ (v : Numbered). neighbours v.view.list (key_asked v.view (Own c.args.account), c.args.account)) c.self.view_is
+    ∙ ap (λ (v : Numbered). neighbours v.view.list (key_asked v.view (Own c.args.account), c.args.account))
+    c.self.view_is

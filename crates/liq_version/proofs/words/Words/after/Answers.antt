@@ -12,5 +12,7 @@ loop-change-preserved c list =
     let i = c.loop-change.change-index in
     let before = all_followed v (take i changes) in
     let change = get_or changes i (Put (pos 0) 0) in
-    let step = subst (λ (x : View). followed x change ≡ seen (followed x change).list c.followed-words.result) (sym (c.loop-change.invariant list)) (c.followed-words.ensures before.list) in
-    subst (λ (x : View). x ≡ seen x.list c.followed-words.result) (sym (fold_more followed v changes i (Put (pos 0) 0) c.loop-change-test.true)) step
+    let step = subst (λ (x : View). followed x change ≡ seen (followed x change).list c.followed-words.result)
+    (sym (c.loop-change.invariant list)) (c.followed-words.ensures before.list) in
+    subst (λ (x : View). x ≡ seen x.list c.followed-words.result)
+    (sym (fold_more followed v changes i (Put (pos 0) 0) c.loop-change-test.true)) step

@@ -6,4 +6,5 @@ use Rattle.liq_version.proofs.words.Words.after.Given as goal
 
 abbrev pub invariant-loop-change : goal.invariant-loop-change
 invariant-loop-change l =
-    (list : List Ranked) → all_followed (seen list l.fn.self) (take l.change-index l.changes) ≡ seen (all_followed (seen list l.fn.self) (take l.change-index l.changes)).list l.words
+    (list : List Ranked) → all_followed (seen list l.fn.self) (take l.change-index l.changes)
+    ≡ seen (all_followed (seen list l.fn.self) (take l.change-index l.changes)).list l.words

@@ -9,4 +9,5 @@ returns-clause-hint c =
     let reading = c.in_ok-reading.reading in
     c.answer-hint.ensures
     ∙ ap (λ (v : Numbered). answer_of v c.args.ask.now)
-    (shows c.get.result.now reading.part.value (view reading.place) (view c.leave.result.place) c.get.ensures c.in_ok-reading.ensures.looks.made c.leave.ensures.1)
+    (shows c.get.result.now reading.part.value (view reading.place) (view c.leave.result.place) c.get.ensures
+    c.in_ok-reading.ensures.looks.made c.leave.ensures.1)

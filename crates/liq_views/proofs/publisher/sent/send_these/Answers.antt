@@ -6,5 +6,6 @@ use Rattle.liq_views.proofs.publisher.sent.send_these.Goals as goal
 pub publish_as-requires : goal.publish_as-requires
 publish_as-requires g c next is =
     let writer = c.args.writer in
-    sends_these writer.desk.place.id (view writer.desk.place) g.B.Pending.batches (drop writer.behind writer.log.items) writer.desk.shown.value next
+    sends_these writer.desk.place.id (view writer.desk.place) g.B.Pending.batches (drop writer.behind writer.log.items)
+    writer.desk.shown.value next
     c.requires.these c.requires.made is

@@ -6,5 +6,6 @@ pub close-requires-2 : goal.close-requires-2
 close-requires-2 g c =
     let out = c.in-Err.ensures.out in
     record {
-      own = rw out.0 (all_with (IsSeatOf c.args.service) _ _ _ c.put_back.ensures (rw out.1 c.requires.seats) c.requires.other);
+      own = rw out.0 (all_with (IsSeatOf c.args.service) _ _ _ c.put_back.ensures (rw out.1 c.requires.seats)
+          c.requires.other);
     }

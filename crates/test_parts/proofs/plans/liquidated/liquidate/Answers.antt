@@ -19,18 +19,40 @@ abbrev two_rows : Table Trove
 two_rows = (1, fresh FIRST) ∷ (2, fresh SECOND) ∷ []
 
 abbrev opened_pools : Pools
-opened_pools = record { active_coll = 21100000000; active_debt = 8440000000; default_coll = 0; default_debt = 0; reserve = 400000000; surplus = 0; fee_coll = 0; fee_lusd = 40000000 }
+opened_pools = record {
+  active_coll = 21100000000;
+  active_debt = 8440000000;
+  default_coll = 0;
+  default_debt = 0;
+  reserve = 400000000;
+  surplus = 0;
+  fee_coll = 0;
+  fee_lusd = 40000000;
+}
 
 abbrev books : Sums → Table Trove → Pools → Books
 books sums troves pools =
-    record { sums = sums; troves = troves; active_coll = pools.active_coll; active_debt = pools.active_debt; default_coll = pools.default_coll; default_debt = pools.default_debt }
+    record {
+      sums = sums;
+      troves = troves;
+      active_coll = pools.active_coll;
+      active_debt = pools.active_debt;
+      default_coll = pools.default_coll;
+      default_debt = pools.default_debt;
+    }
 
 ascend : Ascends two_rows
 unfolding IsStrictlySortedBy
 ascend = ((refl, tt), (tt, tt))
 
 stand : (own : ℕ × ℕ) → 1 ≤ own.0 → RESERVE + MIN_NET ≤ own.1 → TroveStands 0 0 (fresh own)
-stand own some least = record { some = some; within = omega arith; debt = least; mark_coll = omega arith; mark_debt = omega arith }
+stand own some least = record {
+  some = some;
+  within = omega arith;
+  debt = least;
+  mark_coll = omega arith;
+  mark_debt = omega arith;
+}
 
 stands : TrovesStand (books (fresh_sums 21100000000) two_rows opened_pools)
 stands =
@@ -50,7 +72,16 @@ stands =
 
 pub apply_one-requires-clause-planned : goal.apply_one-requires-clause-planned
 apply_one-requires-clause-planned g c =
-    let m : Market = record { price = c.args.price; minute = 0; base = 0; fee_minute = 0; limit = LIM; total_coll = 21100000000; total_debt = 8440000000; troves = 2 } in
+    let m : Market = record {
+      price = c.args.price;
+      minute = 0;
+      base = 0;
+      fee_minute = 0;
+      limit = LIM;
+      total_coll = 21100000000;
+      total_debt = 8440000000;
+      troves = 2;
+    } in
     let sums = c.args.world.now.troves.sums in
     let rows = c.args.world.now.troves.table.rows in
     let total = c.args.homes.now.stability.words.total in

@@ -7,7 +7,9 @@ use Rattle.test_parts.proofs.plans.liquidated.opened.Goals as goal
 
 pub returns : goal.returns
 returns g c =
-    let words = c.provide-gain.ensures.words ∙ ap (λ (w : PoolWords). words_owned w c.args.deposit 0 c.provide-gain.result) (c.in_ok-reserve-3.ensures.words ∙ c.new-stability.ensures.words) in
+    let words = c.provide-gain.ensures.words
+    ∙ ap (λ (w : PoolWords). words_owned w c.args.deposit 0 c.provide-gain.result) (c.in_ok-reserve-3.ensures.words
+    ∙ c.new-stability.ensures.words) in
     record {
       wallets_are = search rules;
       liquidator = search rules;
@@ -17,5 +19,6 @@ returns g c =
       coll = let coll = ap (λ (w : PoolWords). w.coll) words in omega (arith, coll);
       scale = ap (λ (w : PoolWords). w.scale) words;
       epoch = ap (λ (w : PoolWords). w.epoch) words;
-      room = let spare = c.provide-gain.ensures.spare in let offsets = c.in_ok-reserve-3.ensures.offsets in omega (arith, spare, offsets);
+      room = let spare = c.provide-gain.ensures.spare in let offsets = c.in_ok-reserve-3.ensures.offsets
+          in omega (arith, spare, offsets);
     }

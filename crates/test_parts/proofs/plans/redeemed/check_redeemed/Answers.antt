@@ -10,9 +10,11 @@ use Rattle.test_parts.proofs.plans.redeemed.check_redeemed.Goals as goal
 
 pub apply-requires-clause-planned : goal.apply-requires-clause-planned
 apply-requires-clause-planned g c =
-    let same = c.read-wallet.ensures.wallet ∙ sym (ap (λ (t : Table Wallet). wallet_in t c.args.account) c.in-Ok-reserve.ensures.wallets) in
+    let same = c.read-wallet.ensures.wallet
+    ∙ sym (ap (λ (t : Table Wallet). wallet_in t c.args.account) c.in-Ok-reserve.ensures.wallets) in
     let had = ap (λ (w : Wallet). w.lusd) (c.read-wallet.ensures.wallet ∙ c.in-Ok-funded.ensures.had) in
-    subst (λ (w : Wallet). IsPlannedOn (parts_of BEFORE c.reserve.new.surplus c.in-Ok.troves c.in-Ok.order) w c.in-Ok-plan.plan) same (record {
+    subst (λ (w : Wallet). IsPlannedOn (parts_of BEFORE c.reserve.new.surplus c.in-Ok.troves c.in-Ok.order) w
+    c.in-Ok-plan.plan) same (record {
       market = MARKET;
       amount = 5000000000;
       bound = 1000000000000000000;

@@ -8,13 +8,15 @@ use Rattle.test_parts.proofs.troves.orders.along.Goals as goal
 abbrev Left : Ring → Option NodeNo → Type 0
 Left r start = (previous : Option NodeNo) × ((left : List Ranked) × Visits r start previous left)
 
-visited : (r : Ring) (at : NodeNo) (start previous : Option NodeNo) (left : List Ranked) → start ≡ Some at → Visits r start previous left → IsIn at r.order × Left r (at_place r at).next
+visited : (r : Ring) (at : NodeNo) (start previous : Option NodeNo) (left : List Ranked) → start ≡ Some at
+    → Visits r start previous left → IsIn at r.order × Left r (at_place r at).next
 visited r at start previous [] is h = absurd (none (sym h ∙ is)) where
   none : None ≡ Some at → ⊥
   none e = cc
-visited r at start previous (e ∷ es) is h = subst (λ (p : NodeNo). IsIn p r.order × Left r (at_place r p).next) (one (sym h.1 ∙ is)) (h.2.0, (Some h.0, (es, h.3))) where
-  one : {p q : NodeNo} → Some p ≡ Some q → p ≡ q
-  one e = cc
+visited r at start previous (e ∷ es) is h = subst (λ (p : NodeNo). IsIn p r.order × Left r (at_place r p).next)
+    (one (sym h.1 ∙ is)) (h.2.0, (Some h.0, (es, h.3))) where
+      one : {p q : NodeNo} → Some p ≡ Some q → p ≡ q
+      one e = cc
 
 pub read-node-requires : goal.read-node-requires
 read-node-requires g c =

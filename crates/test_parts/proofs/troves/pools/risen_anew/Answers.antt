@@ -22,5 +22,7 @@ sound = record {
 
 pub from_parts-requires : goal.from_parts-requires
 from_parts-requires c =
-    subst (λ (t : Table Deposit). IsSoundPool RISEN (finished_rows c.in-Ok.sums.items) t) (sym c.in-Ok-from_slice.ensures.items)
-    (subst (λ (l : List FinishedSum). IsSoundPool RISEN (finished_rows l) ((1, RISEN_FIRST) ∷ (2, RISEN_SECOND) ∷ [])) (sym c.in-Ok.ensures.items) sound)
+    subst (λ (t : Table Deposit). IsSoundPool RISEN (finished_rows c.in-Ok.sums.items) t)
+    (sym c.in-Ok-from_slice.ensures.items)
+    (subst (λ (l : List FinishedSum). IsSoundPool RISEN (finished_rows l) ((1, RISEN_FIRST) ∷ (2, RISEN_SECOND) ∷ []))
+    (sym c.in-Ok.ensures.items) sound)

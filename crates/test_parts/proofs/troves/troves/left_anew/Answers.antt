@@ -8,7 +8,16 @@ use Rattle.test_parts.proofs.troves.troves.left_anew.Goals as goal
 
 sound : AreSoundRows ((2, LEFT) ∷ []) LEFT_SUMS
 unfolding IsStrictlySortedBy
-sound = record { ascend = (tt, tt); each = (refl, tt); sum_coll = omega arith; sum_debt = omega arith; stakes = refl; snap = omega arith; snap_both = refl; limit = omega arith }
+sound = record {
+  ascend = (tt, tt);
+  each = (refl, tt);
+  sum_coll = omega arith;
+  sum_debt = omega arith;
+  stakes = refl;
+  snap = omega arith;
+  snap_both = refl;
+  limit = omega arith;
+}
 
 pub from_rows-requires : goal.from_rows-requires
 from_rows-requires c = subst (λ (t : Table Trove). AreSoundRows t LEFT_SUMS) (sym c.in-Ok.ensures.items) sound

@@ -11,4 +11,5 @@ IsKept c = is_rotate c.call ≡ false
 pub loop-line-preserved : goal.loop-line-preserved
 unfolding IsKept
 loop-line-preserved c =
-    subst (λ (cs : List Command). All IsKept cs) (sym c.in_ok-push.ensures.items) (All-push IsKept c.loop-line.commands.items _ c.loop-line.invariant c.in_ok-command_of.ensures)
+    subst (λ (cs : List Command). All IsKept cs) (sym c.in_ok-push.ensures.items)
+    (All-push IsKept c.loop-line.commands.items _ c.loop-line.invariant c.in_ok-command_of.ensures)

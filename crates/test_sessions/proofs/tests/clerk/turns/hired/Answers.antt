@@ -19,5 +19,6 @@ loop-seat-preserved c =
       fresh.0,
       search rules,
       search rules,
-      subst (All P) (sym c.push_reserved.ensures.items) (All-append P c.loop-seat.clerks.items (_ ∷ []) before.3 (All-cons P _ [] own (All-nil P))),
+      subst (All P) (sym c.push_reserved.ensures.items) (All-append P c.loop-seat.clerks.items (_ ∷ []) before.3
+          (All-cons P _ [] own (All-nil P))),
     )
