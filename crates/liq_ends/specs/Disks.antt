@@ -20,8 +20,8 @@ use Rattle.liq_ends.specs.declared.halts.Halt.{Halt}
 use Rattle.liq_ends.specs.declared.halts.Halt.TheVariants.{DiskFault, Damaged, NoMemory}
 use Rattle.liq_ends.specs.Requests.{IsNext}
 
--- Nothing was read, so that the opening may have failed. `told` is what the source told before, and
--- `unread` what it still tells.
+-- Nothing was answered, so that the opening may have failed; and where the source tells its bytes,
+-- nothing was read. `told` is what it told before, and `unread` what it still tells.
 abbrev pub IsUnread : Option (List ℕ) → Option (List ℕ) → List Request → Type 0
 IsUnread told unread requests = (requests ≡ []) × (unread ≡ told)
 

@@ -1,5 +1,5 @@
 -- Where a word ends, and what it has written by then.
-use Rattle.std.specs.Prelude.{ℕ, ◌≡◌, ◌≢◌, ◌≤◌, ◌+◌, ◌∷◌, [], ◌++◌, ◌⊎◌, List, length, Option, IfSome, Result, Ok, Err}
+use Rattle.std.specs.Prelude.{ℕ, ◌≡◌, ◌≢◌, ◌≤◌, ◌<◌, ◌+◌, ◌∷◌, [], ◌++◌, ◌⊎◌, List, length, Option, IfSome, Result, Ok, Err}
 use Rattle.liq_outside.specs.At.{DiskAt}
 use Rattle.liq_outside.specs.declared.showing.Showing.{Showing}
 use Rattle.liq_types.specs.declared.amounts.TheConstants.{LINES_MOST}
@@ -14,7 +14,7 @@ use Rattle.liq_journal.specs.declared.damage.Damage.{Damage}
 use Rattle.liq_pairs.specs.declared.side.Side.{Side}
 use Rattle.liq_pairs.specs.Past.{Fault}
 use Rattle.liq_ends.specs.declared.halts.Halt.{Halt}
-use Rattle.liq_ends.specs.declared.halts.Halt.TheVariants.{BadLine, WriteFault, Damaged, DamagedInput, NoMemory, Limit, Rotated}
+use Rattle.liq_ends.specs.declared.halts.Halt.TheVariants.{BadLine, WriteFault, DiskFault, Damaged, DamagedInput, NoMemory, Limit, Rotated}
 use Rattle.liq_ends.specs.Answered.{KeepsAnswered, Told}
 use Rattle.liq_ends.specs.Disks.{DisksHold, IsFaultOfRun, IsUnread, LeavesDamaged, LeavesOfRun}
 use Rattle.liq_ends.specs.Output.{last, lines}
@@ -59,21 +59,25 @@ StopsDamaged at old_left old_right l r side damage end fault before now left rig
     × LeavesDamaged at old_left old_right l r side damage (Err halt) left right
     × Adds [] (last halt) fault before now
 
--- Why a run from a state ended behind these requests, whatever its source tells. `told` is what
--- that told before, and `unread` what it still tells.
+-- Why a run from a state ended behind these requests, whatever its source tells. Of an end that is
+-- not named here the counts tell the cause. `told` is what the source told before, and `unread`
+-- what it still tells.
 abbrev pub EndsAfter : State → Result (Unit {0}) Halt → Option (List ℕ) → Option (List ℕ)
     → List Request → Type 0
--- the next line is no request
-EndsAfter start (Err (BadLine number)) told unread requests = number ≡ length requests + 1
+-- the next line is no request, and it is one of those that one run answers
+EndsAfter start (Err (BadLine number)) told unread requests = (number ≡ length requests + 1)
+    × (number ≤ LINES_MOST)
+-- a disk is asked in the opening, or for a line that one run answers
+EndsAfter start (Err DiskFault) told unread requests = length requests < LINES_MOST
 -- a run over damaged disks begins nowhere
 EndsAfter start (Err (Damaged side number)) told unread requests = ⊥
 -- what it reads are requests
 EndsAfter start (Err (DamagedInput number)) told unread requests = ⊥
--- memory is asked for before a line is read, and then only for a command that is allowed or plans a
--- list
+-- memory is asked for before a line is read, and then only for such a line's command that is
+-- allowed or plans a list
 EndsAfter start (Err NoMemory) told unread requests = IsUnread told unread requests
-    ⊎ ((request : Request) × IsNext told requests request
-    × TakesMemory (run start requests).0 request)
+    ⊎ ((length requests < LINES_MOST) × ((request : Request) × IsNext told requests request
+    × TakesMemory (run start requests).0 request))
 -- as many lines were answered as one run answers
 EndsAfter start (Err (Limit number)) told unread requests = (number ≡ LINES_MOST)
     × (length requests ≡ LINES_MOST)

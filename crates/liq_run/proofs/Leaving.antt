@@ -78,7 +78,7 @@ module _ {D : Type 0} (at : D → DiskAt) where
         record {
           requests = [];
           few = omega arith;
-          why = tt;
+          why = omega arith;
           read = nothing_read told;
           written = writes_nothing before;
           disks = λ a b told_a told_b. inl

@@ -150,7 +150,7 @@ reading_halts start past kept stopped (BadLine at) told taken n core u left w be
     record {
       requests = a.requests;
       few = omega (arith, few, a.count);
-      why = number;
+      why = (number, omega (arith, few, r.0));
       read = of_answered start told n core u w before now past a _
           (λ rest is.
           let bad = first_is_bad rest (unread taken left) (subst (λ (v : Option (List ℕ)). ReadsBad v
@@ -413,7 +413,7 @@ answering_halts start past past' kept stopped DiskFault told line r n core core'
     record {
       requests = a.requests;
       few = omega (arith, few, a.count);
-      why = tt;
+      why = omega (arith, few, a.count);
       read = begun;
       begins = begun;
       written = written_on start a.requests w w' before now now' a.written failed.2;
@@ -433,7 +433,10 @@ answering_halts start past past' kept stopped NoMemory told line r n core core' 
     record {
       requests = a.requests;
       few = omega (arith, few, a.count);
-      why = inr (r, next_is start told n core u w before now past a line r is first, failed.1);
+      why = inr (
+        omega (arith, few, a.count),
+        (r, next_is start told n core u w before now past a line r is first, failed.1),
+      );
       read = begun;
       begins = begun;
       written = written_on start a.requests w w' before now now' a.written failed.2;
