@@ -88,7 +88,7 @@ pub sink_causes : (end : Result (Unit {0}) Halt) (before after : ℕ) → LastCa
 sink_causes (Ok done) before after c = (λ h. absurd (omega (arith, h)), λ _. c)
 sink_causes (Err (BadLine n)) before after c = (λ h. absurd (omega (arith, h)), λ h. absurd (omega (arith, h)))
 sink_causes (Err ReadFault) before after c = (λ h. absurd (omega (arith, h)), λ h. absurd (omega (arith, h)))
-sink_causes (Err WriteFault) before after c = (λ _. c, λ h. absurd (omega (arith, h)))
+sink_causes (Err WriteFault) before after c = (λ _. c.1, λ h. absurd (omega (arith, h)))
 sink_causes (Err NoMemory) before after c = (λ h. absurd (omega (arith, h)), λ h. absurd (omega (arith, h)))
 sink_causes (Err DiskFault) before after c = (λ h. absurd (omega (arith, h)), λ h. absurd (omega (arith, h)))
 sink_causes (Err (Damaged Left number)) before after c = (

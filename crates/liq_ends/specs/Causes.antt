@@ -28,8 +28,8 @@ DiskCause _ before after = after ≡ before
 -- The sink's count over a whole run, whose last line may have met a fault too.
 abbrev pub LastCause : Result (Unit {0}) Halt → ℕ → ℕ → Type 0
 LastCause (Ok done) before after = after ≡ before
-LastCause (Err WriteFault) before after = Rose before after
-LastCause (Err _) before after = Unit {0}
+LastCause (Err WriteFault) before after = (before ≤ after) × Rose before after
+LastCause (Err _) before after = before ≤ after
 
 -- Two disks over a word that came to this end, whatever stands on them: one of their counts rose
 -- exactly where the end is a disk's fault; for each time goes on, and what a crash may have left at

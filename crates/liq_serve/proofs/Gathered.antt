@@ -1,5 +1,5 @@
 -- Lines of one kind, read to their end or not.
-use Rattle.std.proofs.Common.{◌≡◌, ◌≢◌, ℕ, List, [], length, Option, Some, Ok, Err, Result, refl, sym, subst, ap, arith, inl, inr}
+use Rattle.std.proofs.Common.{◌≡◌, ◌≢◌, ℕ, ◌≤◌, List, [], length, Option, Some, Ok, Err, Result, refl, sym, subst, ap, arith, inl, inr}
 use Rattle.std.specs.Prelude.{Vec}
 use Rattle.std.specs.Global.{Global}
 use Rattle.std.specs.List.{AllZip}
@@ -36,11 +36,12 @@ stop_source X stop.ReadFault before after c = c
 stop_source X stop.NoMemory before after c = c
 stop_source X stop.Limit before after c = c
 
-pub stop_sink : (why_not : Stop) (before after : ℕ) → LastCause (Err (halt_at why_not)) before after
-stop_sink (stop.BadLine number) before after = tt
-stop_sink stop.ReadFault before after = tt
-stop_sink stop.NoMemory before after = tt
-stop_sink stop.Limit before after = tt
+pub stop_sink : (why_not : Stop) (before after : ℕ) → before ≤ after
+    → LastCause (Err (halt_at why_not)) before after
+stop_sink (stop.BadLine number) before after fewer = fewer
+stop_sink stop.ReadFault before after fewer = fewer
+stop_sink stop.NoMemory before after fewer = fewer
+stop_sink stop.Limit before after fewer = fewer
 
 pub stop_disks : (why_not : Stop) (counts : Faults) → DiskCause {T = Unit {0}} (Err (halt_at why_not)) counts counts
 stop_disks (stop.BadLine number) counts = refl

@@ -1,5 +1,5 @@
 -- How each word ends, put together to the clause of the top call.
-use Rattle.std.proofs.Common.{◌≡◌, ◌≢◌, ℕ, List, [], append-nil, Option, Some, None, Ok, Err, Result, refl, sym, subst, ◌∙◌, arith, lit<, inl, inr}
+use Rattle.std.proofs.Common.{◌≡◌, ◌≢◌, ℕ, ◌≤◌, List, [], append-nil, Option, Some, None, Ok, Err, Result, refl, sym, subst, ◌∙◌, arith, lit<, inl, inr}
 use Rattle.std.specs.Prelude.{◌⊎◌, ◌↔◌, Contains, IfOk, IfSome}
 use Rattle.std.proofs.lemmas.List.Elements.{All-nil}
 use Rattle.liq_outside.specs.At.{DiskAt, SinkAt, SourceAt}
@@ -327,22 +327,26 @@ module _
       (refl, ([], reads_nothing (source_at before.source).left, ([], (omega arith, inl none_goes_on), written)))
   nothing_done written unshown (word.Gen seed count) = (refl, (2, lit< tt, refl), written)
 
+  -- the sink's count did not fall
+  abbrev NoFewer : Type 0
+  NoFewer = (sink_at before.sink).faults ≤ (sink_at now).faults
+
   -- nobody but the sink met a fault
-  no_causes : HasCauses source_at sink_at disk_at before after (Err NoMemory)
-  no_causes = record {
+  no_causes : NoFewer → HasCauses source_at sink_at disk_at before after (Err NoMemory)
+  no_causes fewer = record {
     source = refl;
-    sink = tt;
+    sink = fewer;
     disks = same_go_on disk_at before.left before.right (Err NoMemory) refl;
   }
 
   -- words that ask for nothing, or that there was no memory to read
   writes_alone :
-      (status : ℕ) (words : List (List ℕ))
+      (status : ℕ) (words : List (List ℕ)) → NoFewer
       → ((status ≡ 1) ↔ ((word : Word) → Ask words word → ⊥)) → (status ≡ 1 → Writes usage)
       → ((word : Word) → Ask words word
       → (status ≡ 7) × Writes (last NoMemory) × ((sink_at now).shown ≡ (sink_at before.sink).shown))
       → EndsWriting status words
-  writes_alone status words understood misused wordless =
+  writes_alone status words fewer understood misused wordless =
       record {
         understood = understood;
         usage = λ one. (refl, misused one);
@@ -351,7 +355,7 @@ module _
             record {
               end = Err NoMemory;
               status_is = none.0;
-              causes = no_causes;
+              causes = no_causes fewer;
               leaves = nothing_done none.1 none.2 word;
             };
         takes = λ one asked. none_taken (most_taken one) (source_at before.source).left;
@@ -359,20 +363,20 @@ module _
       }
 
   pub unread_ends :
-      (words : List (List ℕ)) (why : WordsFault) (status : ℕ)
+      (words : List (List ℕ)) (why : WordsFault) (status : ℕ) → NoFewer
       → (why ≡ fault.NoMemory → (status ≡ 7) × Writes (last NoMemory))
       → (why ≡ fault.NoMemory → (sink_at now).shown ≡ (sink_at before.sink).shown)
       → (why ≡ fault.Usage → (status ≡ 1) × Writes usage)
       → (let r : Result Word WordsFault = Err why in (r ≡ Err fault.Usage) ↔ ((word : Word) → Ask words word → ⊥))
       → EndsWriting status words
-  unread_ends words fault.Usage status memory unshown usage only =
+  unread_ends words fault.Usage status fewer memory unshown usage only =
       let ended = usage refl in
       subst (λ (n : ℕ). EndsWriting n words) (sym ended.0)
-      (writes_alone 1 words ((λ is. only.0 refl), (λ none. refl)) (λ is. ended.1)
+      (writes_alone 1 words fewer ((λ is. only.0 refl), (λ none. refl)) (λ is. ended.1)
       (λ word asked. absurd (only.0 refl word asked)))
-  unread_ends words fault.NoMemory status memory unshown usage only =
+  unread_ends words fault.NoMemory status fewer memory unshown usage only =
       let ended = memory refl in
       subst (λ (n : ℕ). EndsWriting n words) (sym ended.0)
-      (writes_alone 7 words
+      (writes_alone 7 words fewer
       ((λ is. absurd (omega (arith, is))), (λ none. absurd (cc (only.1 none)))) (λ is. absurd (omega (arith, is)))
       (λ word asked. (refl, ended.1, unshown refl)))

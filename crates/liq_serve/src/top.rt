@@ -1,6 +1,6 @@
 //! The top call.
 
-ghost use Rattle.std.specs.Prelude.{◌≡◌, ◌≢◌, ◌↔◌, ◌⊎◌, IfOk, IsTrue, List, ℕ, Ok, Err, map, []};
+ghost use Rattle.std.specs.Prelude.{◌≡◌, ◌≢◌, ◌≤◌, ◌↔◌, ◌⊎◌, IfOk, IsTrue, List, ℕ, Ok, Err, map, []};
 ghost use Rattle.std.specs.String.{string_bytes};
 ghost use Rattle.liq_outside.specs.Faults.{Rose};
 ghost use Rattle.liq_words.specs.declared.words.Word.{Word};
@@ -237,6 +237,7 @@ fn end_unread<K: Sink>(fault: WordsFault, out: &mut K) -> u8
     ensures usage { fault ≡ WordsFault.Usage → (result ≡ 1)
         × Adds [] usage (Rose (K.at out.old).faults (K.at out.new).faults)
         (K.at out.old).held (K.at out.new).held }
+    ensures count { (K.at out.old).faults ≤ (K.at out.new).faults }
 {
     match fault {
         WordsFault::Usage => {

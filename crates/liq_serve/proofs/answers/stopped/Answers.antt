@@ -10,7 +10,8 @@ pub returns-clause-sink : goal.returns-clause-sink
 returns-clause-sink g c =
     let was = (g.K.Sink.at c.args.out.now).faults in
     let now = (g.K.Sink.at c.write_last.new.out).faults in
-    subst (λ (halt : Halt). LastCause (Err halt) was now) (sym c.halt_at-halt.ensures) (stop_sink c.args.stop was now)
+    subst (λ (halt : Halt). LastCause (Err halt) was now) (sym c.halt_at-halt.ensures)
+    (stop_sink c.args.stop was now c.write_last.ensures.count)
 
 pub returns-clause-disks : goal.returns-clause-disks
 returns-clause-disks g c =

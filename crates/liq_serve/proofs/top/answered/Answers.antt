@@ -33,4 +33,4 @@ returns-in-Err g c =
     subst (λ (r : Result Word WordsFault). (r ≡ Err Usage) ↔ ((word : Word) → Ask words word → ⊥)) c.in-Err.is
     c.requires.usage in
     unread_ends g.S.Source.at g.K.Sink.at g.D.Disk.at g.met.D.Disk.seen_may_stay before ran.new.out words c.in-Err.fault
-    ran.result ran.ensures.no_memory ran.ensures.unshown ran.ensures.usage none
+    ran.result ran.ensures.count ran.ensures.no_memory ran.ensures.unshown ran.ensures.usage none
