@@ -28,24 +28,24 @@ use Rattle.liq_ends.specs.Outside.{Outside}
 use Rattle.liq_serve.specs.Top.{Ends, RunsTo}
 use Rattle.liq_serve.specs.Twice.{AreBehind, BeginsBehind, FollowOn}
 
-module _ (bytes l r : List ℕ) (start : State) (requests : List Request) where
+module _ (told : Option (List ℕ)) (l r : List ℕ) (start : State) (requests : List Request) where
   abbrev here : State
   here = (run start requests).0
 
   -- kept for the state after the requests
   kept_here : (end : Result (Unit {0}) Halt) (a b : List ℕ) → IsKept a b here
-      → BeginsBehind bytes l r start requests end a b
+      → BeginsBehind told l r start requests end a b
   kept_here end a b kept = ([], tt, kept)
 
   -- or for it after one command more
-  kept_behind : (a b : List ℕ) (c : Command) → (IsNext (Some bytes) requests (Do c) × (ruling here c ≡ Allowed))
+  kept_behind : (a b : List ℕ) (c : Command) → (IsNext told requests (Do c) × (ruling here c ≡ Allowed))
       ⊎ ((requests ≡ []) × HoldsUnfinished l r start c) → IsKept a b (after here c)
-      → BeginsBehind bytes l r start requests (Err DiskFault) a b
+      → BeginsBehind told l r start requests (Err DiskFault) a b
   kept_behind a b c why kept = (c ∷ [], (refl, why), kept)
 
   -- as an opening that failed left them
   recovered : (a b : List ℕ) → requests ≡ [] → IsRecovered l r start a b
-      → BeginsBehind bytes l r start requests (Err DiskFault) a b
+      → BeginsBehind told l r start requests (Err DiskFault) a b
   recovered a b none (inl kept) = kept_here (Err DiskFault) a b
       (subst (λ (rs : List Request). IsKept a b (run start rs).0) (sym none) kept)
   recovered a b none (inr (c, holds, kept)) = kept_behind a b c (inr (none, holds))
@@ -54,13 +54,13 @@ module _ (bytes l r : List ℕ) (start : State) (requests : List Request) where
   module _ {D : Type 0} (disk_at : D → DiskAt) (unread : Option (List ℕ)) (left right : D) where
     -- as they are read at the end
     pub read_behind : (end : Result (Unit {0}) Halt) → IsKept l r start
-        → DisksHold disk_at end (Some bytes) unread l r start left right requests → (a b : List ℕ)
+        → DisksHold disk_at end told unread l r start left right requests → (a b : List ℕ)
         → (disk_at left).seen ≡ Some a → (disk_at right).seen ≡ Some b
-        → BeginsBehind bytes l r start requests end a b
+        → BeginsBehind told l r start requests end a b
     read_behind (Err DiskFault) were holds a b told_a told_b = by (holds a b told_a told_b) where
-      by : (IsUnread (Some bytes) unread requests × (IsKept l r start → IsRecovered l r start a b))
-          ⊎ (IsKept a b here ⊎ ((c : Command) × IsNext (Some bytes) requests (Do c) × (ruling here c ≡ Allowed)
-          × IsKept a b (after here c))) → BeginsBehind bytes l r start requests (Err DiskFault) a b
+      by : (IsUnread told unread requests × (IsKept l r start → IsRecovered l r start a b))
+          ⊎ (IsKept a b here ⊎ ((c : Command) × IsNext told requests (Do c) × (ruling here c ≡ Allowed)
+          × IsKept a b (after here c))) → BeginsBehind told l r start requests (Err DiskFault) a b
       by (inl (none, gives)) = recovered a b none.0 (gives were)
       by (inr (inl kept)) = kept_here (Err DiskFault) a b kept
       by (inr (inr (c, next, allowed, kept))) = kept_behind a b c (inl (next, allowed)) kept
@@ -80,71 +80,70 @@ module _ (bytes l r : List ℕ) (start : State) (requests : List Request) where
     read_behind (Err (DamagedInput number)) were holds a b told_a told_b = kept_here (Err (DamagedInput number)) a b
         (holds a b told_a told_b)
 
-    module _ (old_left old_right : D) where
-      only_one : (disk : D) (held image : List ℕ) → (disk_at disk).seen ≡ Some held → IsAtRest disk_at disk
-          → LeftNow disk_at disk image → image ≡ held
-      only_one disk held image told rests left =
-          subst (λ (o : Option (List ℕ)). IfSome o (λ bytes. Only bytes (LeftNow disk_at disk))) told rests image left
+    only_one : (disk : D) (held image : List ℕ) → (disk_at disk).seen ≡ Some held → IsAtRest disk_at disk
+        → LeftNow disk_at disk image → image ≡ held
+    only_one disk held image told rests left =
+        subst (λ (o : Option (List ℕ)). IfSome o (λ bytes. Only bytes (LeftNow disk_at disk))) told rests image left
 
-      -- a fault is that of a disk
-      faulted : (end : Result (Unit {0}) Halt) (fault : Fault)
-          → IsFaultOfRun start end (Some bytes) unread requests fault
-          → fault ≢ NoFault → end ≡ Err DiskFault
-      faulted (Err DiskFault) fault is some = refl
-      faulted (Ok done) fault is some = absurd (some is)
-      faulted (Err (BadLine n)) fault is some = absurd (some is)
-      faulted (Err ReadFault) fault is some = absurd (some is)
-      faulted (Err WriteFault) fault is some = absurd (some is)
-      faulted (Err (Damaged side number)) fault is some = absurd (some is)
-      faulted (Err NoMemory) fault is some = absurd (some is)
-      faulted (Err (Limit number)) fault is some = absurd (some is)
-      faulted (Err (Rotated generation)) fault is some = absurd (some is)
-      faulted (Err (DamagedInput number)) fault is some = absurd (some is)
+    -- a fault is that of a disk
+    faulted : (end : Result (Unit {0}) Halt) (fault : Fault)
+        → IsFaultOfRun start end told unread requests fault
+        → fault ≢ NoFault → end ≡ Err DiskFault
+    faulted (Err DiskFault) fault is some = refl
+    faulted (Ok done) fault is some = absurd (some is)
+    faulted (Err (BadLine n)) fault is some = absurd (some is)
+    faulted (Err ReadFault) fault is some = absurd (some is)
+    faulted (Err WriteFault) fault is some = absurd (some is)
+    faulted (Err (Damaged side number)) fault is some = absurd (some is)
+    faulted (Err NoMemory) fault is some = absurd (some is)
+    faulted (Err (Limit number)) fault is some = absurd (some is)
+    faulted (Err (Rotated generation)) fault is some = absurd (some is)
+    faulted (Err (DamagedInput number)) fault is some = absurd (some is)
 
-      next_at : (c : Command) → ((AtCommand c ≡ InOpening) × IsUnread (Some bytes) unread requests)
-          ⊎ ((d : Command) × (AtCommand c ≡ AtCommand d) × IsNext (Some bytes) requests (Do d)
-          × (ruling here d ≡ Allowed))
-          → IsNext (Some bytes) requests (Do c)
-      next_at c (inl (is, none)) = absurd cc
-      next_at c (inr (d, is, next, allowed)) =
-          let same : d ≡ c = cc in
-          subst (λ (e : Command). IsNext (Some bytes) requests (Do e)) same next
+    next_at : (c : Command) → ((AtCommand c ≡ InOpening) × IsUnread told unread requests)
+        ⊎ ((d : Command) × (AtCommand c ≡ AtCommand d) × IsNext told requests (Do d)
+        × (ruling here d ≡ Allowed))
+        → IsNext told requests (Do c)
+    next_at c (inl (is, none)) = absurd cc
+    next_at c (inr (d, is, next, allowed)) =
+        let same : d ≡ c = cc in
+        subst (λ (e : Command). IsNext told requests (Do e)) same next
 
-      -- it is met at the next line's command
-      next_of : (end : Result (Unit {0}) Halt) (c : Command)
-          → IsFaultOfRun start end (Some bytes) unread requests (AtCommand c) → IsNext (Some bytes) requests (Do c)
-      next_of (Err DiskFault) c is = next_at c is
-      next_of (Ok done) c is = absurd cc
-      next_of (Err (BadLine n)) c is = absurd cc
-      next_of (Err ReadFault) c is = absurd cc
-      next_of (Err WriteFault) c is = absurd cc
-      next_of (Err (Damaged side number)) c is = absurd cc
-      next_of (Err NoMemory) c is = absurd cc
-      next_of (Err (Limit number)) c is = absurd cc
-      next_of (Err (Rotated generation)) c is = absurd cc
-      next_of (Err (DamagedInput number)) c is = absurd cc
+    -- it is met at the next line's command
+    next_of : (end : Result (Unit {0}) Halt) (c : Command)
+        → IsFaultOfRun start end told unread requests (AtCommand c) → IsNext told requests (Do c)
+    next_of (Err DiskFault) c is = next_at c is
+    next_of (Ok done) c is = absurd cc
+    next_of (Err (BadLine n)) c is = absurd cc
+    next_of (Err ReadFault) c is = absurd cc
+    next_of (Err WriteFault) c is = absurd cc
+    next_of (Err (Damaged side number)) c is = absurd cc
+    next_of (Err NoMemory) c is = absurd cc
+    next_of (Err (Limit number)) c is = absurd cc
+    next_of (Err (Rotated generation)) c is = absurd cc
+    next_of (Err (DamagedInput number)) c is = absurd cc
 
-      -- or as a crash at the end leaves them
-      pub left_behind : (end : Result (Unit {0}) Halt) (x y a b : List ℕ) → (disk_at left).seen ≡ Some x
-          → (disk_at right).seen ≡ Some y → IsKept l r start
-          → DisksHold disk_at end (Some bytes) unread l r start left right requests
-          → (fault : Fault) → IsFaultOfRun start end (Some bytes) unread requests fault
-          → RestAtEnd disk_at l r start requests fault left right → LeftNow disk_at left a → LeftNow disk_at right b
-          → BeginsBehind bytes l r start requests end a b
-      left_behind end x y a b told_x told_y were holds NoFault is rests at_a at_b =
-          read_behind end were holds a b (told_x ∙ ap Some (sym (only_one left x a told_x rests.0 at_a)))
-          (told_y ∙ ap Some (sym (only_one right y b told_y rests.1 at_b)))
-      left_behind end x y a b told_x told_y were holds InOpening is rests at_a at_b =
-          let so = rests a b at_a at_b in
-          subst (λ (e : Result (Unit {0}) Halt). BeginsBehind bytes l r start requests e a b)
-          (sym (faulted end InOpening is (λ e. cc))) (recovered a b so.0 so.1)
-      left_behind end x y a b told_x told_y were holds (AtCommand c) is rests at_a at_b =
-          subst (λ (e : Result (Unit {0}) Halt). BeginsBehind bytes l r start requests e a b)
-          (sym (faulted end (AtCommand c) is (λ e. cc))) (by (rests a b at_a at_b)) where
-            by : IsKept a b here ⊎ ((ruling here c ≡ Allowed) × IsKept a b (after here c))
-                → BeginsBehind bytes l r start requests (Err DiskFault) a b
-            by (inl kept) = kept_here (Err DiskFault) a b kept
-            by (inr (allowed, kept)) = kept_behind a b c (inl (next_of end c is, allowed)) kept
+    -- or as a crash at the end leaves them
+    pub left_behind : (end : Result (Unit {0}) Halt) (x y a b : List ℕ) → (disk_at left).seen ≡ Some x
+        → (disk_at right).seen ≡ Some y → IsKept l r start
+        → DisksHold disk_at end told unread l r start left right requests
+        → (fault : Fault) → IsFaultOfRun start end told unread requests fault
+        → RestAtEnd disk_at l r start requests fault left right → LeftNow disk_at left a → LeftNow disk_at right b
+        → BeginsBehind told l r start requests end a b
+    left_behind end x y a b told_x told_y were holds NoFault is rests at_a at_b =
+        read_behind end were holds a b (told_x ∙ ap Some (sym (only_one left x a told_x rests.0 at_a)))
+        (told_y ∙ ap Some (sym (only_one right y b told_y rests.1 at_b)))
+    left_behind end x y a b told_x told_y were holds InOpening is rests at_a at_b =
+        let so = rests a b at_a at_b in
+        subst (λ (e : Result (Unit {0}) Halt). BeginsBehind told l r start requests e a b)
+        (sym (faulted end InOpening is (λ e. cc))) (recovered a b so.0 so.1)
+    left_behind end x y a b told_x told_y were holds (AtCommand c) is rests at_a at_b =
+        subst (λ (e : Result (Unit {0}) Halt). BeginsBehind told l r start requests e a b)
+        (sym (faulted end (AtCommand c) is (λ e. cc))) (by (rests a b at_a at_b)) where
+          by : IsKept a b here ⊎ ((ruling here c ≡ Allowed) × IsKept a b (after here c))
+              → BeginsBehind told l r start requests (Err DiskFault) a b
+          by (inl kept) = kept_here (Err DiskFault) a b kept
+          by (inr (allowed, kept)) = kept_behind a b c (inl (next_of end c is, allowed)) kept
 
 -- ---- two calls
 
@@ -155,45 +154,41 @@ module _
   RunsFirst end l r start = RunsTo source_at sink_at disk_at before middle end l r start
 
   -- what a run left begins the next one
-  pub runs_behind : (end : Result (Unit {0}) Halt) (bytes l r a b : List ℕ) (start : State)
-      → (source_at before.source).left ≡ Some bytes → (ran : RunsFirst end l r start)
+  pub runs_behind : (end : Result (Unit {0}) Halt) (l r a b : List ℕ) (start : State)
+      → (ran : RunsFirst end l r start)
       → IsSome (disk_at middle.left).seen → IsSome (disk_at middle.right).seen
       → IsKept l r start
-      → AreBehind source_at sink_at disk_at before middle l r a b → BeginsBehind bytes l r start ran.requests end a b
-  runs_behind end bytes l r a b start told ran left_tells right_tells were (inl (told_a, told_b)) =
+      → AreBehind source_at sink_at disk_at before middle l r a b → BeginsBehind (source_at before.source).left l r
+      start ran.requests end a b
+  runs_behind end l r a b start ran left_tells right_tells were (inl (told_a, told_b)) =
+      read_behind (source_at before.source).left l r start ran.requests disk_at (source_at middle.source).left
+      middle.left middle.right end were ran.disks a b told_a told_b
+  runs_behind end l r a b start ran left_tells right_tells were (inr (only_l, only_r, at_a, at_b)) =
+      let told = (source_at before.source).left in
       let unread = (source_at middle.source).left in
-      let disks = subst (λ (o : Option (List ℕ)). DisksHold disk_at end o unread l r start middle.left middle.right
-      ran.requests) told ran.disks in
-      read_behind bytes l r start ran.requests disk_at unread middle.left middle.right end were disks a b told_a told_b
-  runs_behind end bytes l r a b start told ran left_tells right_tells were (inr (only_l, only_r, at_a, at_b)) =
-      let unread = (source_at middle.source).left in
-      let disks = subst (λ (o : Option (List ℕ)). DisksHold disk_at end o unread l r start middle.left middle.right
-      ran.requests) told ran.disks in
       let past = ran.past only_l only_r were in
       let x = some_of (disk_at middle.left).seen left_tells in
       let y = some_of (disk_at middle.right).seen right_tells in
-      let at = subst (λ (met : Fault). IsFaultOfRun start end (Some bytes) unread ran.requests met)
-      (sym past.fault_is)
-      (subst (λ (o : Option (List ℕ)). IsFaultOfRun start end o unread ran.requests ran.fault) told ran.fault_is) in
-      left_behind bytes l r start ran.requests disk_at unread middle.left middle.right
-      before.left before.right end x.0 y.0 a b x.1 y.1 were disks past.fault at past.rests at_a at_b
+      let at = subst (λ (met : Fault). IsFaultOfRun start end told unread ran.requests met)
+      (sym past.fault_is) ran.fault_is in
+      left_behind told l r start ran.requests disk_at unread middle.left middle.right end x.0 y.0 a b x.1 y.1 were
+      ran.disks past.fault at past.rests at_a at_b
 
   pub follow_on :
       (status second_status : ℕ) (words others : List (List ℕ))
       → Ends source_at sink_at disk_at before middle status words
       → Ends source_at sink_at disk_at again later second_status others
-      → Ask words word.Run → Ask others word.Run → (bytes lines l r a b : List ℕ) (start : State)
-      → (source_at before.source).left ≡ Some bytes → (source_at again.source).left ≡ Some lines
+      → Ask words word.Run → Ask others word.Run → (l r a b : List ℕ) (start : State)
       → (disk_at before.left).seen ≡ Some l → (disk_at before.right).seen ≡ Some r → state_on l r ≡ Ok start
       → IsKept l r start
       → (disk_at again.left).seen ≡ Some a → (disk_at again.right).seen ≡ Some b
       → AreBehind source_at sink_at disk_at before middle l r a b
-      → FollowOn source_at sink_at disk_at before middle again later status second_status bytes lines l r a b start
-  follow_on status second_status words others one two asked asked_too bytes lines l r a b start told told_too told_l
-      told_r is were told_a told_b behind =
+      → FollowOn source_at sink_at disk_at before middle again later status second_status l r a b start
+  follow_on status second_status words others one two asked asked_too l r a b start told_l told_r is were told_a
+      told_b behind =
       let e = one.ends word.Run asked in
       let ran = MatchResult-at_ok _ _ start is (e.leaves l r told_l told_r) in
-      let begins = runs_behind e.end bytes l r a b start told ran (e.causes.disks.left_telling.1 (ap is_some told_l))
+      let begins = runs_behind e.end l r a b start ran (e.causes.disks.left_telling.1 (ap is_some told_l))
       (e.causes.disks.right_telling.1 (ap is_some told_r)) were behind in
       let between = fold after (run start ran.requests).0 begins.0 in
       let t = begins.2.stands.state in

@@ -1,5 +1,5 @@
 -- Two runs, one after the other. What is said here follows from the top call's clause (`laws`).
-use Rattle.std.specs.Prelude.{ℕ, ◌≡◌, ◌⊎◌, List, [], ◌∷◌, Some, Result, Ok, Err, fold}
+use Rattle.std.specs.Prelude.{ℕ, ◌≡◌, ◌⊎◌, List, [], ◌∷◌, Option, Some, Result, Ok, Err, fold}
 use Rattle.liq_outside.specs.At.{DiskAt, SinkAt, SourceAt}
 use Rattle.liq_outside.specs.Disk.{LeftNow, Only}
 use Rattle.liq_types.specs.declared.requests.Command.{Command}
@@ -20,24 +20,24 @@ use Rattle.liq_ends.specs.Outside.{Outside}
 use Rattle.liq_serve.specs.Top.{RunsTo}
 
 -- What disks hold behind the requests that a run answered: nothing; or, where a disk met a fault,
--- one command more. It is the next line's, which is accepted there, or, where nothing was read, the
--- one that they held unfinished before.
+-- one command more. It is accepted there, and the next line's where the source told its bytes; or,
+-- where nothing was answered, it is the one that they held unfinished before.
 abbrev pub AreMore :
-    List ℕ → List ℕ → List ℕ → State → List Request → Result (Unit {0}) Halt → List Command
-    → Type 0
-AreMore bytes l r start requests end [] = Unit {0}
-AreMore bytes l r start requests end (c ∷ []) = (end ≡ Err DiskFault)
-    × ((IsNext (Some bytes) requests (Do c) × (ruling (run start requests).0 c ≡ Allowed))
+    Option (List ℕ) → List ℕ → List ℕ → State → List Request → Result (Unit {0}) Halt
+    → List Command → Type 0
+AreMore told l r start requests end [] = Unit {0}
+AreMore told l r start requests end (c ∷ []) = (end ≡ Err DiskFault)
+    × ((IsNext told requests (Do c) × (ruling (run start requests).0 c ≡ Allowed))
     ⊎ ((requests ≡ []) × HoldsUnfinished l r start c))
-AreMore bytes l r start requests end (c ∷ more) = ⊥
+AreMore told l r start requests end (c ∷ more) = ⊥
 
 -- Two disks of this content are kept for the state after the requests and after these: so the next
 -- run begins there, and what was acknowledged is in it.
 abbrev pub BeginsBehind :
-    List ℕ → List ℕ → List ℕ → State → List Request → Result (Unit {0}) Halt → List ℕ → List ℕ
-    → Type 0
-BeginsBehind bytes l r start requests end a b =
-    (more : List Command) × AreMore bytes l r start requests end more
+    Option (List ℕ) → List ℕ → List ℕ → State → List Request → Result (Unit {0}) Halt → List ℕ
+    → List ℕ → Type 0
+BeginsBehind told l r start requests end a b =
+    (more : List Command) × AreMore told l r start requests end more
     × IsKept a b (fold rule.after (run start requests).0 more)
 
 -- The functions are those of `Ends`.
@@ -54,13 +54,13 @@ module _
   -- Two calls, both of `run`. The second begins where the first one's requests lead, and what it
   -- may have left behind them; and from there its own lead on.
   pub record FollowOn
-      (before middle again after : Outside S K D) (status later : ℕ) (bytes lines l r a b : List ℕ)
+      (before middle again after : Outside S K D) (status later : ℕ) (l r a b : List ℕ)
       (start : State) : Type 0 where
     pub end : Result (Unit {0}) Halt
     pub status_is : status ≡ status_of end
     pub first : RunsTo source_at sink_at disk_at before middle end l r start
     pub more : List Command
-    pub are : AreMore bytes l r start first.requests end more
+    pub are : AreMore (source_at before.source).left l r start first.requests end more
     pub state : State
     pub is : state_on a b ≡ Ok state
     pub kept : IsKept a b state

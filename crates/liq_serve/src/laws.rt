@@ -50,12 +50,11 @@ pub fn runs_follow_on<S: Source, K: Sink, D: Disk>()
         → Ends S.at K.at D.at before middle status words
         → Ends S.at K.at D.at again after later others
         → Ask words Word.Run → Ask others Word.Run
-        → (bytes lines l r a b : List ℕ) (start : State)
-        → (S.at before.source).left ≡ Some bytes → (S.at again.source).left ≡ Some lines
+        → (l r a b : List ℕ) (start : State)
         → (D.at before.left).seen ≡ Some l → (D.at before.right).seen ≡ Some r
         → state_on l r ≡ Ok start → IsKept l r start
         → (D.at again.left).seen ≡ Some a → (D.at again.right).seen ≡ Some b
         → AreBehind S.at K.at D.at before middle l r a b
         → FollowOn S.at K.at D.at before middle again after status later
-        bytes lines l r a b start }
+        l r a b start }
 {}
