@@ -222,6 +222,13 @@ module _ {S K D : Type 0} (source_at : S → SourceAt) (sink_at : K → SinkAt) 
 
   -- ---- each word
 
+  -- Nothing is read, this text of the state is told, and the disks stay so.
+  abbrev pub TellsState : (State → List ℕ) → Result (Unit {0}) Halt → Type 0
+  TellsState text end = (after.source ≡ before.source) × OpensFirst end (λ l r start.
+      Contains (0 ∷ 4 ∷ 5 ∷ 7 ∷ []) (status_of end)
+      × Tells [] (text start) end × DisksStay disk_at end l r start after.left after.right
+      × Leave (IsFaultOfTelling end) l r start [])
+
   -- what a word leaves that came to this end
   abbrev pub Leaves : Word → Result (Unit {0}) Halt → Type 0
   -- what the end says of what came in, what went out, and what the disks hold
@@ -234,16 +241,10 @@ module _ {S K D : Type 0} (source_at : S → SourceAt) (sink_at : K → SinkAt) 
   -- so are those who name front ends
   Leaves word.Rewards end = AnswersLines source_at sink_at disk_at before after tags.Spells
       rewarded_text end
-  -- nothing is read; it is told what stands, and the disks stay so
-  Leaves word.State end = (after.source ≡ before.source) × OpensFirst end (λ l r start.
-      Contains (0 ∷ 4 ∷ 5 ∷ 7 ∷ []) (status_of end)
-      × Tells [] (standing start) end × DisksStay disk_at end l r start after.left after.right
-      × Leave (IsFaultOfTelling end) l r start [])
-  -- nothing is read; each trove and deposit is told as it stands, and the disks stay so
-  Leaves word.Report end = (after.source ≡ before.source) × OpensFirst end (λ l r start.
-      Contains (0 ∷ 4 ∷ 5 ∷ 7 ∷ []) (status_of end)
-      × Tells [] (reported start) end × DisksStay disk_at end l r start after.left after.right
-      × Leave (IsFaultOfTelling end) l r start [])
+  -- it is told what stands
+  Leaves word.State end = TellsState standing end
+  -- each trove and deposit is told as it stands
+  Leaves word.Report end = TellsState reported end
   -- Nothing is read, the review is told of the commands that lead to the state, and the disks stay
   -- so. At 0 each row of the review encloses the exact share of its account, and what the protocol
   -- gives it in that state is within the row. Where the state is of a generation above the first,
@@ -264,8 +265,7 @@ module _ {S K D : Type 0} (source_at : S → SourceAt) (sink_at : K → SinkAt) 
       (after ≡ record before { sink = after.sink }) × Contains (0 ∷ 4 ∷ 7 ∷ []) (status_of end)
       × Tells [] (summary (load opening (generated seed count))) end
 
-  -- How this word ended: at this status, for its cause and for none that is not told, and leaving
-  -- this.
+  -- How this word ended: its status, whose count of faults rose for it, and what it leaves.
   pub record EndsAs (one : Word) (status : ℕ) : Type 0 where
     pub end : Result (Unit {0}) Halt
     pub status_is : status ≡ status_of end
