@@ -6,6 +6,7 @@ pub mod laws;
 mod serve;
 mod top;
 
+pub use liq_rewarding::rewards_text;
 pub use liq_sessions::OpenGate;
 pub use liq_words::takes_disks;
 pub use top::{Ended, protocol, without_threads, without_words};
