@@ -306,10 +306,19 @@ module _
             (holds.0, kept_around (state_after start history) c a b holds.0 (holds.1 a b told_a told_b))) whole,
       ))
 
+  abbrev AnswersTo : Finish → Type 0
+  AnswersTo how = AnswersInput disk_at (source_at before.source).left (source_at after.source).left before.left
+      before.right (record { left = after.left; right = after.right; finish = how }) asked history
+
+  -- how it ends over damaged disks
+  ends_damaged : (how : Finish) → AnswersTo how → (l r : List ℕ) (side : Side) (damage : Damage)
+      → (disk_at before.left).seen ≡ Some l → (disk_at before.right).seen ≡ Some r
+      → state_on l r ≡ Err (side, damage) → serving.EndsDamaged disk_at how side damage after.left after.right
+  ends_damaged how a l r side damage told_l told_r is = (a.damaged l r side damage told_l told_r is).ends
+
   -- No store was opened. Of damaged disks a stop leaves what an opening does.
   unopened_by : (end : Result (Unit {0}) Halt) (fault : Fault) (w : StoreWhy)
-      → (a : AnswersInput disk_at (source_at before.source).left (source_at after.source).left before.left before.right
-      (record { left = after.left; right = after.right; finish = finish.NotOpened w }) asked history)
+      → (a : AnswersTo (finish.NotOpened w))
       → IsFaultOfTelling end fault → Contains (5 ∷ 6 ∷ 7 ∷ []) (status_of end)
       → ((number : ℕ) → end ≢ Err (DamagedInput number))
       → ((l r : List ℕ) (start : State) → (disk_at before.left).seen ≡ Some l → (disk_at before.right).seen ≡ Some r
@@ -337,15 +346,13 @@ module _
       ))
 
   pub came_by : (how : Finish)
-      (a : AnswersInput disk_at (source_at before.source).left (source_at after.source).left before.left before.right
-      (record { left = after.left; right = after.right; finish = how }) asked history)
+      (a : AnswersTo how)
       → ((why_not : Stop) → how ≡ finish.NotRead why_not → (after.left ≡ before.left) × (after.right ≡ before.right))
       → Came (λ other. serving.IsFaultAt how a.halted other) (end_of how)
   came_by finish.All a same = came_whole (Ok tt) NoFault a.read
       (inr (
         refl,
-        kept IsKept a.disks
-            (λ l r side damage told_l told_r is. (a.damaged l r side damage told_l told_r is).ends),
+        kept IsKept a.disks (ends_damaged finish.All a),
         (0, lit< tt, refl),
         none_left asked history a.answers,
       ))
@@ -353,8 +360,7 @@ module _
       came_whole (Err WriteFault) NoFault a.read
       (inr (
         refl,
-        kept IsKept a.disks
-            (λ l r side damage told_l told_r is. (a.damaged l r side damage told_l told_r is).ends),
+        kept IsKept a.disks (ends_damaged finish.WriteFault a),
         (1, lit< tt, refl),
         none_left asked history a.answers,
       ))
@@ -362,13 +368,12 @@ module _
       came_whole (Err NoMemory) NoFault a.read
       (inr (
         refl,
-        kept IsKept a.disks
-            (λ l r side damage told_l told_r is. (a.damaged l r side damage told_l told_r is).ends),
+        kept IsKept a.disks (ends_damaged finish.NoMemory a),
         lacking asked history
             a.answers,
       ))
   came_by finish.DiskFault a same = halted_by a.halted a.answers a.disks
-      (λ l r side damage told_l told_r is. (a.damaged l r side damage told_l told_r is).ends) a.read
+      (ends_damaged finish.DiskFault a) a.read
   came_by (finish.NotRead why_not) a same =
       record {
         reading = Err (halt_at why_not);
@@ -384,11 +389,11 @@ module _
   came_by (finish.NotOpened why.NoMemory) a same =
       unopened_by (Err NoMemory) NoFault why.NoMemory a refl (2, lit< tt, refl) (λ n e. cc)
       (λ l r start told_l told_r is. ((λ e. omega (arith, e)), a.disks l r start told_l told_r is))
-      (λ l r side damage told_l told_r is. (a.damaged l r side damage told_l told_r is).ends) (λ other e. cc)
+      (ends_damaged (finish.NotOpened why.NoMemory) a) (λ other e. cc)
   came_by (finish.NotOpened (why.Damaged which met)) a same =
       unopened_by (Err (Damaged which met.index)) NoFault (why.Damaged which met) a refl
       (1, lit< tt, six which met.index) (λ n e. cc)
       (λ l r start told_l told_r is. absurd (a.disks l r start told_l told_r is))
       (λ l r side damage told_l told_r is.
-      let h = (a.damaged l r side damage told_l told_r is).ends in
+      let h = ends_damaged (finish.NotOpened (why.Damaged which met)) a l r side damage told_l told_r is in
       (h.0, ap (λ (d : Damage). d.index) h.1, h.2)) (λ other e. cc)
