@@ -20,12 +20,12 @@ use Rattle.liq_types.specs.declared.requests.Call.TheVariants.{Provide, Withdraw
 use Rattle.liq_types.specs.declared.requests.Call.TheVariants.{LiquidateLowest, Redeem, Claim, Rotate}
 use Rattle.liq_types.specs.declared.requests.Command.{Command}
 use Rattle.liq_types.specs.Ranked.{Ranked, IsAscending, IsTight, rank_order, first_of}
-use Rattle.liq_types.specs.Ranked.{before_entry, after_entry, neighbours, without_ranked}
+use Rattle.liq_types.specs.Ranked.{before_entry, after_entry, neighbours, with_ranked, without_ranked}
 use Rattle.liq_types.proofs.RankedLists.{Behind, behind_more, ascending_kept}
-use Rattle.liq_chunks.proofs.Lists.{exact_rank, first_appended, is_less, nothing_before, turned, whole_after}
+use Rattle.liq_chunks.proofs.Lists.{exact_rank, first_appended, is_less, last_appended, nothing_before, turned, whole_after}
 use Rattle.liq_order.specs.Listed.{IsAbsent}
 use Rattle.liq_order.proofs.Sorting.{with_strict}
-use Rattle.liq_guide.specs.Followed.{listed, all_listed, put_by, hint_at, hint_of_last, last_put as last_followed}
+use Rattle.liq_guide.specs.Followed.{all_listed, put_by, hint_at, hint_of_last, last_put as last_followed}
 use Rattle.liq_standing.specs.Steps.{TakesFew}
 use Rattle.liq_core.specs.Plan.{Plan}
 use Rattle.liq_core.specs.Steps.{last_put, put_of, used_hint, words_of}
@@ -61,17 +61,17 @@ absent_without (f ∷ fs) account = by (f.1 == account) refl (absent_without fs 
     clash : true ≡ false → ⊥
     clash e = cc
 
-listed_ascends : (list : List Ranked) (change : ListChange) → IsAscending list → IsAscending (listed list change)
-listed_ascends list (Put key account) h =
-    with_strict (without_ranked list account) (key, account) (absent_without list account)
-    (ascending_kept (λ (e : Ranked). not (e.1 == account)) list h)
-listed_ascends list (Gone account) h = ascending_kept (λ (e : Ranked). not (e.1 == account)) list h
-listed_ascends list (Words snap_stakes snap_coll sum_debt) h = h
-
 pub all_ascend : (changes : List ListChange) (list : List Ranked)
     → IsAscending list → IsAscending (all_listed list changes)
 all_ascend [] list h = h
-all_ascend (change ∷ changes) list h = all_ascend changes (listed list change) (listed_ascends list change h)
+all_ascend (Put key account ∷ changes) list h =
+    let others = without_ranked list account in
+    let kept = ascending_kept (λ (e : Ranked). not (e.1 == account)) list h in
+    all_ascend changes (with_ranked others (key, account))
+    (with_strict others (key, account) (absent_without list account) kept)
+all_ascend (Gone account ∷ changes) list h =
+    all_ascend changes (without_ranked list account) (ascending_kept (λ (e : Ranked). not (e.1 == account)) list h)
+all_ascend (Words snap_stakes snap_coll sum_debt ∷ changes) list h = all_ascend changes list h
 
 -- ---- the two parts of a list
 
@@ -111,16 +111,20 @@ first_passes P (g ∷ gs) f h is = subst P (the is) h.0 where
   the : Some g ≡ Some f → g ≡ f
   the e = cc
 
-all_appended : (P : Ranked → Type 0) (xs ys : List Ranked)
-    → AllByRecursion P xs → AllByRecursion P ys → AllByRecursion P (xs ++ ys)
-all_appended P [] ys h k = k
-all_appended P (x ∷ xs) ys h k = (h.0, all_appended P xs ys h.1 k)
+last_passes : (P : Ranked → Type 0) (list : List Ranked) (f : Ranked)
+    → AllByRecursion P list → first_of (reverse list) ≡ Some f → P f
+last_passes P [] f h is = absurd (clash is) where
+  clash : None ≡ Some f → ⊥
+  clash e = cc
+last_passes P (g ∷ gs) f h is =
+    by (first_of (reverse gs)) refl (λ k. last_passes P gs f h.1 k) (sym (last_appended (g ∷ []) gs) ∙ is) where
+      the : (x : Ranked) → Some x ≡ Some f → x ≡ f
+      the x e = cc
 
-all_reversed : (P : Ranked → Type 0) (list : List Ranked) → AllByRecursion P list → AllByRecursion P (reverse list)
-all_reversed P [] h = tt
-all_reversed P (f ∷ fs) h =
-    subst (AllByRecursion P) (sym (reverse-append (f ∷ []) fs))
-    (all_appended P (reverse fs) (f ∷ []) (all_reversed P fs h.1) (h.0, tt))
+      by : (o : Option Ranked) → first_of (reverse gs) ≡ o → (first_of (reverse gs) ≡ Some f → P f)
+          → option_or (first_of (reverse gs)) (Some g) ≡ Some f → P f
+      by None none more last = subst P (the g (sym (ap (λ p. option_or p (Some g)) none) ∙ last)) h.0
+      by (Some x) some more last = more (some ∙ sym (ap (λ p. option_or p (Some g)) some) ∙ last)
 
 abbrev is_ahead : Ranked → Ranked → Bool
 is_ahead e f = is_lt (rank_order f e)
@@ -133,19 +137,19 @@ neighbours_tight : (list : List Ranked) (e : Ranked) → IsAscending list
 neighbours_tight list e asc =
     let others = without_ranked list e.1 in
     let before = before_entry others e in
-    let ahead = all_reversed (λ f. is_ahead e f ≡ true) before (passed (is_ahead e) others) in
+    let after = after_entry others e in
+    let ahead = passed (is_ahead e) others in
     let behind = passed (is_behind e) others in
     record {
       before = before;
-      after = after_entry others e;
+      after = after;
       whole = parted others e (ascending_kept (λ (f : Ranked). not (f.1 == e.1)) list asc) (absent_without list e.1);
       prev_is = refl;
       next_is = refl;
       above_prev =
-          λ f is. is_less (rank_order f e) (first_passes (λ g. is_ahead e g ≡ true) (reverse before) f ahead is);
+          λ f is. is_less (rank_order f e) (last_passes (λ g. is_ahead e g ≡ true) before f ahead is);
       below_next =
-          λ f is. is_less (rank_order e f) (first_passes (λ g. is_behind e g ≡ true) (after_entry others e) f
-          behind is);
+          λ f is. is_less (rank_order e f) (first_passes (λ g. is_behind e g ≡ true) after f behind is);
     }
 
 -- ---- what a guide says

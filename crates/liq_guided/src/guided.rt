@@ -1,6 +1,6 @@
 //! A protocol, and beside it the guide of its ordered list.
 
-ghost use Rattle.std.specs.Prelude.{◌≡◌, ◌≤◌, ◌+◌, ℕ, false, IfOk, OnOk};
+ghost use Rattle.std.specs.Prelude.{◌≡◌, ◌≤◌, ◌+◌, ℕ, false, length, IfOk, OnOk};
 ghost use Rattle.liq_types.specs.Image.{IsLimit};
 ghost use Rattle.liq_types.specs.State.{State, opening_with};
 ghost use Rattle.liq_types.specs.declared.replies.Reply.TheVariants.{Said};
@@ -165,6 +165,7 @@ impl Guided {
         ensures few { TakesFew self.new.list
             (used_hint (words_of planned.command.call) (hint_used hints.now))
             (last_put planned.changes) steps.old steps.new }
+        ensures any { steps.new ≤ steps.old + (length self.old.list + 4) }
     {
         protocols_are_sound_states(&self.protocol);
         lists_stand(&self.protocol);

@@ -1,5 +1,5 @@
 //! The guide of a protocol's list.
-ghost use Rattle.std.specs.Prelude.{◌≡◌, [], true, false, IfOk, OnOk, OnErr};
+ghost use Rattle.std.specs.Prelude.{◌≡◌, ◌↔◌, [], true, false, not, IfOk, OnOk, OnErr};
 ghost use Rattle.liq_guide.specs.Followed.{all_listed, hint_of_last};
 ghost use Rattle.liq_guided.specs.ListGuides.{IsGuideOf};
 
@@ -87,8 +87,8 @@ impl ListGuide {
 
     /// Whether it has followed just these changes.
     pub(crate) fn has_followed(&self, changes: &[ListChange]) -> bool
-        ensures { result ≡ true → (self.now.ahead.items ≡ changes.now)
-            × (self.now.is_stale ≡ false) }
+        ensures { (result ≡ true) ↔ ((self.now.ahead.items ≡ changes.now)
+            × (self.now.is_stale ≡ false)) }
     {
         !self.is_stale && are_same(&self.ahead, changes)
     }
@@ -97,7 +97,7 @@ impl ListGuide {
     pub(crate) fn settle(&mut self, is_followed: bool)
         ensures guide { self.new.guide ≡ self.old.guide }
         ensures made { is_followed ≡ true → self.new.ahead.items ≡ [] }
-        ensures stale { is_followed ≡ false → self.new.is_stale ≡ true }
+        ensures stale { self.new.is_stale ≡ not is_followed }
     {
         self.is_stale = !is_followed;
         if self.ahead.capacity() <= KEPT {
@@ -127,7 +127,7 @@ fn guide_of(alloc: Global, protocol: &Protocol) -> Result<Guide, NoMemory>
 
 /// Whether two lists have the same changes.
 fn are_same(left: &[ListChange], right: &[ListChange]) -> bool
-    ensures { result ≡ true → left.now ≡ right.now }
+    ensures { (result ≡ true) ↔ (left.now ≡ right.now) }
 {
     if left.len() != right.len() {
         return false;
@@ -141,7 +141,7 @@ fn are_same(left: &[ListChange], right: &[ListChange]) -> bool
 }
 
 fn is_same(change: &ListChange, other: &ListChange) -> bool
-    ensures { result ≡ true → change.now ≡ other.now }
+    ensures { (result ≡ true) ↔ (change.now ≡ other.now) }
 {
     match (*change, *other) {
         (ListChange::Put { key, account }, ListChange::Put { key: k, account: a }) => {

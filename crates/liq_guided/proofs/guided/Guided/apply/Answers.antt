@@ -1,4 +1,5 @@
 use Rattle.std.proofs.Common.{ap, subst, sym, ◌∙◌}
+use Rattle.std.specs.Prelude.{not}
 use Rattle.liq_guide.specs.Followed.{all_listed}
 use Rattle.liq_core.specs.Core.{Core, StandsFor, state_of}
 use Rattle.liq_guided.proofs.Listing.{made_list, settled}
@@ -16,7 +17,8 @@ invariant_of-self g c =
     planned (c.apply-done.ensures.list s here) in
     settled p.list c.apply-done.new.self.list c.list_changes.result.now c.self.inside.guide c.settle.new.self
     c.has_followed-is_followed.result (made ∙ ap (all_listed p.list) (sym c.list_changes.ensures)) c.self.invariant
-    c.has_followed-is_followed.ensures c.settle.ensures.guide c.settle.ensures.made c.settle.ensures.stale
+    c.has_followed-is_followed.ensures.0 c.settle.ensures.guide c.settle.ensures.made
+    (λ e. c.settle.ensures.stale ∙ ap not e)
 
 pub returns-clause-state : goal.returns-clause-state
 returns-clause-state g c s h =
