@@ -59,15 +59,14 @@ StopsDamaged at old_left old_right l r side damage end fault before now left rig
     × LeavesDamaged at old_left old_right l r side damage (Err halt) left right
     × Adds [] (last halt) fault before now
 
--- Why a run from a state ended behind these requests, whatever its source tells. Of an end that is
--- not named here the counts tell the cause. `told` is what the source told before, and `unread`
--- what it still tells.
+-- Why a run from a state ended behind these requests, whatever its source tells. Of a fault the
+-- counts tell the cause. `told` is what the source told before, and `unread` what it still tells.
 abbrev pub EndsAfter : State → Result (Unit {0}) Halt → Option (List ℕ) → Option (List ℕ)
     → List Request → Type 0
 -- the next line is no request, and it is one of those that one run answers
 EndsAfter start (Err (BadLine number)) told unread requests = (number ≡ length requests + 1)
     × (number ≤ LINES_MOST)
--- a disk is asked in the opening, or for a line that one run answers
+-- a disk meets a fault in the opening, or at a line that one run answers
 EndsAfter start (Err DiskFault) told unread requests = length requests < LINES_MOST
 -- a run over damaged disks begins nowhere
 EndsAfter start (Err (Damaged side number)) told unread requests = ⊥
