@@ -2,3 +2,4 @@ mod Forking
 mod Loading
 mod Moves
 mod Opening
+mod Unhinted

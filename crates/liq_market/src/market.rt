@@ -24,10 +24,10 @@ use crate::saving::{AROUND, opened, save_of};
 use crate::touching::{NAMED_MOST, note};
 use liq_checkpoint::{ImageBytes, decode, encode};
 use liq_core::laws::{lists_stand, protocols_are_sound, protocols_stand};
-use liq_core::{ImageFault, PlanFault, Protocol, Turn};
-use liq_guided::{Guided, Hints};
+use liq_core::{ImageFault, PlanFault, Protocol, Turn, unhinted};
+use liq_guided::{Guided, Hints, words_of};
 use liq_types::amounts::LIM;
-use liq_types::{Call, Command, Image, NoMemory, Query, Reply, Request, Steps};
+use liq_types::{Call, Command, Hint, HintWords, Image, NoMemory, Query, Reply, Request, Steps};
 use std::alloc::Global;
 use std::marker::{Brand, Model};
 use std::sync::ledger::{Blank, Ledger};
@@ -253,8 +253,28 @@ impl Market {
         }
     }
 
-    // Answers a command. Its steps are counted on a ledger of their own.
+    // Answers a command. It is planned without its own hint words, which come behind the guide's
+    // hint. Its steps are counted on a ledger of their own.
     fn carry_out<L: Ledger>(&mut self, command: &Command, blank: Blank) -> Result<Reply, NoMemory>
+        requires name { blank.name ≡ L.name }
+        requires parts { blank.parts ≡ L.parts }
+        requires one { L.parts ≡ 1 }
+        ensures answered { (s : State) → StandsFor self.old.core s
+            → Answers s (Do command.now) result self.new.core }
+        ensures touched { (s : State) → StandsFor self.old.core s
+            → OnOk result (self.new.touched ≡ touched_after s (Do command.now) self.old.touched) }
+        ensures err { OnErr result (IsSame self.old self.new) }
+    {
+        self.make::<L>(&unhinted(command), words_of(&command.call), blank)
+    }
+
+    // Answers a command with these hint words in place of its own.
+    fn make<L: Ledger>(
+        &mut self,
+        command: &Command,
+        words: HintWords,
+        blank: Blank,
+    ) -> Result<Reply, NoMemory>
         requires name { blank.name ≡ L.name }
         requires parts { blank.parts ≡ L.parts }
         requires one { L.parts ≡ 1 }
@@ -275,10 +295,13 @@ impl Market {
             .reserve(NAMED_MOST + planned.list_changes().len())?;
         let exact = self.guided.reserve(&planned)?;
         note(&mut self.touched, &command.call, planned.list_changes());
+        let hints = Hints {
+            exact,
+            words,
+            given: Hint::NONE,
+        };
         let mut steps = Steps::<L>::new(blank);
-        let done = self
-            .guided
-            .apply(planned, &Hints::of_guide(exact), &mut steps);
+        let done = self.guided.apply(planned, &hints, &mut steps);
         Ok(Reply::Said(done))
     }
 }
