@@ -101,6 +101,7 @@ fn times_of<R>(rt: &R, alloc: Global, protocol: &Protocol, bytes: &[u8]) -> io::
 where
     R: Clock,
 {
+    // odd: law called
     protocols_are_sound(protocol);
     let start = Instant::now(rt)?;
     match protocol.image() {

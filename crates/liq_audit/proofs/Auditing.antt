@@ -126,7 +126,7 @@ gain_allowed account events v is =
 
 -- ---- the rows
 
--- from its parts
+-- a row, made from its enclosure and its allowance
 pub row_made : (events : List PoolEvent) (engine : EngineRow) (e : Enclosure) (balance_allow gain_allow : ℕ)
     → e ≡ enclosed engine.account events → balance_allow ≡ balance_allowance engine.account events
     → gain_allow ≡ gain_allowance engine.account events → record {

@@ -29,7 +29,7 @@ abbrev pub AddUpTo : List PoolEvent → ℕ → Type 0
 AddUpTo events total = (n : ℕ) → AreOwnedBelow n events
     → over_accounts n (λ account. (exact_share account events).bal) ≡ total * den_of events
 
--- or at most to so much
+-- the exact balances of all accounts together are at most so much
 abbrev pub AddUpWithin : List PoolEvent → ℕ → Type 0
 AddUpWithin events most = (n : ℕ) → AreOwnedBelow n events
     → over_accounts n (λ account. (exact_share account events).bal) ≤ most * den_of events
@@ -51,7 +51,7 @@ IsAuditableEvent before (event.Own owner put paid gain amount) = Unit {0}
 IsAuditableEvent before (event.Offset debt coll total rise) =
     IsAuditableOffset before debt coll total rise
 
--- each event, after those before it
+-- each of these events may come after those before it
 abbrev pub AreAuditable : List PoolEvent → List PoolEvent → Type 0
 AreAuditable before [] = Unit {0}
 AreAuditable before (e ∷ es) = IsAuditableEvent before e × AddUpWithin (before ++ e ∷ []) LIM

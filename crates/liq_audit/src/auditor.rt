@@ -1,3 +1,5 @@
+//! The audit of all accounts: a row for each that has an operation of its own at the pool.
+
 ghost use Rattle.std.specs.Prelude.{◌≡◌, ℕ, ◌≤◌, ◌<◌, ◌^◌, length, map, All, IsOk, IfOk, OnOk, IfErr, Some, None, Err};
 ghost use Rattle.liq_audit.specs.Auditable.{IsAuditable, accounts_of, owners_of, offsets_in, limit_passed, row_of, EnclosesShare};
 

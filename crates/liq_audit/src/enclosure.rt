@@ -1,3 +1,5 @@
+//! An account's exact share between whole numbers.
+
 ghost use Rattle.std.specs.Prelude.{◌≡◌, ◌+◌, ◌-◌, ◌<◌, ◌≤◌};
 ghost use Rattle.liq_audit.specs.Enclosure.{enclosure_after, enclosure_shared, nothing_enclosed, HasParts, IsSmall};
 
@@ -15,7 +17,7 @@ pub struct Enclosure {
 }
 
 impl Enclosure {
-    /// That of an account before its first event.
+    /// The enclosure of an account before its first event: it has nothing.
     pub fn nothing() -> Enclosure
         ensures { result ≡ nothing_enclosed }
     {
@@ -27,7 +29,7 @@ impl Enclosure {
         }
     }
 
-    /// That of `account` after one more event.
+    /// The enclosure of `account` after one more event.
     pub fn after(self, account: u32, event: &PoolEvent) -> Enclosure
         requires small { IsSmall self }
         requires parts { HasParts event.now }
@@ -55,7 +57,7 @@ impl Enclosure {
         }
     }
 
-    /// After LUSD was put in and paid out; not below 0.
+    /// The enclosure after LUSD was put in and paid out, at least 0.
     fn moved(self, put: u64, paid: u64) -> Enclosure
         requires { IsSmall self }
         ensures { result ≡ record self {
@@ -70,7 +72,7 @@ impl Enclosure {
         }
     }
 
-    /// After an offset: the gain grows by the balance before it.
+    /// The enclosure after an offset: the gain grows by the balance before it.
     fn shared(self, debt: u64, coll: u64, total: u64) -> Enclosure
         requires small { IsSmall self }
         requires some { 0 < total }

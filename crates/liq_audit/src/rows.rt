@@ -1,3 +1,5 @@
+//! What an audit takes and gives for each account.
+
 ghost use Rattle.std.specs.Prelude.{◌≡◌};
 ghost use Rattle.liq_audit.specs.Rows.{numbers_of};
 

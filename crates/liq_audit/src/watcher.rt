@@ -1,3 +1,5 @@
+//! An account's allowance: by how much what the pool gives it may fall short of its exact share.
+
 ghost use Rattle.std.specs.Prelude.{◌≡◌, ◌+◌, ◌*◌, ◌^◌, ◌<◌, ◌≤◌, if◌then◌else◌};
 ghost use Rattle.liq_num.specs.Quotient.{ceiling_of};
 ghost use Rattle.liq_audit.specs.Watching.{nothing_watched, watcher_after, cost_now, IsShort, weight_most};
@@ -26,7 +28,7 @@ pub struct Watcher {
 }
 
 impl Watcher {
-    /// That of an account before the first event.
+    /// What is watched of an account before the first event.
     pub fn new() -> Watcher
         ensures { result ≡ nothing_watched }
     {
@@ -41,7 +43,7 @@ impl Watcher {
         }
     }
 
-    /// That of `account` after one more event.
+    /// What is watched of `account` after one more event.
     pub fn after(self, account: u32, event: &PoolEvent) -> Watcher
         requires { IsShort self event.now }
         ensures after { result ≡ watcher_after account self event.now }
@@ -68,7 +70,7 @@ impl Watcher {
         }
     }
 
-    /// After an own operation of the account, which leaves this amount.
+    /// What is watched after an own operation of the account, which leaves this amount.
     fn owned(self, amount: u64) -> Watcher
         requires { self.own_events < 2 ^ 41 }
         ensures { result ≡ record self {
@@ -87,7 +89,7 @@ impl Watcher {
         }
     }
 
-    /// After an offset, which ends the epoch or raises the scale.
+    /// What is watched after an offset, which ends the epoch or raises the scale.
     fn offset(self, ends: bool, rise: u64) -> Watcher
         requires epoch { self.epoch < 2 ^ 41 }
         requires scale { self.scale + rise < 2 ^ 62 }

@@ -14,7 +14,7 @@ run_count : (s : State) (rs : List Request) → length (run s rs).1 ≡ length r
 run_count s [] = refl
 run_count s (r ∷ rs) = ap suc (run_count (step s r).0 rs)
 
--- whom one more touches
+-- whom the requests touch with one request more
 pub touched_more : (s : State) (rs : List Request) (r : Request) (before : List ℕ)
     → touched_after_all s (rs ++ r ∷ []) before ≡ touched_after (run s rs).0 r (touched_after_all s rs before)
 touched_more s [] r before = refl

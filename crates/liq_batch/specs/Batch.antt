@@ -71,11 +71,11 @@ touched_after_all s (request ∷ requests) before =
 abbrev pub as_before : State → List Request → List ℕ → List ℕ
 as_before s requests before = before
 
--- commands, each behind those before it
+-- a batch of commands: each acts on what those before it left
 abbrev pub doing : Way Command96
 doing = record { read = command_in; go = run; touched = touched_after_all; Takes = TakesMemory }
 
--- each as if it came alone
+-- each request is answered as if it came alone, and the state stays
 abbrev pub apart : State → List Request → State × List Reply
 apart s requests = (s, map (λ request. (step s request).1) requests)
 
@@ -90,7 +90,7 @@ previewing = record { read = command_in; go = apart; touched = as_before; Takes 
 abbrev pub Never : State → Request → Type 0
 Never s request = ⊥
 
--- queries
+-- a batch of queries: none changes anything or takes memory
 abbrev pub asking : Way Query64
 asking = record { read = query_in; go = run; touched = as_before; Takes = Never }
 

@@ -17,7 +17,7 @@ abbrev pub numbered : State → Request → Request
 numbered s (Do c) = Do (record c { number = next_number s c.client })
 numbered s (Ask q) = Ask q
 
--- and each of some, in the state to which those before it lead
+-- each of some requests with its number, in the state to which those before it lead
 abbrev pub numbered_all : State → List Request → List Request
 numbered_all s [] = []
 numbered_all s (request ∷ requests) =

@@ -42,6 +42,7 @@ impl Command96 {
         ensures { MatchResult result
             (λ c. command_in self.now ≡ Ok (Do c)) (λ bad. command_in self.now ≡ Err bad.place) }
     {
+        // odd: match for ?
         match decode(&self.bytes) {
             Ok(command) => Ok(command),
             Err(bad) => Err(bad),
@@ -66,7 +67,7 @@ impl From<NoMemory> for Fault {
 }
 
 impl Fault {
-    /// The reply that says so.
+    /// The reply that says why there is no answer.
     fn reply(self) -> Reply96
         ensures { result ≡ said self }
     {
@@ -87,7 +88,7 @@ pub struct Batch {
 }
 
 impl Batch {
-    /// So many were answered, and no more are to be.
+    /// So many items were answered, and none is left.
     pub(crate) fn over(done: usize) -> Batch
         ensures { result ≡ record { done = done; fault = None } }
     {

@@ -1,4 +1,4 @@
-//! Commands in their bytes.
+//! A batch of commands in their bytes, which have their numbers.
 
 ghost use Rattle.liq_types.specs.State.{State};
 ghost use Rattle.liq_core.specs.Core.{StandsFor};

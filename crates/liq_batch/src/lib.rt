@@ -1,4 +1,8 @@
 //! Many commands, queries or lines over one market, one after the other: slices in, slices out.
+//!
+//! A batch stops at the first item that is none, or for which there is no memory: those before it
+//! are answered, each at its index; that one changes nothing, and its place says why; and behind it
+//! no place is written.
 #![tactic(auto)]
 
 mod batch;

@@ -1,4 +1,4 @@
-//! Lines of text.
+//! The lines of a text, answered by reply lines.
 
 ghost use Rattle.std.specs.Prelude.{◌≡◌, ◌≤◌, length, OnOk, Some};
 ghost use Rattle.std.specs.Vec.{vec_capacity};

@@ -1,4 +1,4 @@
-//! What commands would be answered.
+//! What commands would be answered, each if it came alone.
 
 ghost use Rattle.liq_types.specs.State.{State};
 ghost use Rattle.liq_core.specs.Core.{StandsFor};

@@ -1,4 +1,4 @@
-//! Queries in their words.
+//! A batch of queries in their words.
 
 ghost use Rattle.std.specs.Prelude.{◌≡◌, MatchResult, Ok, Err};
 ghost use Rattle.liq_types.specs.State.{State};

@@ -16,7 +16,7 @@ use Rattle.liq_views.specs.Publishers.{published, waiting}
 use Rattle.liq_views.specs.Rules.{Keeps}
 use Rattle.liq_views.specs.Shelves.{after_all}
 
--- it has published these changes, as version 0, and nothing else
+-- the publisher has published these changes as version 0, and nothing else
 abbrev pub HasOpened : List ListChange → Publisher → Type 0
 HasOpened changes p =
     (published p ≡ record { changes = changes; number = 0 } ∷ []) × (waiting p ≡ [])

@@ -19,7 +19,7 @@ module _ {O : Type 0} {o : Ghosts O} where
   abbrev pub items_seen : BookSeat O o → List Item
   items_seen seat = seen_of seat.seat
 
-  -- a seat as it was made, of this session: it has seen nothing
+  -- the seat of this session as it was made: it has seen nothing
   pub record IsNewSeat
       {T : Type 0} (lock : Lock T Item) (session : ℕ) (seat : BookSeat O o) : Type 0 where
     pub own : seat_id seat.seat ≡ lock_id lock

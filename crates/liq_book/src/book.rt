@@ -28,7 +28,7 @@ pub struct History {
     list: Vec<Entry>,
 }
 
-// Written out, as that of the service is.
+// odd: drop written out
 impl Drop for History {
     fn drop(self) {
         let History { list: _ } = self;
@@ -106,7 +106,7 @@ impl<D: Disk, O: Origin> Book<D, O> {
         requires opened { HasOpened store.changes publisher }
         ensures { result ≡ open_book store [] None (published publisher) (waiting publisher) }
     {
-        // What holds of a store is told by its calls alone.
+        // odd: law called. What holds of a store is told by its calls alone.
         let _ = store.stopped();
         Book {
             store,
@@ -184,6 +184,7 @@ impl<D: Disk, O: Origin> Book<D, O> {
             return Answer::NoMemory;
         }
         forget_opening(&mut self.store, self.entries.as_slice());
+        // odd: law called
         protocols_are_sound(self.store.protocol());
         match enter(
             &mut self.store,
@@ -225,6 +226,7 @@ fn forget_opening<D: Disk>(store: &mut Store<D>, entries: &[Entry])
     if entries.is_empty() {
         store.clear_changes();
     } else {
+        // odd: law called. What holds of a store is told by its calls alone.
         let _ = store.stopped();
     }
 }

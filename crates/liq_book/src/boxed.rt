@@ -1,4 +1,4 @@
-//! A book behind one pointer.
+//! A book behind one pointer, so that a turn at the lock moves 8 bytes and not the book.
 
 ghost use Rattle.std.specs.Prelude.{◌≡◌, ◌≤◌, IfErr, IfOk, length, map};
 ghost use Rattle.liq_rules.specs.History.{IsLegal, own_entries};

@@ -1,4 +1,4 @@
-//! A call that is entered.
+//! A call that is answered by the store and entered in the book.
 ghost use Rattle.std.specs.Prelude.{◌<◌, ◌+◌, ◌^◌, vec_capacity, vec_len};
 ghost use Rattle.liq_book.specs.Entering.{IsCalled, IsEntered};
 

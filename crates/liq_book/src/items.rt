@@ -1,4 +1,4 @@
-//! What is written into a book.
+//! What the chronicle of a book has.
 
 use liq_types::{Entry, Request};
 

@@ -26,5 +26,6 @@ pub fn readers_see_the_history<D>()
         → IsPublishing base b → IsRead b.published x reader → x ≡ after_all reader.seen
         → IsVersionOf base (map recorded b.book.entries) (version_after reader.seen) }
 {
+    // odd: law called
     ends_see_beginnings();
 }

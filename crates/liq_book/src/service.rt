@@ -1,4 +1,5 @@
-//! A service: one book for all sessions.
+//! A service: one book for all sessions. It is closed by all seats together: who asks while one is
+//! out has everything back as it was.
 ghost use Rattle.std.specs.Prelude.{◌≡◌, ◌<◌};
 ghost use Rattle.liq_lock.specs.Seats.{lock_seats};
 

@@ -11,7 +11,7 @@ use Rattle.liq_rate.specs.Bound.{fee_bound, fee_over}
 use Rattle.liq_borrow.specs.declared.change.Change.{Change}
 use Rattle.liq_borrow.specs.Borrowing.{least_bound, least_ratio, ratio_low, system_ratio_low, recovery_forbids, both_ways, is_no_change}
 
--- of what is asked
+-- the rules on what the owner asks, whatever the trove has
 abbrev pub asked_rules : Market → Change → ℕ → ℕ → List Rule
 asked_rules m change fee bound =
     only_where (nat_lt 0 change.borrow) (fee_bound bound (least_bound m))
@@ -22,7 +22,7 @@ asked_rules m change fee bound =
     ∷ fee_over fee change.borrow bound
     ∷ []
 
--- of what the wallet and the trove have, and of all debt
+-- the rules on what the wallet and the trove have, and on all debt
 abbrev pub held_rules : Market → Wallet → ℕ × ℕ → Change → ℕ → List Rule
 held_rules m wallet had change fee =
     where_short change.coll_in wallet.coll ShortCollateral
@@ -41,7 +41,7 @@ left_with had change fee = (
       - change.repay,
 )
 
--- of the ratios, where this is left
+-- the rules on the ratios, where the trove had `had` and is left with `left`
 abbrev pub ratio_rules : Market → Change → ℕ → ℕ × ℕ → ℕ × ℕ → List Rule
 ratio_rules m change fee had left =
     only_where (is_normal m || nat_lt 0 change.borrow) (ratio_low m (least_ratio m) left.0 left.1)

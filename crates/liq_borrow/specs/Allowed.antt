@@ -25,7 +25,7 @@ pub record OpenPasses (m : Market) (wallet : Wallet) (exists : Bool) (coll borro
   pub totals : is_normal m ≡ true → asked CCR (m.total_debt + open_debt m borrow)
       ≤ worth (m.total_coll + coll) m.price
 
--- of a trove that has these entire amounts, or of none
+-- a change passes on a trove that has these entire amounts, or on none
 pub record ChangePasses (m : Market) (w : Wallet) (entire : Option (ℕ × ℕ)) (change : Change)
     (bound : ℕ) : Type 0 where
   pub there : is_none entire ≡ false

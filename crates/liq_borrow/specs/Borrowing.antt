@@ -37,12 +37,12 @@ least_ratio m = if is_recovery m then CCR else MCR
 abbrev pub ratio_low : Market → ℕ → ℕ → ℕ → Rule
 ratio_low m percent coll debt = where_below (worth coll m.price) (asked percent debt) RatioLow
 
--- in Normal Mode, the totals that would result
+-- refused in Normal Mode, where the totals that would result have too low a ratio
 abbrev pub system_ratio_low : Market → ℕ → ℕ → Rule
 system_ratio_low m coll debt = only_where (is_normal m) (where_below (worth coll m.price)
     (asked CCR debt) SystemRatioLow)
 
--- it is Recovery Mode
+-- refused in Recovery Mode
 abbrev pub recovery_forbids : Market → Rule
 recovery_forbids m = where_below (worth m.total_coll m.price) (asked CCR m.total_debt)
     RecoveryForbids
@@ -87,7 +87,7 @@ adjusted_coll coll change = coll + change.coll_in - change.coll_out
 abbrev pub adjusted_debt : Market → ℕ → Change → ℕ
 adjusted_debt m debt change = debt + change.borrow + fee_now m change.borrow - change.repay
 
--- of a trove that has these entire amounts
+-- what a change makes of a trove that has these entire amounts
 abbrev pub adjusting_terms : Market → ℕ × ℕ → Change → Plan
 adjusting_terms m had change =
     record {

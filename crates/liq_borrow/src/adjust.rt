@@ -1,4 +1,4 @@
-//! Changing a trove.
+//! Changing a trove: collateral in or out, and LUSD borrowed or repaid, in one plan.
 
 ghost use Rattle.std.specs.Prelude.{◌≡◌, ◌≤◌, ◌+◌};
 ghost use Rattle.liq_types.specs.Rules.{first_refusal, outcome};

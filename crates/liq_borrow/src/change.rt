@@ -1,3 +1,5 @@
+//! What an owner asks, and what a plan gives.
+
 use liq_rate::Rate;
 
 /// What an owner asks of a trove. Collateral is in gwei, LUSD in micro-LUSD.

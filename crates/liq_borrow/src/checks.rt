@@ -36,7 +36,7 @@ pub fn fee(fee: u64, amount: u64, bound: u64) -> Result<(), Refusal>
     Ok(())
 }
 
-/// `BothWays`: both amounts are something.
+/// `BothWays`: neither amount is 0.
 pub fn one_way(first: u64, second: u64) -> Result<(), Refusal>
     ensures { Tells (both_ways first second) result }
 {
@@ -141,7 +141,8 @@ pub fn totals(applies: bool, coll: u128, debt: u128, price: u64) -> Result<(), R
     Ok(())
 }
 
-/// `RecoveryForbids`: the same of the totals as they are.
+/// `RecoveryForbids`: all collateral (gwei) is worth less than the critical percent of all debt
+/// (micro-LUSD) already.
 pub fn no_recovery(applies: bool, coll: u64, debt: u64, price: u64) -> Result<(), Refusal>
     requires price { price ≤ 10 ^ 12 }
     ensures { Tells (only_where applies (where_below (worth coll price) (asked CCR debt)

@@ -1,4 +1,4 @@
-//! Closing a trove.
+//! Closing a trove: its debt beside the reserve is repaid, and its collateral comes back.
 
 ghost use Rattle.std.specs.Prelude.{◌≡◌};
 ghost use Rattle.liq_borrow.specs.Borrowing.{close_plan};

@@ -1,5 +1,7 @@
 //! Opening, changing and closing troves: the rules that decide what is refused, and what a trove
-//! then has.
+//! then has. Each plan reads a market and an owner's trove, and gives the first rule's refusal, in
+//! the order that its text says, or what the trove then has. Nothing is changed here: `liq_core`
+//! carries plans out.
 #![tactic(auto)]
 
 mod adjust;

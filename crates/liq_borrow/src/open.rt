@@ -1,4 +1,4 @@
-//! Opening a trove.
+//! Opening a trove: its debt is what is borrowed, the fee and the reserve.
 
 ghost use Rattle.std.specs.Prelude.{◌≡◌};
 ghost use Rattle.liq_borrow.specs.Borrowing.{open_plan};

@@ -61,7 +61,7 @@ list_in which =
     else if which == 4 then Some Touched
     else None
 
--- of so many accounts, with so many places for them
+-- how a call ends that lists so many accounts, with so many places for them
 abbrev pub listed : (accounts places : ℕ) → Done
 listed accounts places = record {
   done = min accounts places;

@@ -15,7 +15,7 @@ abbrev pub is_full : {A : Type 0} → Option A → Bool
 is_full None = false
 is_full (Some x) = true
 
--- there is one, of which it holds
+-- something is there, and P holds of it
 abbrev pub Has : {A : Type 0} → (A → Type 0) → Option A → Type 0
 Has P None = ⊥
 Has P (Some x) = P x

@@ -11,7 +11,7 @@ use Rattle.liq_c.specs.declared.statuses.Done.{Done}
 use Rattle.liq_c.specs.declared.statuses.TextDone.{TextDone}
 use Rattle.liq_c.specs.declared.statuses.TheConstants.{OK, NO_MARKET, NO_MEMORY, BAD, SHORT}
 
--- of so many items, where there is no fault
+-- the status behind so many of so many items: by the fault, or by whether all were answered
 abbrev pub status_of : (done items : ℕ) → Option Fault → ℕ
 status_of done items None = if nat_lt done items then SHORT else OK
 status_of done items (Some (faults.Bad place)) = BAD
@@ -43,7 +43,7 @@ Ends (Some m) new items result Unwritten Leaves =
     (after : Content) × (new ≡ Some after)
     × ((batch : Batch) × (result ≡ told batch items) × Leaves m after batch)
 
--- the same of a text
+-- how a call ends that answers a text of lines: the same
 abbrev pub EndsText : (old new : Option Content) → TextDone → Type 0
     → (Content → Content → Lines → Type 0) → Type 0
 EndsText None new result Unwritten Leaves =

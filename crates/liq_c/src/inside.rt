@@ -29,7 +29,7 @@ impl Model for Inside {
 unsafe impl Send for Inside {}
 
 impl Inside {
-    /// Nothing.
+    /// An `Inside` that holds nothing.
     pub fn nothing(alloc: Global) -> Inside
         ensures { result.held ≡ None }
     {
@@ -37,7 +37,7 @@ impl Inside {
         Inside { at, alloc }
     }
 
-    /// What a box has.
+    /// Holds the market of a box.
     pub fn of(inside: Loose<Market, Global>) -> Inside
         ensures { result.held ≡ Some inside.value }
     {
@@ -48,7 +48,7 @@ impl Inside {
         }
     }
 
-    /// The box that is in it.
+    /// The market that it holds, in its box.
     pub fn into_loose(self) -> Loose<Market, Global>
         requires { is_full self.held ≡ true }
         ensures { self.held ≡ Some result.value }

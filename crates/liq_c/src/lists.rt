@@ -1,4 +1,4 @@
-//! The accounts of a market.
+//! The accounts of a market, written into the caller's memory.
 
 ghost use Rattle.std.specs.Prelude.{◌≡◌};
 ghost use Rattle.liq_c.specs.Exports.{Lists, ListsAs, list_in};

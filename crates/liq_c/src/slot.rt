@@ -1,4 +1,5 @@
-//! A place in C's memory where a market may be.
+//! A place in C's memory, of 32 bytes, where a market may be: its pointer, and the mark that it is
+//! there.
 
 ghost use Rattle.std.specs.Prelude.{◌≡◌, ◌==◌, Some, None, MatchOption};
 ghost use Rattle.liq_c.specs.declared.marks.TheConstants.{OPEN};

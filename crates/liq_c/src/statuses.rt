@@ -16,7 +16,7 @@ pub const NO_MARKET: u32 = 1;
 /// There is no memory.
 pub const NO_MEMORY: u32 = 2;
 
-/// What was given is none of what it is to be.
+/// The bytes that were given are not what the call asks for: no command, query, line or save.
 pub const BAD: u32 = 3;
 
 /// There are fewer places than items, or less room than bytes.
@@ -32,7 +32,7 @@ pub struct Done {
 }
 
 impl Done {
-    /// In a place without a market.
+    /// On a place without a market nothing is answered.
     pub const NONE: Done = Done {
         done: 0,
         status: NO_MARKET,
@@ -67,7 +67,7 @@ pub struct TextDone {
 }
 
 impl TextDone {
-    /// In a place without a market.
+    /// On a place without a market nothing is answered.
     pub const NONE: TextDone = TextDone {
         taken: 0,
         written: 0,

@@ -37,6 +37,7 @@ pub struct Block {
     pub lines: Vec<(usize, String)>,
 }
 
+// odd: drop written out
 impl Drop for Block {
     fn drop(self) {
         let Block {

@@ -1,5 +1,5 @@
 //! Case files: what their lines say of runs, and what is told of a file. The form of a case is told
-//! in docs/CASES.md.
+//! in docs/CASES.md. Nothing is proved here: the program is run.
 #![tactic(auto)]
 
 mod changes;

@@ -34,6 +34,7 @@ pub struct Run {
     pub legal: bool,
 }
 
+// odd: drop written out
 impl Drop for Run {
     fn drop(self) {
         let Run {
@@ -115,6 +116,7 @@ pub struct Start {
     pub right: Vec<u8>,
 }
 
+// odd: drop written out
 impl Drop for Start {
     fn drop(self) {
         let Start { left: _, right: _ } = self;

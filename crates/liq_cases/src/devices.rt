@@ -56,6 +56,7 @@ pub struct Outcome {
     pub sink: SmallSink,
 }
 
+// odd: drop written out
 impl Drop for Outcome {
     fn drop(self) {
         let Outcome {

@@ -12,6 +12,7 @@ pub struct Disks {
     right: MemoryDisk,
 }
 
+// odd: drop written out
 impl Drop for Disks {
     fn drop(self) {
         let Disks { left: _, right: _ } = self;

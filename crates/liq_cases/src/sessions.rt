@@ -16,6 +16,7 @@ struct BySession<'a> {
     ranges: [(usize, usize); 9],
 }
 
+// odd: drop written out
 impl Drop for BySession<'_> {
     fn drop(self) {
         let BySession {
@@ -111,6 +112,7 @@ struct Output<'a> {
     out_of_order: u64,
 }
 
+// odd: drop written out
 impl Drop for Output<'_> {
     fn drop(self) {
         let Output {
@@ -301,6 +303,7 @@ struct Merged {
     replies: Vec<u8>,
 }
 
+// odd: drop written out
 impl Drop for Merged {
     fn drop(self) {
         let Merged {

@@ -34,6 +34,7 @@ struct Stops<'a> {
     nothing: Lines,
 }
 
+// odd: drop written out
 impl Drop for Stops<'_> {
     fn drop(self) {
         let Stops {

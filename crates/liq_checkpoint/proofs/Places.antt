@@ -183,7 +183,7 @@ told_within end place at r given is =
 
 -- ---- a wallet of nothing
 
--- behind a number
+-- what is left behind a number that was read
 number_behind : (end count : ℕ) (at : List ℕ) (x : ℕ × List ℕ) → number_at end count at ≡ Ok x
     → length x.1 ≡ length at - count
 unfolding number_at

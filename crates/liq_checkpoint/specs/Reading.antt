@@ -42,7 +42,7 @@ unfoldable pub number_at : ℕ → ℕ → List ℕ → Result (ℕ × List ℕ)
 number_at end count at = if nat_lt (length at) count then Err end
     else Ok (big_number count at, drop count at)
 
--- x, if what begins here fits
+-- x where what begins here fits, else the place of that
 abbrev pub tested : {X : Type 0} → Bool → ℕ → List ℕ → X → Result X ℕ
 tested fits end at x = if fits then Ok x else Err (end - length at)
 

@@ -17,14 +17,14 @@ use std::alloc::Global;
 /// number and by what stands before it; the end, where bytes are missing; or the first byte that
 /// follows.
 pub fn decode(alloc: Global, bytes: &[u8]) -> Result<Image, ImageBytes>
-    // What is read is spelled so.
+    // An image that is read has a checkpoint, and the bytes are that.
     ensures found { IfOk result (λ i. HasCheckpoint i × (bytes.now ≡ spelling i)) }
-    // What is spelled so is read, unless memory runs out.
+    // Bytes that are the checkpoint of an image are read as that image, unless memory runs out.
     ensures only { (i : Image) → HasCheckpoint i → bytes.now ≡ spelling i
         → Gives (λ j. j) result (Ok i) }
-    // Which fault it is.
+    // Which answer comes, the place of a fault too, as far as memory goes.
     ensures exact { Gives (λ i. i) result (image_at (length bytes.now) bytes.now) }
-    // Its place is one of the bytes, or their end.
+    // The place of a fault is that of one of the bytes, or their end.
     ensures place { (place : ℕ) → result ≡ Err (Bad place) → (place ≤ length bytes.now)
         × (place < 2 ^ 63) }
 {

@@ -1,4 +1,4 @@
-//! Why bytes gave no image.
+//! Why bytes gave no image: the place of the first fault, or want of memory.
 
 ghost use Rattle.std.specs.Prelude.{◌≡◌};
 ghost use Rattle.liq_checkpoint.specs.declared.image_bytes.ImageBytes.TheVariants.{NoMemory};

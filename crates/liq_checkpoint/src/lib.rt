@@ -1,4 +1,12 @@
-//! A state's image as bytes: the checkpoint with which a generation of the journal begins.
+//! A state's image as bytes: the checkpoint with which each generation of the journal but the first
+//! begins.
+//!
+//! ```text
+//! name: the limit | 25 numbers | six tables, each a count and its rows in ascending keys
+//! ```
+//!
+//! No two images have the same bytes, and bytes that are no image are told by the place of the
+//! first fault. Whether an image is sound is not asked here: `liq_images` does.
 #![tactic(auto)]
 
 mod decoding;

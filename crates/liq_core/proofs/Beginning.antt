@@ -103,7 +103,7 @@ module _ (i : Image) (h : HasTables i) where
   deposits_again = rows_all is_used_deposit i.deposits (rows_used (λ (d : Deposit). 1 ≤ d.amount) is_used_deposit
       (λ d k. is_some d.amount k) i.deposits h.some_deposits)
 
--- beside so many records
+-- of an image that is sound beside so many records
 module _ (i : Image) (records : ℕ) (h : IsSoundImage i records) where
   all : Meets i records
   all = meets i records h

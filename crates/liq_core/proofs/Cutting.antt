@@ -102,7 +102,8 @@ sums_then r s t a b =
       snap_coll = b.snap_coll ∙ a.snap_coll;
     }
 
--- the row of an own operation and a trove's entire amounts, by what the sums rest on
+-- the row that an own operation writes, and a trove's entire amounts, from the image and the redistributions on which
+-- the sums rest
 abbrev row_by : Image → List Redistribution → ℕ → ℕ → ℕ → ℕ → Trove
 row_by i rs snap_stakes snap_coll coll debt =
     record {

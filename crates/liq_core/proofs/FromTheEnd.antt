@@ -98,7 +98,7 @@ laid_full numbers places n all few =
     ap (λ (l : List ℕ). take n numbers ++ l) (here ∙ sym there)
     ∙ ap (λ m. take m numbers ++ drop (length numbers) places) all
 
--- all that there are
+-- all numbers are laid, where there are places for them
 pub laid_all : (numbers places : List ℕ) (n : ℕ) → n ≡ length numbers → n ≤ length places → paste places 0 numbers n
     ≡ laid numbers places
 laid_all numbers places n all few =

@@ -38,7 +38,7 @@ among_then : (xs ys zs : List ℕ) → AreAmong xs ys → AreAmong ys zs → Are
 among_then [] ys zs h g = tt
 among_then (x ∷ xs) ys zs h g = (among_key ys zs g x h.0, among_then xs ys zs h.1 g)
 
--- the accounts of victims
+-- the accounts of all victims are among these
 pub owners_among : (keys : List ℕ) (vs : List Victim) → AllByRecursion (λ (v : Victim). Contains keys v.account) vs
     → AreAmong (map (λ (v : Victim). v.account) vs) keys
 owners_among keys [] h = tt

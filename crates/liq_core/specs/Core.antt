@@ -10,8 +10,8 @@ use Rattle.liq_turns.specs.declared.generation.Generation.{Generation}
 use Rattle.liq_rules.specs.Image.{image}
 use Rattle.liq_rules.specs.Rules.{effect}
 
--- the keys of each table at which a row can be written without memory, and for how many more troves
--- the list has room and for how many more finished sums the Stability Pool
+-- Room: the keys of each table at which a row can be written without memory; how many more troves
+-- the list takes without any, and how many more finished sums the Stability Pool.
 pub record Room : Type 0 where
   pub wallets : List ℕ
   pub troves : List ℕ
@@ -60,7 +60,7 @@ pub record StandsFor (core : Core) (s : State) : Type 0 where
   pub records : core.records ≡ s.records
   pub formed : IsWellFormed s
 
--- the same but for what there is room for
+-- two cores that differ at most in what there is room for
 pub record SameContent (old new : Core) : Type 0 where
   pub image : new.image ≡ old.image
   pub records : new.records ≡ old.records

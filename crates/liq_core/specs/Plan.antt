@@ -50,7 +50,7 @@ pub record IsPlan (s : State) (plan : Plan) : Type 0 where
   pub events : plan.events ≡ call_events s plan.command.call
   pub changes : plan.changes ≡ call_changes s plan.command.call
 
--- it was planned on what the core stands for
+-- the plan was made on what the core stands for
 abbrev pub IsPlannedOn : Core → Plan → Type 0
 IsPlannedOn core plan = (s : State) → StandsFor core s → IsPlan s plan
 

@@ -1,4 +1,4 @@
-//! A command without its hint.
+//! A command without its hint words, which change no reply.
 
 ghost use Rattle.std.specs.Prelude.{◌≡◌};
 ghost use Rattle.liq_types.specs.State.{State};

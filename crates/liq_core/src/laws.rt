@@ -22,6 +22,7 @@ use crate::engine::Protocol;
 pub fn protocols_are_sound(protocol: &Protocol)
     ensures { IsSoundImage protocol.now.image protocol.now.records }
 {
+    // odd: field read
     let _ = &protocol.records;
 }
 
@@ -30,6 +31,7 @@ pub fn protocols_are_sound(protocol: &Protocol)
 pub fn protocols_stand(protocol: &Protocol)
     ensures { StandsFor protocol.now (state_of protocol.now) }
 {
+    // odd: field read
     let _ = &protocol.records;
 }
 
@@ -38,6 +40,7 @@ pub fn protocols_stand(protocol: &Protocol)
 pub fn lists_stand(protocol: &Protocol)
     ensures { (s : State) → StandsFor protocol.now s → protocol.now.list ≡ trove_order s }
 {
+    // odd: field read
     let _ = &protocol.records;
 }
 
@@ -46,6 +49,7 @@ pub fn lists_stand(protocol: &Protocol)
 pub fn protocols_are_sound_states(protocol: &Protocol)
     ensures { IsSoundState (state_of protocol.now) }
 {
+    // odd: field read
     let _ = &protocol.records;
 }
 
@@ -64,5 +68,6 @@ pub fn depositors_get_their_shares(protocol: &Protocol)
         → (account : ℕ) → IsWithinAllowance (state_of protocol.now) account
         (events (opening_with limit) (accepted (opening_with limit) requests)) }
 {
+    // odd: law called
     protocols_stand(protocol);
 }

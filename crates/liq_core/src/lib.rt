@@ -1,7 +1,17 @@
 //! The protocol for one thread: what a command or a query does, by the rules, and what it answers.
 //!
-//! A command is planned, room is reserved for it, and then it is applied, which cannot fail. So
-//! whoever keeps a journal can write the command down between the two.
+//! ```text
+//! command -- plan --> again:    the reply that was kept
+//!                     refused:  the first rule's refusal
+//!                     planned   -- reserve --> room for all that it writes -- apply --> its reply
+//! query  -- query --> its reply
+//! ```
+//!
+//! `plan` changes nothing, `reserve` nothing that is seen, and both may want memory; `apply` takes
+//! none and cannot fail. So whoever keeps a journal writes the command down between the last two.
+//!
+//! A protocol's state is sound at all times, and its list has just the accounts that have a trove,
+//! each under its trove's key.
 #![tactic(auto)]
 
 mod accounts;

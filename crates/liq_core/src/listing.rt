@@ -30,6 +30,7 @@ impl Protocol {
             snap_coll: sums.snap_coll,
             sum_debt: sums.debt,
         };
+        // odd: steps counted
         told_along::<Brand>(alloc, words, &self.order, Blank::new(1))
     }
 }

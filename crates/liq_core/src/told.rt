@@ -16,7 +16,7 @@ pub(crate) enum PoolEvents {
 }
 
 impl PoolEvents {
-    /// One event or none.
+    /// The events of a command that makes one or none.
     pub(crate) fn of(event: Option<PoolEvent>) -> PoolEvents
         ensures { events_in result ≡ told_of event }
     {

@@ -1,4 +1,5 @@
-//! What planning a command gives.
+//! What planning a command gives: a reply that was kept, or what the step will make and how it will
+//! be answered.
 
 ghost use Rattle.std.specs.Prelude.{◌≡◌, true};
 ghost use Rattle.liq_core.specs.declared.turns.Terms.TheVariants as terms;
@@ -87,7 +88,8 @@ pub(crate) struct Forecast {
 }
 
 impl Forecast {
-    /// Of a call whose words say all, and that neither pool nor list feels.
+    /// The forecast of a call whose words say all, and that changes neither the Stability Pool nor
+    /// the list.
     pub(crate) fn plain(done: Done) -> Forecast
         ensures { result ≡ record {
           done = done;

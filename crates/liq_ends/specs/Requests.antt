@@ -11,6 +11,5 @@ IsRequest line request = Spells line request
 -- Where a source told its bytes, they began with lines of these requests, and the next line was
 -- that of this one.
 abbrev pub IsNext : Option (List ℕ) → List Request → Request → Type 0
-IsNext told requests request = IfSome told (λ bytes.
-    (line : List ℕ) × (more : List (List ℕ)) × Spells line request
-    × BeginsWith Spells bytes requests (line ∷ more))
+IsNext told requests request = IfSome told (λ bytes. (line : List ℕ) × (more : List (List ℕ))
+    × Spells line request × BeginsWith Spells bytes requests (line ∷ more))

@@ -320,7 +320,7 @@ own_kept account next s coll lusd shares past after h c l e stake marks gots cha
   by : weight_at s shares + next * (shares_of after - shares) ≡ weight_of account after
   by = omega (arith, none, then, weight)
 
--- the others
+-- the rows of the accounts that do not change
 others_kept : (account : ℕ) (s : Staker) (past after : List Happened) → IsStakerOf account s past
     → stake_of account after ≡ stake_of account past
     → ((asset : Asset) → mark_of asset account after ≡ mark_of asset account past)

@@ -25,7 +25,7 @@ pub record Kept : Type 0 where
   pub lusd : Pot
   pub stakers : Table Staker
 
--- an account without a change
+-- what is kept of an account that never changed its stake
 abbrev pub no_gain : Gain
 no_gain = record { mark = 0; got = 0 }
 

@@ -69,7 +69,7 @@ impl Gain {
         self.got + more as u64
     }
 
-    /// The same, counted from `sum` on.
+    /// The gain of this stake, with all that it gained up to `sum`.
     fn at(self, stake: u64, sum: u128) -> Gain
         requires { CanGain stake self sum }
         ensures { result ≡ gain_at stake self sum }
@@ -143,7 +143,7 @@ impl Staker {
         }
     }
 
-    /// Its weight when so many fees were shared.
+    /// The account's weight once so many fees were shared: its stake, added up over them.
     fn weight_at(self, shares: u64) -> u128
         requires later { self.shares ≤ shares }
         requires fits { weight_at self shares ≤ FEES_MOST * ONE }

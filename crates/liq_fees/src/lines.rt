@@ -21,7 +21,7 @@ pub struct StakeLine {
     pub out: bool,
 }
 
-/// A line is none on which a staker asks.
+/// The line is not one on which a staker asks.
 #[derive(Clone, Copy, Debug, PartialEq, Eq, Error)]
 #[error("no staker asks so")]
 pub struct BadStakeLine;

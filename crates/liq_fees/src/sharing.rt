@@ -1,4 +1,5 @@
-//! The account of all fees and stakes.
+//! The account of all fees and stakes: a pot for each asset, a row for each staker. A change
+//! settles its own row, a fee adds to both pots.
 
 ghost use Rattle.std.specs.Prelude.{◌≡◌, ℕ, ◌+◌, ◌-◌, ◌<◌, ◌≤◌, ◌==◌, ◌↔◌, true, false, if◌then◌else◌};
 ghost use Rattle.std.specs.Prelude.{[], ◌∷◌, List, Some, Err, OnOk, OnErr};

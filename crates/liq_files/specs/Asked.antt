@@ -35,6 +35,6 @@ pub data Earlier (past : List Asked) : List Asked → Type 0 where
   now : Earlier past past
   later : {call : Asked} {calls : List Asked} → Earlier past calls → Earlier past (call ∷ calls)
 
--- this was asked, and so answered
+-- among these calls is this one, with this answer
 abbrev pub WasAsked : Asked → List Asked → Type 0
 WasAsked call calls = (before : List Asked) × Earlier (call ∷ before) calls

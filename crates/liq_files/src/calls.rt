@@ -1,4 +1,4 @@
-// What the system is asked about, and how.
+//! What the system is asked about, and how.
 ghost use Rattle.std.specs.Prelude.{◌≡◌};
 ghost use Rattle.liq_files.specs.Names.{text_of};
 

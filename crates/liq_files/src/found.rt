@@ -1,4 +1,4 @@
-// What the system says of a file, and which files are taken.
+//! What the system says of a file, and which files are taken.
 ghost use Rattle.std.specs.Prelude.{◌↔◌, IsTrue};
 ghost use Rattle.liq_files.specs.Taking.{MayBeFollowed, MayBeTaken};
 

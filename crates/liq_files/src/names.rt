@@ -1,4 +1,4 @@
-// What the names of the two files lead to.
+//! What the names of the two files lead to.
 ghost use Rattle.std.specs.Prelude.{IsTrue, ◌↔◌};
 ghost use Rattle.std.specs.Path.{path_buf_bytes};
 ghost use Rattle.liq_files.specs.Asked.{Earlier};

@@ -1,4 +1,4 @@
-// The system itself, as std has it.
+//! The system itself, as std has it.
 ghost use Rattle.std.specs.Prelude.{[]};
 
 use crate::calls::{Changed, Name, Opening, Refusal, Seen, Stream};

@@ -1,4 +1,4 @@
-// The files behind the standard streams.
+//! The files behind the standard streams.
 
 use crate::found::{FileId, Found};
 use std::fs::{self, Files};

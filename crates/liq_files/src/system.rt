@@ -1,4 +1,4 @@
-// What is asked of the system, call by call.
+//! What is asked of the system, call by call.
 ghost use Rattle.std.specs.Prelude.{◌≡◌, ◌∷◌, List};
 ghost use Rattle.liq_files.specs.Names.{path_in};
 ghost use Rattle.liq_files.specs.Asked.{Asked, User, Behind, Looked, Opened, Told, Saw, Read, Locked, Synced};

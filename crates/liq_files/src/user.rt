@@ -1,4 +1,4 @@
-// Who runs the program.
+//! Who runs the program.
 
 use std::fs::{File, Files};
 use std::io::Read;

@@ -1,4 +1,4 @@
-// What is written to standard output, which may be one of the two files.
+//! What is written to standard output, which may be one of the two files.
 ghost use Rattle.std.specs.Prelude.{◌≡◌, ◌↔◌, None, IsErr, IsTrue};
 ghost use Rattle.std.specs.Io.{WritesAtMost};
 ghost use Rattle.liq_files.specs.Taking.{MayBe};

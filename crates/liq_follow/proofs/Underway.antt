@@ -67,7 +67,7 @@ module _ (start left : Option (List ℕ)) (room : ℕ) (follower : Followed) (u 
       goes = h.2;
     }
 
-    -- there are none
+    -- the source gave no bytes: all is read
     pub comes_to_end : (count : ℕ) → count ≡ 0 → length more ≤ room → FedNext (Ok count) u.read more left' follower'
         → Came (Ok tt) start left' follower'
     comes_to_end count none few h = (
@@ -81,7 +81,7 @@ module _ (start left : Option (List ℕ)) (room : ℕ) (follower : Followed) (u 
       ),
     )
 
-    -- or feeding them stops
+    -- reading further bytes stops, or feeding them
     pub comes_to_stop : (halt : Halt) → length more ≤ room → FedNext (Err halt) u.read more left' follower'
         → Came (Err halt) start left' follower'
     comes_to_stop halt few h = (

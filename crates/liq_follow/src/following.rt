@@ -42,6 +42,7 @@ fn follow<S: Source, K: Sink>(alloc: Global, input: &mut S, out: &mut K) -> Resu
 {
     let mut follower = Follower::new(alloc);
     feed_input(alloc, input, &mut follower)?;
+    // odd: law called
     followers_stand(&follower);
     write_standing(alloc, follower.protocol(), out)
 }

@@ -1,5 +1,5 @@
 //! The word `follow`: a journal of the first generation that comes in, followed to its end, and
-//! told is what stands there.
+//! told is what stands there. The disks stay: the bytes are those of the input.
 #![tactic(auto)]
 
 mod feeding;

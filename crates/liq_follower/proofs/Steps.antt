@@ -22,7 +22,7 @@ use Rattle.liq_follower.proofs.Phases.{in_phase}
 
 -- ---- the header
 
--- behind a whole one
+-- the phase behind a whole header
 judged_so : (bytes none : List ℕ) (core : Core) (j : Judged) → get_or bytes 0 0 ≡ 1
     → length bytes ≡ header_size (layout_on bytes)
     → StandsFor core (opening_with (begun_limit bytes)) → StandsBeforeLast bytes core → IsJudged bytes j

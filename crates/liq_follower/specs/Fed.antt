@@ -48,11 +48,11 @@ is_turned bytes =
 
 -- ---- what that comes to
 
--- they are those of a journal of the first generation, undamaged, that leads to the state
+-- the bytes are those of an undamaged journal of the first generation that leads to the state
 abbrev pub LeadTo : List ℕ → State → Type 0
 LeadTo bytes s = (is_turned bytes ≡ false) × (fed bytes ≡ Holding 1 s)
 
--- they are damaged: the record of this number is, or the header, which is 0
+-- the bytes are damaged: the record of this number is, or the header, which is 0
 abbrev pub AreDamagedAt : ℕ → List ℕ → Type 0
 AreDamagedAt index bytes =
     (is_turned bytes ≡ false) × ((damage : Damage) × (fed bytes ≡ Faulty damage)
@@ -112,6 +112,6 @@ EndsWith NoMemory bytes = GoOn bytes × LackOne bytes
 EndsWith (Damaged index) bytes = AreDamagedAt index bytes
 EndsWith (Rotated generation) bytes = AreTurnedTo generation bytes
 
--- no feed takes any byte more
+-- behind these bytes no feed takes one more
 abbrev pub AreOver : List ℕ → Type 0
 AreOver bytes = GoOn bytes → ⊥

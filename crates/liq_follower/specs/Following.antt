@@ -8,8 +8,8 @@ use Rattle.liq_follower.specs.declared.answers.FedEnd.{FedEnd}
 use Rattle.liq_follower.specs.declared.answers.FedEnd.TheVariants as end
 use Rattle.liq_follower.specs.Fed.{AreDamagedAt, AreTurnedTo, EndsWhole, IsBegun, LeadTo, begun_limit}
 
--- what contracts see of one: its protocol, where in the journal it is, the bytes of a header or a
--- record that isn't whole, and how many bytes it has taken
+-- what contracts see of a follower: its protocol, where in the journal it is, the bytes of a header
+-- or a record that isn't whole, and how many bytes it has taken
 pub record Followed : Type 0 where
   pub core : Core
   pub phase : Phase
@@ -20,7 +20,7 @@ pub record Followed : Type 0 where
 abbrev pub EndsAs : List ℕ → Core → Type 0
 EndsAs bytes core = (s : State) × EndsWhole bytes s × StandsFor core s
 
--- behind a closed gate: that of a header, or that of a record
+-- the bytes go on behind a closed gate: that of a header, or that of a record
 pub record IsShut (bytes : List ℕ) (core : Core) : Type 0 where
   pub front : List ℕ
   pub gate : ℕ

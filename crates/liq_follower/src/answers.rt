@@ -1,4 +1,4 @@
-// What feeding answers.
+//! How feeding a piece ends, and how much of it was taken.
 
 /// How feeding ended.
 #[derive(Clone, Copy, PartialEq, Eq)]

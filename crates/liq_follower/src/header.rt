@@ -1,4 +1,4 @@
-// A whole header, tested.
+//! A whole header, tested: of which version it is, and whether a follower may go on behind it.
 ghost use Rattle.std.specs.Prelude.{◌≡◌, ◌≤◌, ◌&&◌, [], length, get_or, nat_lt, take};
 ghost use Rattle.std.specs.Str.{bytes_eq};
 ghost use Rattle.liq_types.specs.Image.{IsLimit};
@@ -22,7 +22,7 @@ pub enum Judged {
     Damaged,
 }
 
-// The limit under which a journal opens that begins with these bytes.
+// The limit of the opening of a journal that begins with these bytes.
 pub fn begun_limit(bytes: &[u8]) -> u64
     ensures begun { result ≡ begun_limit bytes.now }
     ensures limit { IsLimit result }

@@ -1,4 +1,4 @@
-// Where in a journal a follower is.
+//! Where in a journal a follower is. The crate's head draws how one phase leads to another.
 
 /// What the next byte belongs to.
 #[derive(Clone, Copy)]

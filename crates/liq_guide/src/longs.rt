@@ -1,4 +1,9 @@
-// Entries of the ordered list, of any keys.
+//! Entries of any keys, in one ordered set. Only those stand here whose keys don't fit an `i64`,
+//! and they are few; `places` has the others in chunks.
+//!
+//! A key is kept in two halves, `high * 2^64 + low`. As `high` is signed and `low` is not, halves
+//! compare in turn just as keys do, and where keys are equal the accounts decide.
+
 ghost use Rattle.std.specs.Prelude.{◌≡◌, ◌<◌, ◌^◌, [], ℤ, ◌<ℤ◌, IfSome, reverse, option_map, OnOk, OnErr};
 ghost use Rattle.liq_types.specs.Ranked.{IsAscending, first_of};
 ghost use Rattle.liq_chunks.specs.Entries.{with_entry, without_entry, entry_before, entry_after};

@@ -1,4 +1,7 @@
-// What stands on either side of a place.
+//! The accounts next to a place, on either side. The place's own account is passed over, since it
+//! may stand there still, under this key or another; it stands once at most, so that one entry
+//! further is far enough.
+
 ghost use Rattle.std.specs.Prelude.{◌≡◌, ℤ, ◌<ℤ◌, None};
 ghost use Rattle.liq_types.specs.Ranked as ranked;
 ghost use Rattle.liq_types.specs.Ranked.{IsAscending};

@@ -18,7 +18,7 @@ IsUnmade s c (Again kept) = ruling s c ≡ Repeated kept
 IsUnmade s c (No refusal) = ruling s c ≡ Refused refusal
 IsUnmade s c NoMemory = MayWantMemory s c
 
--- in a state that stands before it: its step is made, or none
+-- a command that is made again in this state: its step is made, or none
 abbrev pub IsRedone : State → Command → Core → Result (Unit {0}) RedoFault → Type 0
 IsRedone s c core (Ok done) = (ruling s c ≡ Allowed) × StandsFor core (after s c)
 IsRedone s c core (Err fault) = IsUnmade s c fault × StandsFor core s

@@ -1,4 +1,4 @@
-//! A protocol, and beside it the guide of its ordered list.
+//! A protocol, and beside it the guide of its ordered list, which is never let go.
 
 ghost use Rattle.std.specs.Prelude.{◌≡◌, ◌≤◌, ◌+◌, ℕ, false, length, IfOk, OnOk};
 ghost use Rattle.liq_types.specs.Image.{IsLimit};
@@ -34,7 +34,7 @@ pub struct Guided {
     guide: ListGuide,
 }
 
-// Written out, as that of the protocol is.
+// odd: drop written out
 impl Drop for Guided {
     fn drop(self) {
         let Guided {
@@ -62,6 +62,7 @@ impl Guided {
         ensures { StandsFor result (opening_with limit) }
     {
         let protocol = Protocol::with_limit(alloc, limit);
+        // odd: law called
         lists_stand(&protocol);
         Guided {
             protocol,
@@ -136,10 +137,11 @@ impl Guided {
     pub fn reserve(&mut self, planned: &Planned) -> Result<Option<Hint>, NoMemory>
         ensures same { SameContent self.old self.new }
         ensures room { OnOk result (HasRoom self.new planned.now) }
-        // Of the list with the command made the hint is tight.
+        // The hint is tight for the list as it is once the command is made.
         ensures exact { IfOk result (IsExact (all_listed self.old.list planned.now.changes)
             (last_put planned.now.changes)) }
     {
+        // odd: law called
         protocols_are_sound_states(&self.protocol);
         lists_stand(&self.protocol);
         protocols_stand(&self.protocol);
@@ -167,6 +169,7 @@ impl Guided {
             (last_put planned.changes) steps.old steps.new }
         ensures any { steps.new ≤ steps.old + (length self.old.list + 4) }
     {
+        // odd: law called
         protocols_are_sound_states(&self.protocol);
         lists_stand(&self.protocol);
         protocols_stand(&self.protocol);
@@ -192,6 +195,7 @@ impl Guided {
             → OnOk result (self.new.image.generation ≡ self.old.image.generation) }
         ensures few { OnOk result (steps.new ≤ steps.old + 4) }
     {
+        // odd: law called
         protocols_stand(&self.protocol);
         let planned = match self.plan(&unhinted(command)) {
             Ok(Turn::New(planned)) => planned,

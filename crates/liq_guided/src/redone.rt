@@ -1,4 +1,4 @@
-// Why a command is not made again.
+//! Why a command is not made again.
 use liq_types::{Done, Refusal};
 
 /// Why a command that is made again makes no step.

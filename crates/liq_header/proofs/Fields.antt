@@ -25,7 +25,7 @@ fields_of_version limit is head bytes limit_is generation size fields stored =
       stored = stored;
     }
 
--- where none is wrong
+-- a header of which no field is wrong
 pub record AreRight (layout : Layout) (odd : Bool) (bytes : List ℕ) : Type 0 where
   pub name : bytes_eq (name_on bytes) layout.name ≡ true
   pub generation : is_generation odd (generation_on bytes) ≡ true

@@ -41,7 +41,7 @@ layout_with limit = if limit == LIM then version_2 else version_1
 abbrev pub layout_named : List ℕ → Layout
 layout_named name = if bytes_eq name version_2.name then version_2 else version_1
 
--- between the gate and the digest
+-- how many bytes stand between the gate and the digest
 abbrev pub fields_size : Layout → ℕ
 fields_size layout = 24 + length layout.own
 
@@ -52,7 +52,7 @@ header_size layout = 1 + fields_size layout + 32
 abbrev pub least_header : ℕ
 least_header = 57
 
--- and the most
+-- the most bytes of a header of any version
 abbrev pub greatest_header : ℕ
 greatest_header = 65
 
@@ -114,7 +114,7 @@ checkpoint_on layout bytes = piece (header_size layout) (size_on bytes) bytes
 abbrev pub start_on : Layout → List ℕ → ℕ
 start_on layout bytes = header_size layout + size_on bytes
 
--- of the fields in front of it and the checkpoint
+-- the digest of a header: that of the fields in front of it and the checkpoint
 unfoldable pub header_digest : List ℕ → List ℕ → List ℕ
 header_digest fields checkpoint = sha256 (fields ++ checkpoint)
 
@@ -127,7 +127,7 @@ abbrev pub fields_of : Layout → ℕ → ℕ → List ℕ
 fields_of layout generation size = layout.name ++ big_bytes 8 generation ++ big_bytes 8 size
     ++ layout.own
 
--- it, behind its gate
+-- a header behind its gate: the fields and their digest
 abbrev pub header_of : Layout → ℕ → List ℕ → List ℕ
 header_of layout generation checkpoint =
     let fields = fields_of layout generation (length checkpoint) in

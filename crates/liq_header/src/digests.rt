@@ -1,4 +1,4 @@
-// The digests of a journal, and the bytes of a record.
+//! The digests of a journal, and the bytes of a record.
 ghost use Rattle.std.specs.Prelude.{◌≡◌, ◌≤◌, ◌+◌, ◌++◌, ◌∷◌, [], length, take, drop};
 ghost use Rattle.byteorder.specs.Endian.{big_bytes};
 ghost use Rattle.liq_header.specs.Layout.{fields_of, header_digest, header_of, version_2};

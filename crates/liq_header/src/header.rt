@@ -1,4 +1,4 @@
-// The fields of a header, read and tested.
+//! The fields of a header, read and tested in their order: the first whose place is wrong is told.
 ghost use Rattle.std.specs.Prelude.{◌≡◌, ◌≤◌, ◌+◌, ◌==◌, ◌||◌, nat_lt, not, Some, None, true, IfOk, length, get_or};
 ghost use Rattle.std.specs.Result.{MatchResult};
 ghost use Rattle.std.specs.Str.{bytes_eq};

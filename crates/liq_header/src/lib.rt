@@ -1,6 +1,14 @@
 //! The header of a journal, of either version: its bytes, read and written, and its digest; and the
 //! bytes and the digest of a record. Headers of both versions are read, and version 2 alone is
 //! written. Nothing here calls a device.
+//!
+//! ```text
+//!             gate  name  generation  size of the checkpoint  limit  digest  checkpoint
+//! version 2   0     1     9           17                      25     33      65
+//! version 1   0     1     9           17                             25      57
+//! ```
+//!
+//! A disk is read by the name that it has: a name that is neither version's is a wrong field.
 #![tactic(auto)]
 
 mod digests;

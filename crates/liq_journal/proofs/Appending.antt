@@ -222,7 +222,7 @@ module _ (odd : Bool) (held : List ℕ) (w : Written) (stands : Stands odd held 
         ended = ends_more;
       }
 
-      -- it isn't
+      -- the gate is not open
       pub before : (get_or image (end_of w) 0 ≡ 1 → ⊥) → found_on odd image ≡ Open w
       before shut = held_on odd staged w staged_stands.found image (suc left) fuel (omega (arith, long_staged))
           front_is shut

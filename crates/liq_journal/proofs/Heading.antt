@@ -304,7 +304,7 @@ module _ (layout : Layout) (odd : Bool) (held image : List ℕ) (generation : �
     long = omega (arith, long_image, within);
   }
 
--- so they decide it
+-- of bytes that begin as an open journal does, up to its records, their records decide what is found
 pub header_decides : (odd : Bool) (held image : List ℕ) (w : Written) (m : ℕ) → found_on odd held ≡ Open w
     → start_of w ≤ m → m ≤ length held → take m image ≡ take m held
     → found_on odd image ≡ found_records w.generation w.limit w.checkpoint 1 (start_of w) (records most_records

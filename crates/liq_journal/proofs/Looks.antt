@@ -87,7 +87,7 @@ digest_more told now same place size done n fields part buf Holds HoldsMore upda
         ∙ ap (λ (l : List ℕ). fields ++ l) (piece_more place done n held)) (update (fields ++ piece place done held)
         (s room))
 
--- all of it is
+-- all of the checkpoint is in the digest
 pub digest_done : (told : Option (List ℕ)) (place size done : ℕ) → done ≡ size
     → (fields digest : List ℕ) (Holds : List ℕ → Type 0) → ((m : List ℕ) → Holds m → digest ≡ sha256 m)
     → IfSome told (HasDigested Holds place size fields done) → IfSome told (λ held. place + size ≤ length held

@@ -20,7 +20,7 @@ tests : (odd : Bool) (generation : ℕ) → is_generation odd generation ≡ tru
     × ((if odd then is_odd generation else not (is_odd generation)) ≡ true)
 tests odd generation is = both (nat_le 1 generation) (if odd then is_odd generation else not (is_odd generation)) is
 
--- it is the disk's
+-- the generation is one of this disk
 pub parity_of : (odd : Bool) (generation : ℕ) → is_generation odd generation ≡ true → is_odd generation ≡ odd
 parity_of odd generation is = same (is_odd generation) odd (tests odd generation is).1
 

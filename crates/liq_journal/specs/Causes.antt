@@ -16,7 +16,7 @@ abbrev pub CauseOfLook : LookFault → ℕ → ℕ → Type 0
 CauseOfLook look.DiskFault before after = Counted before after
 CauseOfLook (look.Damaged damage) before after = after ≡ before
 
--- an opening, the same
+-- the same of an opening
 abbrev pub CauseOfOpen : OpenWhy → ℕ → ℕ → Type 0
 CauseOfOpen why.DiskFault before after = Counted before after
 CauseOfOpen (why.Damaged damage) before after = after ≡ before

@@ -19,7 +19,7 @@ pub record AreRecords (generation start : ℕ) (held : List ℕ) (count : ℕ) :
         commands = commands;
       })
 
--- the first fault of them
+-- the first fault of the records from the start on
 abbrev pub IsFaultIn : ℕ → ℕ → List ℕ → LookFault → Type 0
 IsFaultIn generation start held fault.DiskFault = Unit {0}
 IsFaultIn generation start held (fault.Damaged damage) =

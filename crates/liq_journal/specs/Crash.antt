@@ -44,7 +44,8 @@ pub record HasGate (place : ℕ) (bytes : List ℕ) : Type 0 where
   pub there : place < length bytes
   pub shut : get_or bytes place 0 ≡ 0
 
--- as they were, or with some byte at this place, where no shut gate is
+-- What shutting a gate may leave of bytes: they are as they were, or have some byte at this place,
+-- where no shut gate was.
 abbrev pub SettleLeaves : ℕ → List ℕ → List ℕ → Type 0
 SettleLeaves place held bytes = (bytes ≡ held)
     ⊎ ((HasGate place held → ⊥) × HasByteAt place held bytes)

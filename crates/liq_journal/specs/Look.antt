@@ -9,12 +9,12 @@ use Rattle.liq_header.specs.Layout.{Layout, layout_on, generation_on}
 use Rattle.liq_journal.specs.Written.{first_fault, header_tests}
 use Rattle.liq_header.specs.Header.{is_absent}
 
--- by the first fault of the header of a disk whose gate is open
+-- what a look tells of a disk whose gate is open, by the first fault of its header
 abbrev pub look_behind : List ℕ → Option What → Result Look LookFault
 look_behind bytes None = Ok (Open (generation_on bytes))
 look_behind bytes (Some what) = Err (Damaged (record { index = 0; what = what }))
 
--- by the tests of this version
+-- what a look at a disk tells by the tests of this version
 abbrev pub look_in : Layout → Bool → List ℕ → Result Look LookFault
 look_in layout odd bytes =
     let fault = first_fault (header_tests layout odd bytes) in

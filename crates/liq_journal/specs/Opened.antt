@@ -55,14 +55,14 @@ OpenLeaves odd held bytes =
 abbrev pub AbsentLeaves : List ℕ → List ℕ → Type 0
 AbsentLeaves held bytes = (bytes ≡ held) ⊎ (IsUnshut held × HasByteAt 0 held bytes)
 
--- after it the disk tells what it told before
+-- an opening that fails so leaves the disk telling what it told before
 abbrev pub IsKept : OpenWhy → Type 0
 IsKept why.NoMemory = Unit {0}
 IsKept (why.Damaged damage) = Unit {0}
 IsKept why.Absent = ⊥
 IsKept why.DiskFault = ⊥
 
--- after it nothing is pending
+-- an opening that fails so leaves nothing pending
 abbrev pub IsAtRest : OpenWhy → Type 0
 IsAtRest why.DiskFault = ⊥
 IsAtRest why.Absent = Unit {0}

@@ -11,7 +11,7 @@ pub record JournalOn (D : Type 0) : Type 0 where
   pub limit : ℕ
   -- where the records begin
   pub start : ℕ
-  -- how many there are
+  -- how many records there are
   pub count : ℕ
 
 -- The bytes are whole records of this generation and a 0 behind them, as many as are known of.

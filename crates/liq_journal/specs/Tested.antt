@@ -13,7 +13,7 @@ IsBodyRead generation index place held body =
     (body ≡ piece place 96 held)
     × ((command : Command) × (record_on generation index place (piece place 128 held) ≡ Ok command))
 
--- its first fault
+-- the first fault of the record of this number, which is at the place
 abbrev pub IsFaultRead : ℕ → ℕ → ℕ → List ℕ → LookFault → Type 0
 IsFaultRead generation index place held fault.DiskFault = Unit {0}
 IsFaultRead generation index place held (fault.Damaged damage) =

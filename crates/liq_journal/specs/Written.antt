@@ -99,7 +99,7 @@ found_behind layout bytes None =
     found_records (generation_on bytes) layout.limit (checkpoint_on layout bytes) 1
     (start_on layout bytes) (records most_records (drop (start_on layout bytes) bytes))
 
--- by the tests of this version
+-- what is found on a disk by the tests of this version
 abbrev pub found_in : Layout → Bool → List ℕ → Found
 found_in layout odd bytes =
     let fault = first_fault (header_tests layout odd bytes) in
@@ -116,15 +116,15 @@ start_of w = header_size (layout_with w.limit) + length w.checkpoint
 abbrev pub end_of : Written → ℕ
 end_of w = start_of w + 129 * length w.commands
 
--- that byte is there, and is this
+-- behind the last record is a byte, and it is this one
 pub record EndsWith (byte : ℕ) (bytes : List ℕ) (w : Written) : Type 0 where
   pub there : end_of w < length bytes
   pub is : get_or bytes (end_of w) 0 ≡ byte
 
--- with one command more
+-- the journal with one command more
 abbrev pub and_then : Written → Command → Written
 and_then w command = record w { commands = w.commands ++ command ∷ [] }
 
--- with an open gate at the place
+-- the bytes with an open gate at the place
 abbrev pub opened : ℕ → List ℕ → List ℕ
 opened place bytes = overwritten bytes place (1 ∷ [])

@@ -1,4 +1,4 @@
-// What the calls of a journal answer where they fail.
+//! What the calls of a journal answer where they fail, and the faults of a look.
 use crate::damage::Damage;
 use liq_outside::Failed;
 

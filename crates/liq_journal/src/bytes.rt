@@ -1,4 +1,4 @@
-// Writes that are on the disk when they return.
+//! Writes that are on the disk when they return: with a sync, and behind a gate with two.
 ghost use Rattle.std.specs.Prelude.{◌≡◌, ◌≤◌, ◌+◌, ◌^◌, Some, List, ℕ, length, option_map, OnOk, IfSome};
 ghost use Rattle.liq_outside.specs.Disk.{IsLater, LeavesOnly, LeftNow, Only, Torn, overwritten};
 ghost use Rattle.liq_journal.specs.Called.{Called};

@@ -1,5 +1,5 @@
-// A new journal on a disk: the gate at place 0 is shut, all behind it is written, and then it is
-// opened.
+//! A new journal on a disk, in three parts: the gate at place 0 is shut; all behind it is written;
+//! it is opened. Each part is synced before the next.
 ghost use Rattle.std.specs.Prelude.{◌≡◌, ◌≤◌, ◌+◌, ◌^◌, Some, true, List, ℕ, length, option_map, OnOk, IfSome};
 ghost use Rattle.liq_outside.specs.Disk.{IsLater, LeavesOnly, LeftNow, Only, overwritten};
 ghost use Rattle.liq_journal.specs.Called.{Called};

@@ -1,4 +1,4 @@
-// Where and how a disk is damaged.
+//! Where and how a disk is damaged.
 
 /// The first fault of a damaged disk.
 #[derive(Clone, Copy)]

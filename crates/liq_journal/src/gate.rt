@@ -1,4 +1,5 @@
-// A gate that is shut.
+//! Gate bytes: whether one is shut, and shutting it. What stands behind a shut gate counts for
+//! nothing.
 ghost use Rattle.std.specs.Prelude.{◌≡◌, ◌≤◌, ◌<◌, ◌^◌, ◌↔◌, Some, IsTrue, List, ℕ, length, take, OnOk, IfOk, IfSome};
 ghost use Rattle.liq_outside.specs.Disk.{LeavesOnly, LeftNow, Looked, Only};
 ghost use Rattle.liq_outside.specs.Faults.{HasCause};

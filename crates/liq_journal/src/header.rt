@@ -1,4 +1,4 @@
-// A header read from a disk and tested.
+//! A header read from a disk and tested.
 ghost use Rattle.std.specs.Prelude.{◌≡◌, ◌≤◌, true, IfOk, IfErr, IfSome};
 ghost use Rattle.liq_types.specs.Image.{IsLimit};
 ghost use Rattle.liq_header.specs.Header.{is_generation};

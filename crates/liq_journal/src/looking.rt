@@ -1,4 +1,4 @@
-// A disk looked at: its header, and the digest over the checkpoint, without memory.
+//! A disk looked at: its header, and the digest over the checkpoint, without memory.
 ghost use Rattle.std.specs.Prelude.{◌≡◌, ◌≤◌, ◌+◌, ◌^◌, ◌⊎◌, Err, true, length, IfErr, IfOk, IfSome};
 ghost use Rattle.liq_types.specs.Image.{IsLimit};
 ghost use Rattle.liq_outside.specs.Disk.{Looked};

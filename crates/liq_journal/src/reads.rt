@@ -1,4 +1,4 @@
-// Device calls that look at a disk, and leave it as it is.
+//! Device calls that look at a disk, and leave it as it is.
 ghost use Rattle.std.specs.Prelude.{◌≡◌, ◌≤◌, length, IfOk, IfSome};
 ghost use Rattle.liq_outside.specs.Disk.{Looked};
 ghost use Rattle.liq_outside.specs.Faults.{HasCause};
@@ -6,7 +6,7 @@ ghost use Rattle.liq_journal.specs.Looked.{IsRead};
 
 use liq_outside::{Disk, Failed};
 
-// As many bytes of a checkpoint are read at once.
+// How many bytes of a checkpoint are read at once.
 pub const PIECE_BYTES: usize = 65536;
 
 // Reads from a place on into the front of `buf`, and says how many bytes.

@@ -1,4 +1,5 @@
-// Records read back and tested.
+//! Records read back and tested: counted from the first on at an opening, and one by its number
+//! afterwards.
 ghost use Rattle.std.specs.Prelude.{◌≡◌, ◌≤◌, ◌<◌, ◌+◌, ◌^◌, ◌++◌, Ok, Err, List, ℕ, length, take, drop, IfOk, IfErr, IfSome};
 ghost use Rattle.std.specs.Result.{MatchResult};
 ghost use Rattle.liq_types.specs.declared.requests.Command.{Command};

@@ -1,3 +1,5 @@
+//! What an opening has read before it settles the disk.
+
 // What was read of an open disk.
 #[derive(Drop)]
 pub struct Scanned {

@@ -1,4 +1,4 @@
-//! The place of a field.
+//! The place that is told of a field: how many bytes stand before it.
 
 ghost use Rattle.std.specs.Prelude.{◌≡◌, ◌-◌, length};
 

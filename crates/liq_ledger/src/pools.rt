@@ -1,4 +1,4 @@
-//! What the pools hold.
+//! What each pool holds: numbers alone, which the rules of the other crates move.
 
 /// What each pool holds. Collateral is in gwei, debt and LUSD in micro-LUSD.
 #[derive(Clone, Copy)]

@@ -1,4 +1,4 @@
-//! What owners may claim.
+//! What owners of closed troves may claim.
 
 ghost use Rattle.std.specs.Prelude.{◌≡◌, ◌≤◌, ◌+◌, [], IsOk, IfOk, OnOk, length};
 ghost use Rattle.std.specs.List.{All};

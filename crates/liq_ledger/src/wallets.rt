@@ -1,4 +1,5 @@
-//! The wallets of all accounts.
+//! The wallets of all accounts: paid into, paid out of, and moved between. Each is within what may
+//! be inside.
 
 ghost use Rattle.std.specs.Prelude.{◌≡◌, ◌≤◌, ◌+◌, [], true, IsOk, IfOk, OnOk, OnErr, IsTrue, length};
 ghost use Rattle.liq_types.specs.Payments.{credited_in, charged_in};

@@ -15,7 +15,7 @@ module _ (before mid after : Option (List ℕ)) (line taken : List ℕ) (front :
   pub ended_on : Reads mid (10 ∷ []) after → ReadsLine before line after taken (Ok Ended)
   ended_on read = (reads_more before mid after line (10 ∷ []) front read, within)
 
-  -- there was none
+  -- there was no line: the source was at its end
   pub over_on : (end : LineEnd) → Reads mid [] after → IsOver after → IsEndOfInput line end
       → ReadsLine before line after taken (Ok end)
   over_on Nothing read over is =

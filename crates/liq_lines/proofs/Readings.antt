@@ -5,7 +5,7 @@ use Rattle.liq_lines.specs.declared.reader.TheConstants.{READ_BYTES}
 use Rattle.liq_lines.specs.Reading.{unread, taken_most, Reads, ReadsAtMost, ReadsFew}
 use Rattle.liq_lines.proofs.Few.{few_more, few_none, few_taken, few_within}
 
--- by who takes nothing
+-- who takes nothing reads no more than may be read
 pub takes_none : (before : Option (List ℕ)) → ReadsAtMost (taken_most LINES_MOST) before before
 takes_none before = few_within before before 0 (taken_most LINES_MOST) (few_none before) (omega arith)
 

@@ -21,17 +21,14 @@ module _ {X : Type 0} (Says : List ℕ → X → Type 0) where
   -- tells.
   abbrev pub StopsAfter : Stop → List ℕ → Option (List ℕ) → List X → Type 0
   -- the next line is the first that says nothing
-  StopsAfter (BadLine number) bytes left said =
-      (number ≡ length said + 1) × (number ≤ LINES_MOST)
+  StopsAfter (BadLine number) bytes left said = (number ≡ length said + 1) × (number ≤ LINES_MOST)
       × ((line : List ℕ) × IsBadLine line × ((more : List (List ℕ))
       × BeginsWith bytes said (line ∷ more)))
-  -- they are all whose line ends the source gave
-  StopsAfter ReadFault bytes left said =
-      (front : List (List ℕ)) × AllZip Says front said
+  -- these are all lines whose ends the source gave
+  StopsAfter ReadFault bytes left said = (front : List (List ℕ)) × AllZip Says front said
       × ((part : List ℕ) × IsPartOfLine (length said) part
       × ((rest : List ℕ) × (left ≡ Some rest) × (bytes ≡ ended front ++ part ++ rest)))
   StopsAfter NoMemory bytes left said = (more : List (List ℕ)) × BeginsWith bytes said more
-  -- as many lines as are read, and a further one begins
-  StopsAfter Limit bytes left said =
-      (length said ≡ LINES_MOST)
+  -- these are as many lines as are read, and a further one begins
+  StopsAfter Limit bytes left said = (length said ≡ LINES_MOST)
       × ((line : List ℕ) × ((more : List (List ℕ)) × BeginsWith bytes said (line ∷ more)))

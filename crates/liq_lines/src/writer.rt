@@ -1,4 +1,4 @@
-//! Writing a whole piece.
+//! Writing a whole piece, in as many calls as the sink wants.
 
 ghost use Rattle.std.specs.Prelude.{◌≡◌, ◌≤◌, OnOk, OnErr};
 ghost use Rattle.liq_outside.specs.Faults.{HasCause};

@@ -313,7 +313,7 @@ module _ (start : Moment) (list : List Ranked) (count taken : ℕ) (figures afte
         same = e.same;
       }
 
--- after the first
+-- a walk goes on behind its first victim
 pub walk_first : (start : Moment) (list : List Ranked) (count : ℕ) (after : Figures) (is : list ≡ order_by start.troves)
     (s : IsSoundMoment start) (d : AreDistinct list) (v : Victim) → 1 ≤ count → next_at start ≡ Ok v
     → IfSome (at start.troves v.account) (λ t. after ≡ figures_after start.figures (start.figures.sums.stakes - t.stake)

@@ -18,7 +18,7 @@ use Rattle.liq_liquidation.specs.declared.one.One.{One}
 use Rattle.liq_liquidation.specs.declared.one.Victim.{Victim}
 use Rattle.liq_liquidation.specs.One.{one_in}
 
--- ---- on what it is made
+-- ---- the state that a liquidation finds
 
 -- the victim was planned on these books, at some price, where the Stability Pool had so much
 pub record IsPlannedOn (b : Books) (total : ℕ) (v : Victim) : Type 0 where

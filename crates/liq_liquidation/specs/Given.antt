@@ -22,7 +22,7 @@ pub record IsTroveOf (m : Market) (sums : Sums) (t : Trove) : Type 0 where
   -- where there are other troves they have some stake
   pub others : 2 ≤ m.troves → t.stake < sums.stakes
 
--- and its entire amounts are within the totals
+-- a trove on the way of a liquidation, whose entire amounts are within the totals
 pub record IsStruckOf (f : Figures) (t : Trove) : Type 0 where
   pub trove : IsTroveOf f.market f.sums t
   pub coll : (entire_by f.sums t).0 ≤ f.market.total_coll

@@ -30,7 +30,7 @@ victim_at s (Some account) = victim_by account (one s account)
 abbrev pub next_victim : State → Option Victim
 next_victim s = victim_at s (last_trove s)
 
--- so many at most, up to the first that may not be liquidated
+-- the lowest troves: so many at most, up to the first that may not be liquidated
 abbrev pub lowest : State → ℕ → List Victim
 lowest s zero = []
 lowest s (suc more) = elim (next_victim s) [ None ↦ [] | Some v ↦ v ∷ lowest (struck s v) more ]

@@ -82,7 +82,7 @@ victim_from f troves (Some account) =
 abbrev pub next_at : Moment → Result Victim Refusal
 next_at now = victim_from now.figures now.troves (last_account (order_by now.troves))
 
--- so many at most, up to the first that may not be liquidated
+-- the lowest troves from a moment on: so many at most, up to the first that may not be liquidated
 abbrev pub lowest_from : Moment → ℕ → List Victim
 lowest_from now zero = []
 lowest_from now (suc more) = elim (next_at now) [

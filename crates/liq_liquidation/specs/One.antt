@@ -29,7 +29,7 @@ pub data Treatment : Type 0 where
   Redistributed : Treatment
   -- the pool takes over all the debt for a part of the collateral, and the owner keeps the rest
   Capped : Treatment
-  -- it may not be liquidated
+  -- the trove may not be liquidated
   Kept : Treatment
 
 -- The table of treatments, by the mode and the trove's own ratio. The first line that holds
@@ -127,7 +127,7 @@ abbrev pub is_capped : Treatment → Bool
 is_capped Capped = true
 is_capped _ = false
 
--- by the table alone, of a trove with these entire amounts
+-- the rules of the table alone, on a trove with these entire amounts
 abbrev pub treated_rules : Market → ℕ → ℕ → ℕ → List Rule
 treated_rules m coll debt total =
     let treatment = treatment m coll debt in
@@ -140,7 +140,8 @@ treated_of m coll debt total =
     outcome (first_refusal (treated_rules m coll debt total))
     (treated (treatment m coll debt) m.price coll debt total)
 
--- and by the sums beside the other troves
+-- all rules of a liquidation: the last trove stays, those of the table, and those on the sums
+-- beside the other troves
 abbrev pub one_rules : Market → Sums → ℕ → ℕ → ℕ → List Rule
 one_rules m others coll debt total =
     let one = treated (treatment m coll debt) m.price coll debt total in
@@ -162,7 +163,7 @@ one_by m sums t total =
     let own = entire_by sums t in
     one_of m (without_stake sums t) own.0 own.1 total
 
--- of an account
+-- the same of an account, which may have no trove
 abbrev pub one_in : Market → Sums → ℕ → ℕ → Option Trove → Result One Refusal
 one_in m sums total account None = Err (NoTrove account)
 one_in m sums total account (Some t) = one_by m sums t total

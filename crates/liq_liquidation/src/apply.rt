@@ -1,4 +1,4 @@
-//! What a planned liquidation does.
+//! What a planned liquidation does to each part of the state.
 
 ghost use Rattle.std.specs.Prelude.{◌≡◌, ◌≤◌, ◌+◌, ◌-◌, None, Some, IsSome};
 ghost use Rattle.liq_types.specs.Payments.{credited_in, surplus_added_in};
@@ -63,6 +63,7 @@ pub fn apply_one(
     ensures spare { stability.new.spare + room_for (finished_in stability.old.words victim.now.one)
         ≡ stability.old.spare }
 {
+    // odd: part by part
     let one = &victim.one;
     lift(pools, troves, order, victim.account);
     wallets.pay(liquidator, one.gas, RESERVE);

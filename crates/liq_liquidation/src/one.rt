@@ -1,3 +1,5 @@
+//! What becomes of a liquidated trove.
+
 /// What becomes of a liquidated trove. Collateral is in gwei, debt in micro-LUSD.
 #[derive(Clone, Copy)]
 pub struct One {

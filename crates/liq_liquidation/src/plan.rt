@@ -1,4 +1,15 @@
-//! What becomes of one trove, or why it may not be liquidated.
+//! What becomes of one trove, or why it may not be liquidated, by the table of treatments. The
+//! first line that holds decides:
+//!
+//! ```text
+//! Normal Mode     ratio below 110       the pool what it can, the other troves the rest
+//!                 else                  refused
+//! Recovery Mode   ratio at most 100     the other troves all
+//!                 below 110             the pool what it can, the other troves the rest
+//!                 not below the total   refused
+//!                 the pool holds less   refused
+//!                 else                  the pool all, at 110 percent; the owner may claim the rest
+//! ```
 
 ghost use Rattle.std.specs.Prelude.{◌≡◌, ◌≤◌, ◌<◌, ◌^◌, ◌∷◌, ◌&&◌, [], nat_lt};
 ghost use Rattle.liq_types.specs.declared.replies.Refusal.TheVariants as refused;

@@ -42,7 +42,7 @@ told counts words supply =
 abbrev pub none_yet : Counts
 none_yet = record { accepted = 0; refused = 0; offsets = 0 }
 
--- both together
+-- the sums of two counts
 abbrev pub plus : Counts → Counts → Counts
 plus a b = record {
   accepted = a.accepted + b.accepted;
@@ -50,7 +50,7 @@ plus a b = record {
   offsets = a.offsets + b.offsets;
 }
 
--- they are counts of at most n commands
+-- these are counts of at most n commands
 pub record AreWithin (n : ℕ) (c : Counts) : Type 0 where
   pub commands : c.accepted + c.refused ≤ n
   pub offsets : c.offsets ≤ LOWEST_MOST * c.accepted

@@ -26,8 +26,7 @@ is_refusal _ = false
 -- the line of requests from the opening: their counts, the Stability Pool's words, and the debt of
 -- all troves
 unfoldable pub summary : List Request → List ℕ
-summary requests =
-    let s = (run opening requests).0 in let words = pool_words s in
+summary requests = let s = (run opening requests).0 in let words = pool_words s in
     codes "accepted " ++ decimal (length (accepted opening requests))
     ++ codes " refused " ++ decimal (count_by is_refusal (run opening requests).1)
     ++ codes " offsets " ++ decimal (offsets_in (events opening (accepted opening requests)))

@@ -79,6 +79,7 @@ impl Load {
         ensures few { (n : ℕ) → AreWithin n self.old.counts → AreWithin (n + 1) self.new.counts }
         ensures numbered { IsNumbered self.new.protocol self.new.counts }
     {
+        // odd: law called
         commands_make_few_events();
         protocols_stand(&self.protocol);
         let command = Command {
@@ -109,6 +110,7 @@ impl Load {
         ensures each { (s : State) → StandsFor self.now.protocol s → (step s (Ask query.now)).1
             ≡ result }
     {
+        // odd: law called
         protocols_stand(&self.protocol);
         self.protocol.query(query)
     }

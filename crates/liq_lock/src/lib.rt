@@ -2,8 +2,18 @@
 //! none is taken away.
 //!
 //! A lock is made with a number of seats. A seat takes the value, works on it, adds items to its
-//! history and gives it back; the contracts say what a seat then knows of the one history that all
-//! seats share. Of the calls only `Lock::take` waits.
+//! history and gives it back:
+//!
+//! ```text
+//!          take: draw a ticket           its turn comes: the value is taken out
+//! at rest ---------------------> waits -----------------------------------------> inside
+//!    ^                                                                              |
+//!    +------- give: put the value back, count its new items, end the turn ----------+
+//! ```
+//!
+//! Turns come in the order of the tickets. There is one history, and what each seat has seen is a
+//! beginning of it; behind its own turn it has seen all. The value is in its slot exactly where no
+//! seat is inside. Of the calls only `Lock::take` waits.
 #![tactic(auto)]
 
 mod chronicle;

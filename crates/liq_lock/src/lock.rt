@@ -1,4 +1,5 @@
-//! The lock, and a turn at it.
+//! The lock and a turn at it. Three words are counted on, by atomic steps: the next ticket, the
+//! ticket whose turn it is, and the number of items. A fourth place is the slot of the value.
 ghost use Rattle.std.specs.Prelude.{◌≡◌, ◌<◌, true, length};
 ghost use Rattle.liq_lock.specs.Views.{is_turn, is_empty_hand};
 
@@ -29,7 +30,7 @@ pub struct Lock<T: Chronicle> {
         × (table.shared.key ≡ seats) × (0 < seats) },
 }
 
-// Written out, so that who lets a lock go need not look inside it.
+// odd: drop written out
 impl<T: Chronicle + Drop> Drop for Lock<T> {
     fn drop(self) {
         let Lock { table: _, seats: _ } = self;

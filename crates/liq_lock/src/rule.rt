@@ -44,7 +44,7 @@ impl<T: Chronicle> Play<Option<T>, View<T::Item>> for Leave {
     ghost then = { Leaves };
 }
 
-/// A look at what a join made.
+/// A look behind a join, which tells of the seat that it made.
 pub(crate) struct Settle;
 
 impl<T: Chronicle> Play<Option<T>, View<T::Item>> for Settle {

@@ -1,4 +1,5 @@
-//! A seat of a lock.
+//! A seat of a lock, at rest. Two seats may be joined into one, which then stands for the shares of
+//! both; the lock is closed by a seat that has all shares.
 ghost use Rattle.std.specs.Prelude.{◌≡◌, true, length};
 ghost use Rattle.liq_lock.specs.Views.{view_in, is_at_rest};
 

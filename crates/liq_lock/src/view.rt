@@ -27,7 +27,7 @@ pub struct View<I> {
     pub splitting: bool,
     /// The number of the next seat that is made out of it.
     pub next: u64,
-    /// The two pasts of the last join, until it sees more.
+    /// What the two seats of the last join had seen, until this one sees more.
     pub left: Past<I>,
     pub right: Past<I>,
 }

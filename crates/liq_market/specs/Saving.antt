@@ -17,15 +17,15 @@ name = 76 ∷ 73 ∷ 81 ∷ 83 ∷ 78 ∷ 65 ∷ 80 ∷ 49 ∷ []
 unfoldable pub told_with : ℕ → List ℕ → List ℕ
 told_with records checkpoint = name ++ big_bytes 8 records ++ checkpoint
 
--- its SHA-256
+-- the SHA-256 of these bytes
 unfoldable pub digest : List ℕ → List ℕ
 digest told = sha256 told
 
--- what is told, and its digest
+-- these bytes, and their digest behind them
 abbrev pub sealed : List ℕ → List ℕ
 sealed told = told ++ digest told
 
--- of an image beside so many records
+-- the save of an image beside so many records
 abbrev pub saved : Image → ℕ → List ℕ
 saved i records = sealed (told_with records (spelling i))
 

@@ -16,6 +16,7 @@ use std::alloc::Global;
 pub fn markets_stand(market: &Market)
     ensures { StandsFor market.now.core (state_of market.now.core) }
 {
+    // odd: law called
     laws::protocols_stand(market.protocol());
 }
 
@@ -24,6 +25,7 @@ pub fn markets_stand(market: &Market)
 pub fn markets_are_sound(market: &Market)
     ensures { IsSoundImage market.now.core.image market.now.core.records }
 {
+    // odd: law called
     laws::protocols_are_sound(market.protocol());
 }
 
@@ -33,6 +35,7 @@ pub fn saves_are_loaded(alloc: Global, market: &Market) -> Result<Market, NoMemo
     ensures { IfOk result (λ again.
         SameContent market.now.core again.core × (again.touched ≡ [])) }
 {
+    // odd: law called
     laws::protocols_are_sound(market.protocol());
     laws::protocols_stand(market.protocol());
     laws::lists_stand(market.protocol());

@@ -1,4 +1,4 @@
-//! A market in memory.
+//! A market: the protocol with its guide, and whom the last accepted command touched.
 
 ghost use Rattle.std.specs.Prelude.{◌≡◌, ◌↔◌, ◌⊎◌, ℕ, [], drop, length, Err, Some};
 ghost use Rattle.std.specs.Prelude.{IfOk, OnOk, OnErr};
@@ -39,7 +39,7 @@ pub struct Market {
     touched: Vec<u32>,
 }
 
-// Written out, as that of the protocol is.
+// odd: drop written out
 impl Drop for Market {
     fn drop(self) {
         let Market {
@@ -81,6 +81,7 @@ impl Market {
         ensures err { OnErr result (IsSame self.old self.new) }
     {
         match request {
+            // odd: steps counted
             Request::Do(command) => self.carry_out::<Brand>(command, Blank::new(1)),
             Request::Ask(query) => Ok(self.ask(query)),
         }
@@ -134,6 +135,7 @@ impl Market {
         ensures untouched { IfOk result (λ fork. fork.touched ≡ []) }
     {
         let protocol = self.guided.protocol();
+        // odd: law called
         protocols_are_sound(protocol);
         protocols_stand(protocol);
         lists_stand(protocol);
@@ -154,6 +156,7 @@ impl Market {
         ensures { result ≡ length (saved self.now.core.image self.now.core.records) }
     {
         let protocol = self.guided.protocol();
+        // odd: law called
         protocols_are_sound(protocol);
         AROUND + protocol.checkpoint_length()
     }
@@ -165,6 +168,7 @@ impl Market {
             IsSave bytes.items self.now.core.image self.now.core.records) }
     {
         let protocol = self.guided.protocol();
+        // odd: law called
         protocols_are_sound(protocol);
         let image = protocol.image()?;
         let checkpoint = encode(alloc, &image)?;
@@ -239,6 +243,7 @@ impl Market {
         ensures unsound { (rule : ℕ) → (result ≡ Err (unloaded.Unsound rule))
             ↔ (first_unsound image records ≡ Some rule) }
     {
+        // odd: match for ?
         let protocol = match Protocol::from_image_at(alloc, image, records) {
             Ok(protocol) => protocol,
             Err(fault) => return Err(fault),
@@ -284,6 +289,7 @@ impl Market {
             → OnOk result (self.new.touched ≡ touched_after s (Do command.now) self.old.touched) }
         ensures err { OnErr result (IsSame self.old self.new) }
     {
+        // odd: law called
         protocols_stand(self.guided.protocol());
         let planned = match self.guided.plan(command) {
             Ok(Turn::New(planned)) => planned,

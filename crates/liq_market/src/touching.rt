@@ -1,4 +1,5 @@
-//! Whom a command touches.
+//! Whom a command touches: whom its call names, and then the others whose troves it moved in the
+//! list or took out of it.
 
 ghost use Rattle.std.specs.Prelude.{◌≡◌, ◌+◌, ◌<◌, ◌≤◌, ◌++◌, ◌∷◌, [], length, take};
 ghost use Rattle.std.specs.Prelude.{vec_capacity, vec_len};

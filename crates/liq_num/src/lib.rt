@@ -1,6 +1,9 @@
 //! The numbers that every rule rests on: exact quotients of products, decimal fractions and their
-//! powers, and the exact comparisons of ratios. Nothing here takes memory, and no intermediate
-//! number leaves 128 bits.
+//! powers, and the exact comparisons of ratios.
+//!
+//! A fraction is a whole number of 10^18ths. `mul_div` rounds down and `mul_div_up` up; `dec_mul`
+//! and `dec_pow` round to the nearest, a half up. Each product has to fit 128 bits, which is for
+//! the caller to know, so that nothing here takes memory or fails.
 #![tactic(auto)]
 
 pub mod laws;

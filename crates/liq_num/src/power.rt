@@ -1,3 +1,5 @@
+//! Products and powers of decimal fractions.
+
 ghost use Rattle.std.specs.Prelude.{◌≡◌, ◌≤◌};
 ghost use Rattle.liq_num.specs.Power.{rounded_product, power_of};
 

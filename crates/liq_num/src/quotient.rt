@@ -1,3 +1,5 @@
+//! Quotients of products, rounded down or up.
+
 ghost use Rattle.std.specs.Prelude.{◌≡◌, ◌*◌, ◌/◌, ◌^◌, ◌<◌};
 ghost use Rattle.liq_num.specs.Quotient.{floor_of, ceiling_of};
 

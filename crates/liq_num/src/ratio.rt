@@ -1,3 +1,5 @@
+//! Comparisons of a trove's ratio, the worth of its collateral over its debt, without a division.
+
 ghost use Rattle.std.specs.Prelude.{◌≡◌, ◌≤◌, ◌*◌, ◌^◌, ◌↔◌, IsTrue};
 ghost use Rattle.liq_num.specs.Ratio.{ratio_order, IsBelowPercent};
 

@@ -233,6 +233,7 @@ impl Accounts {
         ensures absent { IfErr result (IsGapFor self.now.rows account) }
         ensures kept { AreRows self.now.rows self.now.marked }
     {
+        // odd: field read
         let _ = &self.last;
         if let Some(at) = self.last_at(account) {
             return Ok(at);

@@ -17,7 +17,7 @@ pub struct Order {
     nodes: Nodes,
 }
 
-// Written out, so that who lets a list go need not look inside it.
+// odd: drop written out
 impl Drop for Order {
     fn drop(self) {
         let Order { nodes: _ } = self;
@@ -89,6 +89,7 @@ impl Order {
         ensures list { self.new.entries ≡ without_ranked self.old.entries id }
         ensures room { self.new.room ≡ self.old.room + 1 }
     {
+        // odd: steps counted
         self.nodes.remove::<Brand>(id, Blank::new(1));
     }
 
@@ -96,6 +97,7 @@ impl Order {
     pub fn last(&self) -> Option<u32>
         ensures { result ≡ last_account self.now.entries }
     {
+        // odd: steps counted
         self.nodes.end::<Brand>(Blank::new(1))
     }
 
@@ -104,6 +106,7 @@ impl Order {
         requires { IsSome (key_in self.now.entries id) }
         ensures { result ≡ before_in self.now.entries id }
     {
+        // odd: steps counted
         self.nodes.before::<Brand>(id, Blank::new(1))
     }
 
@@ -111,6 +114,7 @@ impl Order {
     pub fn find(&self, id: u32) -> Option<i128>
         ensures { result ≡ key_in self.now.entries id }
     {
+        // odd: steps counted
         self.nodes.key_of::<Brand>(id, Blank::new(1))
     }
 

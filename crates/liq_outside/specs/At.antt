@@ -6,8 +6,8 @@ use Rattle.liq_outside.specs.declared.showing.Showing.{Showing}
 pub record DiskAt : Type 1 where
   -- what a read gives, where it is told
   pub seen : Option (List ℕ)
-  -- the moment: a u64, which each write and each sync that succeeds raises by one, up to its last
-  -- value
+  -- the moment: a u64, which each write and each sync that succeeds raises by one, and a write that
+  -- fails by one at most, up to its last value
   pub moment : ℕ
   -- what a crash may have left at each moment, the present one included
   pub left_at : ℕ → List ℕ → Type 0

@@ -23,7 +23,7 @@ FailsNext calls = Contains calls.failing calls.next
 abbrev pub one_more : ℕ → ℕ
 one_more n = min (n + 1) count_most
 
--- so many more
+-- a count after so many more calls
 abbrev pub after_calls : ℕ → ℕ → ℕ
 after_calls zero count = count
 after_calls (suc n) count = one_more (after_calls n count)

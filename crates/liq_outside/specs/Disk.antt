@@ -29,7 +29,7 @@ Reaches step before after =
 abbrev pub Within : (List ℕ → Type 0) → (List ℕ → Type 0) → Type 0
 Within these those = (image : List ℕ) → these image → those image
 
--- there is no other image
+-- no image but these bytes is among the images
 abbrev pub Only : List ℕ → (List ℕ → Type 0) → Type 0
 Only bytes images = (image : List ℕ) → images image → image ≡ bytes
 
@@ -46,7 +46,7 @@ LeftSince at disk since image =
 abbrev pub LeftBetween : {D : Type 0} → (D → DiskAt) → D → ℕ → ℕ → List ℕ → Type 0
 LeftBetween at disk from to image = (k : ℕ) × (from ≤ k) × (k ≤ to) × (at disk).left_at k image
 
--- so many writes and syncs that succeeded later
+-- the disk so many writes and syncs later, of which each succeeded
 abbrev pub IsLater : {D : Type 0} → (D → DiskAt) → ℕ → D → D → Type 0
 IsLater at n old new = (at new).moment ≡ after_calls n (at old).moment
 

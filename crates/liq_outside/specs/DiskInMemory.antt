@@ -126,7 +126,7 @@ pub record Roomy : Type 0 where
   pub disk : DiskInMemory
   pub room : ℕ
 
--- as a disk: its moment is the number of steps
+-- what is told of a disk in memory: its moment is the number of its steps
 abbrev pub disk_at : Roomy → DiskAt
 disk_at d = record {
   seen = Some d.disk.held;

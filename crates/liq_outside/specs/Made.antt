@@ -9,7 +9,7 @@ step_of (made.Wrote at count over) = Wrote at count over.items
 step_of (made.Tried at count) = Tried at count
 step_of made.Synced = Synced
 
--- the last one first
+-- the steps of notes, the last one first
 abbrev pub steps_of : List Made → List Step
 steps_of notes = reverse (map step_of notes)
 

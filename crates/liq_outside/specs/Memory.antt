@@ -11,7 +11,7 @@ pub record SourceInMemory : Type 0 where
   pub chunk : ℕ
   pub calls : Calls
 
--- as a source
+-- what is told of a source in memory
 abbrev pub source_at : SourceInMemory → SourceAt
 source_at source = record { left = Some source.left; faults = source.calls.faults }
 
@@ -35,7 +35,7 @@ pub record SinkInMemory : Type 0 where
   pub shown : Option (List Showing)
   pub calls : Calls
 
--- as a sink
+-- what is told of a sink in memory
 abbrev pub sink_at : SinkInMemory → SinkAt
 sink_at sink = record { held = Some sink.held; shown = sink.shown; faults = sink.calls.faults }
 

@@ -19,7 +19,7 @@ stays held (Wrote at count over ∷ steps) = inl refl
 stays held (Tried at count ∷ steps) = (held, stays held steps, torn_nothing at count held)
 stays held (Synced ∷ steps) = refl
 
--- at the present moment
+-- what may be left now is what may be left at the last moment
 pub left_now : (held : List ℕ) (steps : List Step) (image : List ℕ)
     → MayBeLeft held steps image → WasLeft held steps (length steps) image
 left_now held steps image may =

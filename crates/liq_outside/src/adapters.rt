@@ -1,5 +1,5 @@
-// std's readers and writers as a source and a sink. As such they tell no content: only faults are
-// told.
+//! std's readers and writers as a source and a sink. As such they tell no content: only faults are
+//! told.
 ghost use Rattle.std.specs.Prelude.{◌≡◌, ◌≤◌, ◌<◌, None, length, IfOk};
 ghost use Rattle.std.specs.Io.KnownBytes.{ReadConsumes, WriteAppends};
 ghost use Rattle.liq_outside.specs.Adapters.{CountsFailure};
@@ -29,7 +29,7 @@ impl<R> Model for StdSource<R> {
 }
 
 impl<R: Read> StdSource<R> {
-    /// A source that reads from the reader.
+    /// The reader as a source, of which no read has failed yet.
     pub fn new(reader: R) -> Self
         ensures reader { result.inner ≡ reader }
         ensures faults { result.faults ≡ 0 }
@@ -82,7 +82,7 @@ impl<W> Model for StdSink<W> {
 }
 
 impl<W: Write> StdSink<W> {
-    /// A sink that writes to the writer.
+    /// The writer as a sink, of which no write has failed yet.
     pub fn new(writer: W) -> Self
         ensures writer { result.inner ≡ writer }
         ensures faults { result.faults ≡ 0 }

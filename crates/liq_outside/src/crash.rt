@@ -1,4 +1,4 @@
-// What a crash leaves of a disk in memory.
+//! What a crash leaves of a disk in memory: the ranges that were written since the last sync, torn.
 ghost use Rattle.std.specs.Prelude.{◌≡◌, length};
 ghost use Rattle.liq_outside.specs.DiskInMemory.{AreWrites, MayBeLeft, StaysLeft};
 ghost use Rattle.liq_outside.specs.Made.{steps_of};

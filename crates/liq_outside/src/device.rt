@@ -1,4 +1,4 @@
-// What keeps bytes by their places as the system does: a call may do a part of what it is asked.
+//! What keeps bytes by their places as the system does: a call may do a part of what it is asked.
 ghost use Rattle.std.specs.Prelude.{◌≡◌, ◌≤◌, ◌<◌, ◌+◌, ◌-◌, ◌^◌, Option, Some, Ok, List, ℕ, length, take, drop, is_some, IfOk, IfSome, OnOk, OnErr};
 ghost use Rattle.liq_outside.specs.Devices.{TellsFailure};
 ghost use Rattle.liq_outside.specs.Disk.{overwritten};

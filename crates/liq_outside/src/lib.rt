@@ -1,9 +1,20 @@
-//! What a program reads from and writes to: sources of bytes and sinks of bytes, each with a count
-//! of its faults.
+//! What a program reads from and writes to: sources of bytes, sinks of bytes and disks, each with a
+//! count of its faults.
 //!
-//! A source or a sink may tell the bytes that it has, and always tells how many faults it has met.
-//! `Failed` comes just from the calls in which that count rose. The forms in memory tell all; those
-//! over std's readers and writers tell the count alone.
+//! Each may tell the bytes that it has, and always tells how many faults it has met. `Failed` comes
+//! just from the calls in which that count rose. The forms in memory tell all; those over std's
+//! readers, writers and files tell the count alone.
+//!
+//! A disk keeps bytes by their places, and has moments:
+//!
+//! ```text
+//! moment  0 -- write --> 1 -- write --> 2 -- sync --> 3
+//! a stop  |              |              |             |
+//! leaves  the bytes      any part       any parts     the bytes,
+//!         of then        of the write   of both       both writes in them
+//! ```
+//!
+//! What a stop at a moment may leave, told once, stays told: no later call takes it back.
 #![tactic(auto)]
 
 mod adapters;

@@ -1,4 +1,4 @@
-// What was done to the bytes of a disk in memory.
+//! Notes of what was done to the bytes of a disk in memory, from which each earlier moment is told.
 ghost use Rattle.std.specs.Prelude.{◌≡◌, ◌⊎◌, ◌<◌, ◌≤◌, ◌+◌, ◌^◌, vec_capacity, length, take, drop, OnOk, OnErr};
 ghost use Rattle.liq_outside.specs.Disk.{overwritten};
 ghost use Rattle.liq_outside.specs.DiskInMemory.{Tried, Wrote};

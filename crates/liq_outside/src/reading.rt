@@ -1,4 +1,4 @@
-// Bytes in memory that are read.
+//! Bytes in memory that are read.
 ghost use Rattle.std.specs.Prelude.{◌≡◌, ◌-◌, ◌++◌, length, take, drop, min};
 
 // Reads from a place on into the front of `buf`, so many bytes at most, and says how many.

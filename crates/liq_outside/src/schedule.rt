@@ -1,10 +1,10 @@
-// Which calls of an object in memory fail, and how many did.
+//! Which calls of an object in memory fail, and how many did.
 ghost use Rattle.std.specs.Prelude.{◌≡◌, ◌≤◌, ◌↔◌, IsTrue};
 ghost use Rattle.liq_outside.specs.Calls.{Calls, FailsNext, begun, faulted, not_begun};
 
 use std::marker::Model;
 
-// Both counts stay at their last value.
+// The calls of an object, counted as they are made. Both counts stay at the last value of a u64.
 #[derive(Drop)]
 pub struct Schedule {
     failing: Vec<u64>,

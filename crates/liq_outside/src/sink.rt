@@ -1,4 +1,4 @@
-// What takes bytes.
+//! What takes bytes, one behind the other, and is shown two disks.
 ghost use Rattle.std.specs.Prelude.{◌≡◌, Option, ◌≤◌, ◌<◌, ◌++◌, List, ℕ, length, take, option_map, IfOk, OnErr};
 ghost use Rattle.liq_outside.specs.At.{SinkAt};
 ghost use Rattle.liq_outside.specs.Faults.{HasCause};

@@ -1,4 +1,4 @@
-// What gives bytes.
+//! What gives bytes, up to an end or a fault.
 ghost use Rattle.std.specs.Prelude.{◌≡◌, Option, ◌≤◌, ◌<◌, [], List, ℕ, length, take, drop, option_map, IfOk, OnErr, IfSome};
 ghost use Rattle.liq_outside.specs.At.{SourceAt};
 ghost use Rattle.liq_outside.specs.Faults.{HasCause};

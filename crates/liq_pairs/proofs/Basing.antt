@@ -43,7 +43,7 @@ pub base_later : (w : Written) → (w.generation ≡ 1 → ⊥) → base_of w �
 unfolding base_of
 base_later w later = ap (λ (b : Bool). opening_or w b (checkpoint_base w)) (ne_eqb w.generation 1 later)
 
--- its records don't count
+-- a journal begins with the same state, whatever its records are
 pub base_then : (w : Written) (c : Command) → base_of (and_then w c) ≡ base_of w
 unfolding base_of
 base_then w c = refl

@@ -79,7 +79,7 @@ leads_generation odd bytes w s found leads =
     sym (outcome_generation w leads.state (found_no_rotation odd bytes w found) leads.came)
     ∙ ap (λ (i : Image). i.generation) leads.alike.image
 
--- one accepted command more
+-- a journal that leads to a state leads further with one accepted command more
 pub leads_further : (w : Written) (c : Command) (s : State) → LeadsTo w s → ruling s c ≡ Allowed
     → LeadsTo (and_then w c) (after s c)
 leads_further w c s leads allowed = record {

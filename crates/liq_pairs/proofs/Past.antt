@@ -64,7 +64,7 @@ prefix_longer side start requests more image (n, alone) =
     ap (take m.0) (run_accepted start requests more) ∙ m.1 in
     (m.0, subst (λ (cs : List Command). StandsAlone side image (fold after start cs)) (sym same) alone)
 
--- all of them
+-- the prefix of all accepted commands
 pub prefix_whole : (side : Side) (start : State) (requests : List Request) (image : List ℕ)
     → IsOpenFor side image (run start requests).0 → IsOfPrefix side start requests image
 prefix_whole side start requests image opens =
@@ -349,7 +349,7 @@ rotations_more start requests c rotate allowed =
     let none : rotates_in [] ≡ 0 = refl in
     omega (arith, first, both, one, none)
 
--- or met a fault
+-- a run that ended with a fault of a disk
 pub rotations_failed : (start : State) (requests : List Request) (c : Command) → is_rotate c.call ≡ true
     → rotations start requests (AtCommand c) ≡ rotations start requests NoFault + 1
 rotations_failed start requests c rotate =

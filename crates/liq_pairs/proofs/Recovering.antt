@@ -72,7 +72,7 @@ module _ (side : Side) (l r a b : List ℕ) (w : Written) (s : State) (leads : L
             (turned side a b next (after s kept.command) next_leads now_older made),
       )
 
-  -- or another byte
+  -- the opening leaves another byte than 1 at place 0
   turns_not : (byte : ℕ) → (byte ≡ 1 → ⊥) → beside side a b ≡ overwritten (beside side l r) 0 (byte ∷ []) → IsKept a b s
   turns_not byte unopened is =
       let odd = has_odd (other side) in

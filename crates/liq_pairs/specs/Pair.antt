@@ -76,7 +76,7 @@ journal_limit (Some w) = w.limit
 unfoldable pub commands_on : List ℕ → List ℕ → List Command
 commands_on left right = journal_commands (journal_on left right)
 
--- the limit under which they do
+-- the limit under which those commands lead there
 unfoldable pub limit_on : List ℕ → List ℕ → ℕ
 limit_on left right = journal_limit (journal_on left right)
 

@@ -30,11 +30,11 @@ failed_commands (AtCommand c) = c ∷ []
 
 -- ---- one image of one disk
 
--- beside an empty disk it stands for the state
+-- an image of one disk that beside an empty one stands for the state
 abbrev pub StandsAlone : Side → List ℕ → State → Type 0
 StandsAlone side image s = StandFor (on side image []) (on side [] image) s
 
--- as it was, or with some byte at place 0, where no shut gate was
+-- the image is what the disk was, or that with some byte at place 0, where no shut gate was
 abbrev pub IsAsItStood : List ℕ → List ℕ → Type 0
 IsAsItStood held image = SettleLeaves 0 held image
 
@@ -43,12 +43,12 @@ abbrev pub IsOfPrefix : Side → State → List Request → List ℕ → Type 0
 IsOfPrefix side start requests image =
     (n : ℕ) × StandsAlone side image (fold after start (take n (accepted start requests)))
 
--- for the state after the command that l and r held unfinished
+-- the image stands for the state after the command that l and r held unfinished
 abbrev pub IsOfUnfinished : Side → List ℕ → List ℕ → State → List ℕ → Type 0
 IsOfUnfinished side l r start image =
     (c : Command) × HoldsUnfinished l r start c × StandsAlone side image (after start c)
 
--- for the state after the command at which a disk met a fault
+-- the image stands for the state after the command at which a disk met a fault
 abbrev pub IsOfFailed : Side → State → Fault → List ℕ → Type 0
 IsOfFailed side s (AtCommand c) image = (ruling s c ≡ Allowed) × StandsAlone side image (after s c)
 IsOfFailed side s _ image = ⊥

@@ -3,12 +3,12 @@ use Rattle.std.specs.Prelude.{Bool, true, false}
 use Rattle.liq_pairs.specs.declared.side.Side.{Side}
 use Rattle.liq_pairs.specs.declared.side.Side.TheVariants.{Left, Right}
 
--- the one of this side
+-- of two things the one of this side
 abbrev pub on : {T : Type 0} → Side → T → T → T
 on Left left right = left
 on Right left right = right
 
--- the other one
+-- of two things the one of the other side
 abbrev pub beside : {T : Type 0} → Side → T → T → T
 beside Left left right = right
 beside Right left right = left

@@ -1,4 +1,4 @@
-// The two disks of a pair.
+//! The two disks of a pair.
 ghost use Rattle.std.specs.Prelude.{◌≡◌};
 ghost use Rattle.liq_pairs.specs.Sides.{other};
 

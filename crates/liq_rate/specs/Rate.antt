@@ -23,7 +23,8 @@ redeem_rate base = min (base + FLOOR_RATE) ONE
 abbrev pub borrow_fee : ℕ → ℕ → ℕ
 borrow_fee left amount = floor_of (borrow_rate left) amount ONE
 
--- in gwei, of the collateral that is drawn; the base is that after the redemption
+-- the fee of a redemption, in gwei, of the collateral that is drawn; the base is that after the
+-- redemption
 abbrev pub redeem_fee : ℕ → ℕ → ℕ
 redeem_fee base drawn = floor_of (redeem_rate base) drawn ONE
 

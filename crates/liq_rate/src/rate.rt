@@ -1,4 +1,4 @@
-//! The base rate: it falls with time, and redemptions raise it.
+//! The base rate as it is kept, how it falls and rises, and the fees by it.
 
 ghost use Rattle.std.specs.Prelude.{◌≡◌, ◌≤◌, ◌^◌};
 ghost use Rattle.liq_num.specs.Quotient.{floor_of};

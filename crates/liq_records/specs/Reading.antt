@@ -18,7 +18,7 @@ abbrev pub CountsReading : {T : Type 0} → Result T AcceptedFault → ℕ → �
 CountsReading (Ok read) before after = after ≡ before
 CountsReading (Err why) before after = CountsFault why before after
 
--- never damaged
+-- a fault of reading that is no damage
 abbrev pub IsReadable : AcceptedFault → Type 0
 IsReadable DiskFault = Unit {0}
 IsReadable (Damaged damage) = ⊥

@@ -1,4 +1,4 @@
-// Why commands are not read back.
+//! Why the accepted commands are not read back.
 use liq_journal::Damage;
 
 /// Why the accepted commands could not be read, or not be made again.

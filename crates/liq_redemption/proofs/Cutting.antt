@@ -42,7 +42,7 @@ pub record IsVisit (p : Parts) (price : ℕ) (v : Visit) : Type 0 where
   pub listed : IsSome (key_in p.order v.account)
   pub claim : surplus_in p.surplus v.account ≤ p.pools.surplus
 
--- each is, and no account comes twice
+-- each of these is a visit on the parts, and no account comes twice
 abbrev pub AreVisits : Parts → ℕ → List Visit → Type 0
 AreVisits p price [] = Unit {0}
 AreVisits p price (v ∷ vs) = IsVisit p price v × AllByRecursion (λ (w : Visit). IsOther v.account w.account) vs
@@ -161,7 +161,7 @@ module _ (p : Parts) (stands : Stands p) (price : ℕ) (price_some : 1 ≤ price
       ≡ entire_in p.sums p.troves q
   left_others q n = ap (λ (o : Option Trove). option_map (entire_by p.sums) o) (at-without_other p.troves v.account q n)
 
-  -- it is closed
+  -- the trove is closed by the cut
   closed : After p (closed_parts gone v.account (v.coll - cut.draw)) cut
   closed =
       let w = within in
@@ -238,7 +238,7 @@ module _ (p : Parts) (stands : Stands p) (price : ℕ) (price_some : 1 ≤ price
       let least = own.least in
       omega (arith, enough, least)
 
-  -- so it fits
+  -- so the cut fits the parts
   fits : (troves : ℕ) → stops_before v cut troves ≡ false → CutFits p cut
   fits troves goes =
       let o = own in

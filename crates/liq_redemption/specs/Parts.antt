@@ -27,7 +27,7 @@ pub record Parts : Type 0 where
   pub surplus : Table ℕ
   pub order : List Ranked
 
--- the same without the room that they have
+-- these parts of a state, without the room that they have
 abbrev pub parts_of : Pools → WithRoom ℕ → Kept → Listed → Parts
 parts_of pools surplus troves order =
     record {
@@ -48,7 +48,7 @@ with_books p b = record p { sums = b.sums; troves = b.troves; pools = pools_with
 
 -- ---- what a cut does
 
--- a trove leaves
+-- the parts of a state once a trove has left
 abbrev pub lifted_parts : Parts → ℕ → Parts
 lifted_parts p account = record (with_books p (lift (books_in p) account)) {
   order = without_ranked
@@ -74,7 +74,7 @@ closed_parts p account coll =
       surplus = surplus_added_in p.surplus account coll;
     }
 
--- of a trove that has these entire amounts
+-- the parts after a cut of a trove that had these entire amounts
 abbrev pub cut_own : Parts → Cut → Option (ℕ × ℕ) → Parts
 cut_own p cut None = p
 cut_own p cut (Some own) =

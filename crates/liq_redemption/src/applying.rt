@@ -1,4 +1,4 @@
-//! What a planned redemption does.
+//! What a planned redemption does to each part of the state, on room that was reserved for it.
 
 ghost use Rattle.std.specs.Prelude.{◌≡◌, ◌≤◌, ◌+◌, IsOk, OnOk, count_by, length, if◌then◌else◌};
 ghost use Rattle.liq_types.specs.declared.amounts.TheConstants.{LIM};
@@ -95,6 +95,7 @@ pub fn apply<L: Ledger>(
         steps.old steps.new }
     ensures any { steps.new ≤ steps.old + (length order.old.entries + 4) }
 {
+    // odd: part by part
     for cut in plan.cuts.as_slice() {
         take_down(cut, hint, pools, surplus, troves, order, steps);
     }

@@ -1,3 +1,5 @@
+//! What a redemption takes of a trove.
+
 /// What a redemption takes of a trove.
 #[derive(Clone, Copy)]
 pub struct Cut {

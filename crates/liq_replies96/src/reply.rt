@@ -1,4 +1,4 @@
-//! A reply in 96 bytes.
+//! A reply in 96 bytes, as it lies in memory: its layout is that of C.
 
 /// The command was accepted, now or before.
 pub const ACCEPTED: u8 = 1;

@@ -1,5 +1,7 @@
 //! The report: a protocol's totals, its Stability Pool, and each trove and deposit as it stands, as
-//! one text in JSON.
+//! one text in JSON. It is that of each state for which the protocol stands: two protocols with the
+//! same image and the same records have the same report. It is sent to be written piece by piece,
+//! so that nothing is held but its text.
 #![tactic(auto)]
 
 mod entries;

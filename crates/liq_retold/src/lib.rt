@@ -1,5 +1,6 @@
 //! The replay of a list of commands, from the opening under a limit on, with an onlooker who is
-//! told of each.
+//! told of each before it is made. It ends behind the last command, or at the first that the rules
+//! refuse or that comes again: that one is damage, told by its number.
 #![tactic(auto)]
 
 mod fault;

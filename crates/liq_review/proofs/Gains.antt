@@ -32,7 +32,7 @@ use Rattle.liq_review.specs.Paid.{with_gain, paid_table}
 same_account : (j k : ℕ) → (j == k) ≡ true → j ≡ k
 same_account j k h = grind (arith, nat_tests, h)
 
--- by one event
+-- what one event pays to an account
 paid_by : (k : ℕ) (e : PoolEvent) (table : Table ℕ) → unwrap_or (at (with_gain table e) k) 0 ≡ unwrap_or (at table k) 0
     + gain_paid k e
 paid_by k (event.Offset debt coll total rise) table = omega arith

@@ -34,7 +34,7 @@ accounts_next out new whole row left rest x is put account_is so =
     ∙ ap (λ (l : List (ℕ × ℕ)). accounts_of out ++ keys_of l) (sym is)
     ∙ so
 
--- none is left
+-- no account is left: the rows are whole
 pub rows_last : (f : ℕ × ℕ → EngineRow) (out whole : List EngineRow) (left : List (ℕ × ℕ)) → left ≡ []
     → out ++ map f left ≡ whole → out ≡ whole
 rows_last f out whole left none so = sym (append-nil out) ∙ ap (λ (l : List (ℕ × ℕ)). out ++ map f l) (sym none) ∙ so

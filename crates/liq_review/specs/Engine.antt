@@ -15,7 +15,7 @@ abbrev pub engine_row : State → List PoolEvent → ℕ → EngineRow
 engine_row s events account =
     record { account = account; balance = balance_of s account; gain = gained_of s account events }
 
--- of each account with an own operation, ascending
+-- what the state gives each account with an own operation, ascending
 abbrev pub engine_rows : State → List PoolEvent → List EngineRow
 engine_rows s events = map (engine_row s events) (owners_of events)
 
@@ -24,7 +24,7 @@ rows_of s events = map (row_of events) (engine_rows s events)
 
 -- ---- as they are made
 
--- of an account that was paid so much
+-- what the state gives an account that was paid so much
 abbrev pub paid_row : State → ℕ × ℕ → EngineRow
 paid_row s paid = record {
   account = paid.0;

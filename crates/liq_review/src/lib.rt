@@ -1,5 +1,6 @@
 //! The audit of a list of commands, as a text: they are replayed from the opening, and what the
-//! protocol then gives each depositor stands beside its exact share.
+//! protocol then gives each depositor stands beside its exact share. Every row of it holds: that is
+//! a law, and the last line counts it all the same.
 #![tactic(auto)]
 
 mod engine;

@@ -1,4 +1,4 @@
-//! The text of an audit.
+//! The text of an audit: a line for each row, and how many of them hold.
 
 ghost use Rattle.std.specs.Prelude.{◌≡◌, ◌++◌, ◌∷◌, [], ◌+◌, ◌<◌, ◌^◌, length, map, count_by, decimal, IfOk, OnOk};
 ghost use Rattle.std.specs.List.{join_with_byte};

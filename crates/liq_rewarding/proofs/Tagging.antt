@@ -31,7 +31,7 @@ replies_next lines i d tags new text more all less is put so =
     ∙ ap (λ (ls : List TagLine). text ++ replies tags ls) (sym (first_left lines i d less))
     ∙ so
 
--- no line is left
+-- no line is left: these are all tags
 pub tags_last : (lines : List TagLine) (i : ℕ) (tags all : Tags) → length lines ≤ i → fold with_tag tags (drop i lines)
     ≡ all → tags ≡ all
 tags_last lines i tags all le so = ap (λ (ls : List TagLine). fold with_tag tags ls) (sym (drop_of_length-le lines le))

@@ -7,7 +7,7 @@ use Rattle.liq_rules.specs.Rules.{call_events}
 use Rattle.liq_rules.specs.Step.{after}
 use Rattle.liq_rewards.specs.Timed.{Timed}
 
--- the latest stands first
+-- one event more, in this minute: the latest stands first
 abbrev pub happens : ℕ → List Timed → PoolEvent → List Timed
 happens minute past e = record { minute = minute; event = e } ∷ past
 

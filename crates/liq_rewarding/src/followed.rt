@@ -1,4 +1,4 @@
-//! Rewards along events.
+//! Rewards along the events of a journal's commands, each in its minute.
 
 ghost use Rattle.std.specs.Prelude.{◌≡◌, ◌≤◌, ◌∷◌, List, IfOk, OnOk};
 ghost use Rattle.liq_rewards.specs.Timed.{Timed};

@@ -1,4 +1,4 @@
-//! The accounts of events.
+//! The accounts that events are of, each once and ascending.
 
 ghost use Rattle.std.specs.Prelude.{◌≡◌, IfOk};
 ghost use Rattle.liq_audit.specs.Auditable.{owners_of};

@@ -34,7 +34,7 @@ other a b apart = by (a == b) refl where
 abbrev pub HasNone : List Row → ℕ → Type 0
 HasNone rows account = (place : ℕ) → IsRowOf rows account place → ⊥
 
--- and this one alone
+-- this row is the account's, and no other is
 abbrev pub IsOnly : List Row → ℕ → ℕ → Type 0
 IsOnly rows account place = (other : ℕ) → IsRowOf rows account other → other ≡ place
 

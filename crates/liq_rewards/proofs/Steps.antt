@@ -28,7 +28,7 @@ reward_past k den bal rew q n u w total units more short up h =
     let third : units * more * (den * q * n) ≤ u * total * (den * q * n) = mul-le-mul_right (den * q * n) up in
     omega arith
 
--- then cancel q
+-- both sides have the factor q, which is cancelled where it is cited
 reward_read : (a s earned more den rew q n w lost : ℕ) → a * s ≤ (more + 4) * q
     → rew * q * n ≤ ((earned * q + a * s) * n + (w + 4 * (n * lost)) * q) * den
     → rew * n * q ≤ ((earned + more) * n + (w + 4 * (n * (lost + 1)))) * den * q
@@ -129,7 +129,7 @@ some_begun den rew earned held cost amount events q h = record {
       omega (arith, more);
 }
 
--- or none is left
+-- where nothing more is earned, one event more changes nothing
 pub none_left : (den rew earned held cost events : ℕ) → EarnsNothing den rew earned held cost events
     → EarnsNothing den rew earned held cost (events + 1)
 none_left den rew earned held cost events h = record { upper = h.upper; lower = omega (arith, h.lower) }

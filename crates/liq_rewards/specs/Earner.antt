@@ -47,7 +47,7 @@ no_earner account =
 abbrev pub cost_now : Earner → PoolWords → ℕ
 cost_now e words = cost_of e.amount (e.epoch, e.scale) (words.epoch, words.scale)
 
--- by how much its balance may fall short
+-- by how much an account's balance may fall short
 abbrev pub balance_short : Earner → ℕ
 balance_short e = ceiling_of e.weight 1 (10 ^ 9) + e.own_events
 
@@ -65,7 +65,7 @@ sums_risen e words rise =
       fourth = risen e words rise 3 e.sums.fourth;
     }
 
--- once units were shared
+-- what is kept of an account once units were shared
 abbrev pub shared_with : Earner → PoolWords → Sharing → Earner
 shared_with e words sharing =
     record e {
@@ -91,7 +91,7 @@ reading_by e =
 abbrev pub reward_by : Earner → ℕ
 reward_by e = e.earned + reading_by e
 
--- after an own operation that leaves an amount, which counts from now on
+-- an account after an own operation that leaves an amount, which counts from now on
 abbrev pub owned_by : Earner → PoolWords → ℕ → Earner
 owned_by e words amount =
     record e {
@@ -104,13 +104,13 @@ owned_by e words amount =
       own_events = e.own_events + 1;
     }
 
--- after an event, beside the words before it
+-- an account after an event, before which the pool had these words
 abbrev pub with_event : Earner → PoolWords → PoolEvent → Earner
 with_event e words (Own owner put paid gain amount) = if owner == e.account
     then owned_by e words amount else e
 with_event e words (Offset debt coll total rise) = record e { weight = e.weight + cost_now e words }
 
--- after a sharing and then an event
+-- an account after a sharing and then an event
 abbrev pub earner_after : PoolWords → Option Sharing → PoolEvent → Earner → Earner
 earner_after words sharing event e = with_event (dealt_with e words sharing) words event
 

@@ -24,7 +24,7 @@ abbrev pub sum_of : List Timed → Place → ℕ
 sum_of [] place = 0
 sum_of (t ∷ past) place = sum_of past place + rise_at t.minute past place
 
--- and as of a minute
+-- the sum of a place as of a minute, with what is due by then
 abbrev pub sum_at : ℕ → List Timed → Place → ℕ
 sum_at minute past place = sum_of past place + rise_at minute past place
 

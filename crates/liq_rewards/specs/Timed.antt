@@ -52,7 +52,7 @@ AreInOrder minute (t ∷ past) = (t.minute ≤ minute) × AreInOrder t.minute pa
 abbrev pub due_at : ℕ → List Timed → ℕ
 due_at minute past = issued minute - issued (minute_of past)
 
--- it is shared by all depositors, where there is any and the pool has enough
+-- what is due is shared by all depositors, where there is any and the pool has enough
 abbrev pub is_shared_at : ℕ → List Timed → Bool
 is_shared_at minute past = not (due_at minute past == 0) && nat_le SHARED_LEAST (total_of past)
 

@@ -69,7 +69,8 @@ impl Earner {
         }
     }
 
-    /// Once what is due is dealt with, and then after an event; the words are those before it.
+    /// The account once what is due was dealt with, and then after an event. The words are those
+    /// before that event.
     pub(crate) fn after(
         self,
         words: PoolWords,
@@ -96,7 +97,7 @@ impl Earner {
         }
     }
 
-    /// Once what is due is dealt with.
+    /// The account once the units that are due were shared or counted as unshared.
     pub(crate) fn dealt(self, words: PoolWords, sharing: Option<Sharing>) -> Earner
         requires due { IsSmallDue words sharing }
         requires small { IsSmall self }
@@ -127,7 +128,7 @@ impl Earner {
             + 4 * u128::from(self.own_events)
     }
 
-    /// Once units were shared.
+    /// The account once units were shared.
     fn shared(self, words: PoolWords, sharing: Sharing) -> Earner
         requires due { IsSmallSharing words sharing }
         requires small { IsSmall self }
@@ -170,7 +171,7 @@ impl Earner {
         }
     }
 
-    /// What is withheld of units, since its balance falls short.
+    /// How much of the units the account may have missed since its balance falls short.
     fn withheld_of(self, units: u64, total: u64) -> u128
         requires small { IsSmall self }
         requires units { units ≤ UNITS_MOST }
@@ -199,7 +200,7 @@ impl Earner {
         }
     }
 
-    /// A sum so many scales above the mark, once that of now has risen.
+    /// The sum at so many scales above the mark, once that at the pool's scale has risen.
     fn risen(self, words: PoolWords, rise: u128, scales: u64, sum: u128) -> u128
         requires scale { self.scale + scales < 2 ^ 64 }
         requires fits { sum + rise < 2 ^ 128 }

@@ -1,4 +1,4 @@
-//! Reward units by time.
+//! Which units are issued by which minute: half as many in each year as in the one before.
 
 ghost use Rattle.std.specs.Prelude.{◌≡◌, ◌-◌, ◌*◌, ◌/◌, ◌^◌, ◌<◌, ◌≤◌, min};
 ghost use Rattle.liq_rewards.specs.Issued.{issued};

@@ -1,5 +1,8 @@
 //! Reward units that depositors of the Stability Pool earn by time: an account beside the protocol,
 //! with the law that what each has earned is its exact share but for a stated allowance.
+//!
+//! Units are issued by the minute, and shared by the deposits as they are then. What cannot be
+//! shared stays unshared, and all units are the one or the other.
 #![tactic(auto)]
 
 mod earner;

@@ -18,7 +18,7 @@ pub struct TagLine {
     pub rate: u64,
 }
 
-/// A line is none on which a depositor names a front end.
+/// The line is not one on which a depositor names a front end.
 #[derive(Clone, Copy, PartialEq, Eq)]
 pub struct BadTagLine;
 

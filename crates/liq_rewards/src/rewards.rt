@@ -1,4 +1,5 @@
-//! The account of all reward units.
+//! The account of all reward units: those that are due are issued by the minutes that pass, and
+//! shared before the next event, or counted as unshared.
 
 ghost use Rattle.std.specs.Prelude.{◌≡◌, ℕ, ◌+◌, ◌-◌, ◌<◌, ◌≤◌, true, [], ◌∷◌, List};
 ghost use Rattle.std.specs.Prelude.{IsOk, OnOk, OnErr, IfSome, if◌then◌else◌};
@@ -217,7 +218,7 @@ fn shared_first(words: &PoolWords, due: u64, event: &PoolEvent) -> (Option<Shari
     (Sharing::of(words, due), after)
 }
 
-/// The words that count, after an event.
+/// The words of the Stability Pool after an event, as far as rewards read them.
 fn words_after(words: &PoolWords, event: &PoolEvent) -> PoolWords
     requires happens { CanHappen words.now event.now }
     requires product { words.now.p ≤ P_OPENING }

@@ -58,7 +58,7 @@ impl Row {
 #[derive(Drop)]
 pub(crate) struct Rows {
     rows: Vec<Row>,
-    /// Where an account's row stands, from 1 on.
+    /// The number of each account's row, from 1; 0 is none.
     numbers: Reserved<u64>,
     /// How many offsets are counted.
     offsets: u64,

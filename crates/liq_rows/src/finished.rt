@@ -45,7 +45,7 @@ pub(crate) fn ascend(finished: &[FinishedSum]) -> bool
     true
 }
 
-/// The sum at a place, by halves.
+/// The sum at a place, found by halving the rows.
 fn find(finished: &[FinishedSum], epoch: u64, scale: u64) -> u128
     requires { IsStrictlySortedBy place_order (keys_of (map finished_row finished.now)) }
     ensures { result ≡ unwrap_or (lookup (is_place (epoch, scale))

@@ -84,6 +84,6 @@ effect-kept s Rotate h = cc
 pub effect-generation : (s : State) (call : Call) → rotates call ≡ false → (effect s call).generation ≡ s.generation
 effect-generation s call h = ap (λ (pair : ℕ × ℕ). pair.0) (effect-kept s call h)
 
--- and the limit
+-- a call that does not rotate leaves the limit
 pub effect-limit : (s : State) (call : Call) → rotates call ≡ false → (effect s call).limit ≡ s.limit
 effect-limit s call h = ap (λ (pair : ℕ × ℕ). pair.1) (effect-kept s call h)

@@ -18,7 +18,7 @@ requests_of entries = map (λ (e : Entry). e.request) entries
 abbrev pub replies_of : List Entry → List Reply
 replies_of entries = map (λ (e : Entry). e.reply) entries
 
--- so many numbers from n on
+-- the numbers from n on, one for each entry
 abbrev pub counted_from : ℕ → List Entry → List ℕ
 counted_from n [] = []
 counted_from n (e ∷ es) = n ∷ counted_from (n + 1) es

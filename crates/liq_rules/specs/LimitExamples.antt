@@ -45,7 +45,7 @@ last_generation_replies =
     No (AmountLimit 68719476737 68719476736)
     ∷ []
 
--- under the lesser limit, until a rotation
+-- requests under the lesser limit, until a rotation
 abbrev pub of_version_1 : List Request
 of_version_1 =
     by_one 1 (Fund 1 10000000000)

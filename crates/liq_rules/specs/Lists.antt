@@ -23,13 +23,13 @@ rules_before_list s call = rules s call
 abbrev pub VerbPlansList : State → Call → Type 0
 VerbPlansList s call = IsTrue (plans_list call) × (first_refusal (rules_before_list s call) ≡ None)
 
--- and the accounts are in range
+-- the same where the call's accounts are in range
 abbrev pub CallPlansList : State → Call → Type 0
 CallPlansList s call =
     IsTrue (plans_list call)
     × (first_refusal (map in_range (accounts call) ++ rules_before_list s call) ≡ None)
 
--- and the command is its client's next
+-- the same where the command is its client's next
 pub record PlansList (s : State) (c : Command) : Type 0 where
   pub client : c.client < ACCOUNTS
   pub turn : c.number ≡ (client_of s c.client).last + 1

@@ -12,7 +12,7 @@ pub record Row : Type 0 where
   pub rules : List Rule
   -- the state that it leaves, where it is allowed
   pub effect : State
-  -- what its reply shows
+  -- what the reply shows
   pub values : List ℕ
   -- what it does to the Stability Pool, as others follow it
   pub events : List PoolEvent

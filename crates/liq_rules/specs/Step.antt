@@ -83,8 +83,8 @@ unless_refused (Some refusal) ruling = Refused refusal
 abbrev pub tests : State → Command → List Rule
 tests s c = in_turn s c ∷ map in_range (accounts c.call) ++ rules s c.call ++ room_rules s c
 
--- by the client, its number, the accounts, what the verb tests and the journal's limits, in this
--- order
+-- what the rules say of a command: by the client, its number, the accounts, what the verb tests and
+-- the journal's limits, in this order
 abbrev pub ruling : State → Command → Ruling
 ruling s c =
     unless_refused (first_refusal (in_range c.client ∷ []))

@@ -62,6 +62,7 @@ pub fn call<D: Disk, K: Sink>(
     ensures cause { DiskCause result (counts_of D.at store.old.left store.old.right)
         (counts_of D.at store.new.left store.new.right) }
 {
+    // odd: law called
     protocols_stand(store.protocol());
     let answer = store.call(request, &Hint::NONE);
     store.clear_changes();

@@ -1,4 +1,23 @@
-//! The top call.
+//! The top call: what the program does, whatever its words are.
+//!
+//! ```text
+//! words --> read_words --> serve -------> serve_on: from `protocol` alone, as it wants threads
+//!                     |--> other word --> carry_out: the word's own crate
+//!                     `--> none, or no memory to read them: the disks are not asked
+//! each way ends with a status, a last line where it has one, and both disks given back
+//! ```
+//!
+//! It takes the words, a source, a sink and two disks, and its one clause is `Ends`
+//! (specs/Top.antt), for each list of words. `Ends` says of each status and word what was read and
+//! written, what the disks hold, what a crash at any moment may leave of them, and whose fault
+//! gave that status. What follows from it is in `laws`.
+//!
+//! Each end of a word has its status and its last line (`ending` of `liq_ends`). At 0 all is done,
+//! and at 4 the sink met a fault: these two have no last line. Words that are not understood end
+//! with 1 and the usage. Words that the system did not give have clauses of their own, those of
+//! [`without_words`].
+//!
+//! Two names are alike: `liq_serve` is this whole program, and `liq_serving` is the word `serve`.
 
 ghost use Rattle.std.specs.Prelude.{◌≡◌, ◌≢◌, ◌≤◌, ◌↔◌, ◌⊎◌, IfOk, IsTrue, List, ℕ, Ok, Err, map, []};
 ghost use Rattle.std.specs.String.{string_bytes};
@@ -65,6 +84,7 @@ pub fn protocol<S: Source, K: Sink, D: Disk + Send, G: Gate + Sync, R: Threads +
     if is_serve(&read) {
         return with_status(serve_on(rt, alloc, gate, input, out, left, right));
     }
+    // odd: answer named
     let ended = answered(alloc, words, read, input, out, left, right);
     ended
 }
@@ -191,6 +211,7 @@ fn carry_out<S: Source, K: Sink, D: Disk>(
             Ending { end, left, right }
         }
         Word::Gen { seed, count } => {
+            // odd: steps counted
             let end = tell_load::<Brand, K>(alloc, seed, count, out, Blank::new(1));
             Ending { end, left, right }
         }

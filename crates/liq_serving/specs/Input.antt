@@ -1,4 +1,8 @@
--- What serving an input comes to.
+-- The word `serve` over an input and two disks, as `serve_input` promises it: what was read, what
+-- was answered, what was written, what the disks hold, and whose count of faults rose. All five
+-- go by the finish. `ServesInput` has the first four, over one list of what the lines ask and one
+-- history of what was answered. The counts of sink and disks stand at the end. Which status a
+-- finish comes to is said in `liq_serve` (Finishing).
 use Rattle.std.specs.Prelude.{ℕ, ◌≡◌, ◌≢◌, ◌≤◌, ◌⊎◌, List, [], length, All}
 use Rattle.std.specs.Prelude.{false, true, Option, Some, Result, Ok, Err}
 use Rattle.std.specs.Option.{IsSomeAnd}

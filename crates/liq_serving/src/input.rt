@@ -124,6 +124,7 @@ pub fn serve_input<S: Source, K: Sink, D: Disk + Send, G: Gate + Sync, R: Thread
             };
         }
     };
+    // odd: law called
     protocols_stand(store.protocol());
     let Served {
         left,

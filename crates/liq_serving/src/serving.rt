@@ -40,6 +40,7 @@ pub fn serve_sessions<D: Disk + Send, G: Gate + Sync, R: Threads + Wait + Sync>(
     ensures { (s : State) → StandsFor store.core s
         → Serves D.at s (D.at store.left) (D.at store.right) scripts.items result }
 {
+    // odd: law called
     protocols_stand(store.protocol());
     serve_from::<D, Brand, G, R>(rt, alloc, gate, scripts, store)
 }

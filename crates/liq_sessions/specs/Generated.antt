@@ -83,7 +83,7 @@ drawn_call x =
     let number = after_draw account in
     call_of (shown kind % 16) (1 + shown account % OWNERS) (shown number)
 
--- so many drawn calls from a state on
+-- so many calls that are drawn from a state on
 abbrev pub drawn : ℕ → ℕ → List Call
 drawn x zero = []
 drawn x (suc more) = drawn_call x ∷ drawn (after_call x) more

@@ -1,4 +1,4 @@
-//! Sessions that run at once.
+//! Sessions that run at once: a thread for each, but for the first.
 
 ghost use Rattle.std.specs.Prelude.{◌≡◌, ◌≤◌, All, IfOk, IfErr, vec_capacity, vec_len, length, []};
 ghost use Rattle.std.specs.List.{AllZip};

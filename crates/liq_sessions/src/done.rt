@@ -1,4 +1,4 @@
-//! What a session comes to.
+//! What a session works with, and what it comes to.
 
 ghost use Rattle.std.specs.Prelude.{◌≡◌};
 

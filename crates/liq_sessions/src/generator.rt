@@ -1,4 +1,5 @@
-//! Calls that a seed determines.
+//! Calls that a seed determines: a preamble that opens troves and deposits, and calls that are
+//! drawn.
 
 ghost use Rattle.std.specs.Prelude.{◌≡◌, ◌<◌, ◌+◌, ◌*◌, ◌/◌, ◌%◌, ◌^◌, drop, length};
 ghost use Rattle.liq_types.specs.Ranked.{first_of};

@@ -222,7 +222,7 @@ module _ (s t : State) (coll lusd : ℕ) (c : Cutting s t coll lusd) (v : Visit)
   draw_part : cut.draw < v.coll
   draw_part = draw_less v.coll v.debt price cut.lot price_some (omega (arith, has.least)) lot_part visit.above
 
-  -- it is closed
+  -- the trove is closed by the cut
   closed_cut : 2 ≤ trove_count t → cut.lot ≡ v.debt - RESERVE
       → Cutting s (closed_by t cut (v.coll, v.debt)) (coll + cut.draw) (lusd + cut.lot)
   closed_cut several whole =

@@ -56,7 +56,7 @@ module _ {K X : Type 0} where
   pass_rows test P made (e ∷ es) h = and_from (test e.1) (list_all test (values_of es)) (made e.1 h.0)
       (pass_rows test P made es h.1)
 
-  -- the same of facts
+  -- what holds of each value of a table holds of each row
   rows_have : (P : X → Type 0) (table : List (K × X)) → AllByRecursion P (values_of table)
       → AllByRecursion (λ (row : K × X). P row.1) table
   rows_have P [] h = tt

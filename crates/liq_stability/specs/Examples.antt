@@ -28,7 +28,7 @@ two_rises =
     ∷ Offset 999999999999999999 1000000000000000000 1000000000000000000 2
     ∷ []
 
--- and a third time
+-- the same offset a third time, behind another deposit
 abbrev pub four_scales_on : List PoolEvent
 four_scales_on =
     two_rises

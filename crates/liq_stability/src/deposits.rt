@@ -1,4 +1,5 @@
-//! The Stability Pool of all depositors.
+//! The Stability Pool of all depositors: words, finished sums in ascending places, and deposits,
+//! none of which has a place after the current one or a mark above the sum of its place.
 
 ghost use Rattle.std.specs.Prelude.{◌≡◌, ◌+◌, ◌-◌, ◌*◌, ◌^◌, ◌≤◌, ◌<◌, [], ◌∷◌, map, IsTrue, IfSome, IfOk, IsOk, OnOk, OnErr, OnSome, slice_get, option_copied, option_map, unwrap_or, vec_len, vec_capacity, length};
 ghost use Rattle.std.specs.List.{AllByRecursion};

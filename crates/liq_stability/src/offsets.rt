@@ -10,7 +10,7 @@ use liq_num::mul_div;
 use liq_types::FinishedSum;
 use liq_types::amounts::{LIM, OFFSET_MOST, P_LEAST, P_OPENING, RISES_MOST};
 
-/// By one step of the scale the product is raised so many times.
+/// One step of the scale multiplies the product by this.
 const STEP: u128 = 1_000_000_000;
 
 /// The words after the pool took over debt (micro-LUSD) for collateral (gwei), and the sum of the

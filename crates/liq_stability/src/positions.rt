@@ -1,4 +1,4 @@
-//! What a deposit is worth.
+//! What a deposit is worth: its balance, and what it has gained since its owner's last operation.
 
 ghost use Rattle.std.specs.Prelude.{◌≡◌, ◌*◌, ◌^◌, ◌≤◌, IsTrue, min, slice_index};
 ghost use Rattle.std.specs.List.{AllByRecursion};
@@ -12,7 +12,7 @@ use liq_num::mul_div;
 use liq_types::Deposit;
 use liq_types::amounts::{LIM, OFFSET_MOST, P_LEAST, P_OPENING};
 
-/// A deposit counts at the scale of its mark and so many above it.
+/// How many scales above that of its mark a deposit still counts at.
 const SCALES_READ: u64 = 3;
 
 /// Balance (micro-LUSD) and gain (gwei) of a deposit, by the pool's words and the sums of the

@@ -1,4 +1,4 @@
-//! The plain data of the Stability Pool.
+//! The words of the Stability Pool.
 
 use liq_types::amounts::P_OPENING;
 

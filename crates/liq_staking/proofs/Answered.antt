@@ -95,7 +95,7 @@ module _ (fees : List Fees) (kept : Answering) (a : Asked) (l : StakeLine) (h : 
   pub keys_now : kept.stakers.keys ≡ stakers now_past
   keys_now = h.stakers ∙ sym (all_same_stakers ACCOUNTS (take (l.at - kept.least) (drop kept.least fees)) a.past)
 
-  -- in place
+  -- a line that is in its place
   module _ (low : kept.least ≤ l.at) (high : l.at ≤ length fees) where
     pub answered_in : changed (record a { past = now_past; least = l.at }) l (refusal_of l.account l.amount l.out
         (staked_of now_past) (stake_of l.account now_past)) ≡ answered fees a l

@@ -19,7 +19,7 @@ row_next f out next whole x left rest is put so =
     ∙ ap (λ (t : List ℕ). out ++ flat_map f t) (sym is)
     ∙ so
 
--- none is left
+-- no account is left: the lines are whole
 pub row_last : (f : ℕ → List ℕ) (out whole left : List ℕ) → left ≡ [] → out ++ flat_map f left ≡ whole → out ≡ whole
 row_last f out whole left none so =
     sym (append-nil out) ∙ ap (λ (t : List ℕ). out ++ flat_map f t) (sym none) ∙ so

@@ -9,7 +9,7 @@ use Rattle.liq_staking.specs.Paid.{Fees, coll_in, lusd_in}
 use Rattle.liq_staking.specs.Asked.{Asked}
 use Rattle.liq_staking.specs.Staked.{reply_lines, stakers}
 
--- all of them can be shared
+-- these fees can all be shared: neither their sums nor their count passes its limit
 pub record CanBeShared (fees : List Fees) : Type 0 where
   pub coll : coll_in fees ≤ LIM
   pub lusd : lusd_in fees ≤ LIM

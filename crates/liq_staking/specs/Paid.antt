@@ -24,7 +24,7 @@ abbrev pub fees_along : State → List Command → List Fees
 fees_along s [] = []
 fees_along s (c ∷ cs) = fee_of (done_of s c.call) ∷ fees_along (after s c) cs
 
--- what they come to
+-- what all these fees come to
 abbrev pub coll_in : List Fees → ℕ
 coll_in fees = sum_by (λ (fee : Fees). fee.0) fees
 

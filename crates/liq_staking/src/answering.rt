@@ -1,4 +1,4 @@
-//! What stakers are answered, line by line.
+//! What stakers are answered, line by line, along the fees of a journal's records.
 
 ghost use Rattle.std.specs.Prelude.{◌≡◌, ◌-◌, ◌<◌, ◌≤◌, ◌++◌, List, fold, length, take, drop, IfOk, OnOk};
 ghost use Rattle.std.specs.List.{flat_map};

@@ -57,6 +57,7 @@ pub fn stakers_have_their_shares()
         → (lines : List StakeLine) → length lines ≤ CHANGES_MOST
         → HaveShares of_lusd (happened_by limit commands lines) s.fee_lusd }
 {
+    // odd: law called
     gains_are_shares();
     the_fees_cover_all();
 }

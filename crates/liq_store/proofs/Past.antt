@@ -122,7 +122,7 @@ grows_halted l r start requests fault = record {
   fewer = rotations_halted start requests fault;
 }
 
--- from an opening on
+-- a run that an opening begins
 grows_all : (l r : List ℕ) (start : State) (requests : List Request) (fault : Fault)
     → Grows l r start [] requests fault
 grows_all l r start requests fault =
@@ -216,7 +216,7 @@ module _ {D : Type 0} (at : D → DiskAt) (l r : List ℕ) (start : State) where
         → IsOfRun side l r start later fault image
     more : is_rotate c.call ≡ true → rotations start later fault ≡ rotations start requests NoFault + 1
 
-  -- that is answered
+  -- an accepted command that is answered
   makes_replied : (requests : List Request) (c : Command) → ruling (run start requests).0 c ≡ Allowed
       → Makes requests (requests ++ Do c ∷ []) NoFault c
   makes_replied requests c allowed =

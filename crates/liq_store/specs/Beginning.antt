@@ -17,14 +17,14 @@ use Rattle.liq_store.specs.declared.answers.StoreWhy.TheVariants as why
 use Rattle.liq_store.specs.declared.standing.Stood.{Stood}
 use Rattle.liq_store.specs.declared.standing.Stood.TheVariants.{Nothing, Holding}
 
--- the disk holds just this
+-- the disk holds what it was found to be, and nothing behind that
 abbrev pub IsStanding : {D : Type 0} → Bool → List ℕ → Stood D → Type 0
 IsStanding odd now (Nothing disk) = IsUnshut now → ⊥
 IsStanding odd now (Holding journal core) =
     IsSettled journal.generation journal.start journal.count now
     × IsHeldOn odd now journal.generation core
 
--- it was opened and tested, whole
+-- a disk that was opened and tested whole
 pub record IsStoodOn {D : Type 0} (at : D → DiskAt) (odd : Bool) (stood : Stood D) : Type 0 where
   pub counted : IsCounted odd stood
   pub rests : IsAtRest at (disk_of stood)

@@ -52,13 +52,13 @@ pub record WritesOn {D : Type 0} (at : D → DiskAt) (old : Stored D) (request :
       → found_on (has_odd old.side) held ≡ Open w → request ≡ Do c
       → LeavesOnly at (taken_disk old) (on old.side new.left new.right)
       (BeforeOrAfter (has_odd old.side) w (read_back c))
-  -- of the other one
+  -- what a stop leaves of the other disk
   pub created :
       old.stopped ≡ None → (s : State) → StandsFor old.core s → (held : List ℕ) (c : Command)
       → (at (disk_beside old)).seen ≡ Some held → request ≡ Do c → is_rotation s request ≡ true
       → LeavesOnly at (disk_beside old) (beside old.side new.left new.right)
       (CreateLeaves (has_odd (other old.side)) held (rotation_of s c))
-  -- and of both: they are kept for the state before the call or after it
+  -- what a stop leaves of both: they are kept for the state before the call or after it
   pub kept :
       old.stopped ≡ None → (l r : List ℕ) (s : State)
       → (at old.left).seen ≡ Some l → (at old.right).seen ≡ Some r → StandsFor old.core s

@@ -17,7 +17,7 @@ pub record Faults : Type 0 where
 abbrev pub counts_of : {D : Type 0} → (D → DiskAt) → D → D → Faults
 counts_of at left right = record { left = (at left).faults; right = (at right).faults }
 
--- one of them rose
+-- neither count of faults fell, and one of them rose
 pub record OneRose (before after : Faults) : Type 0 where
   pub left : before.left ≤ after.left
   pub right : before.right ≤ after.right

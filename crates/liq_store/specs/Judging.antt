@@ -25,7 +25,7 @@ abbrev pub first_of : AcceptedFault → AcceptedFault → StoreWhy
 first_of left fault.DiskFault = why.DiskFault
 first_of left _ = on_side Left left
 
--- its device failed
+-- the disk was not tested since its device failed
 abbrev pub MetFault : {D : Type 0} → Result (Stood D) (StandFault D) → Type 0
 MetFault (Ok stood) = ⊥
 MetFault (Err met) = met.why ≡ fault.DiskFault

@@ -94,7 +94,7 @@ Continues old (Ok (Nothing disk)) = ⊥
 Continues old (Ok (Holding journal core)) = Replayed old journal core
 Continues old (Err met) = Unit {0}
 
--- the count of faults over it: it rose exactly where that is the answer
+-- the count of faults over a test of a disk: it rose exactly where a fault is the answer
 abbrev pub CountsStand : {D : Type 0} → Result (Stood D) (StandFault D) → ℕ → ℕ → Type 0
 CountsStand (Ok stood) before after = after ≡ before
 CountsStand (Err met) before after = CountsFault met.why before after

@@ -12,7 +12,7 @@ use Rattle.liq_pairs.specs.Sides.{has_odd, on}
 use Rattle.liq_store.specs.Keeping.{IsInOrder}
 use Rattle.liq_store.specs.Stored.{Stored}
 
--- as a store's fields are seen
+-- a store as its fields are seen
 abbrev pub stored : {D : Type 0} → Side → JournalOn D → D → Core → Option ℕ → List ListChange
     → Stored D
 stored side taken beside core stopped changes =
@@ -26,7 +26,7 @@ stored side taken beside core stopped changes =
       changes = changes;
     }
 
--- at least so many records
+-- the bytes are those of a journal of at least so many records
 pub record HasRecords (generation start count : ℕ) (bytes : List ℕ) : Type 0 where
   pub written : Written
   pub journal : IsJournalOf generation start bytes written

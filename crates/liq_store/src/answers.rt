@@ -1,4 +1,4 @@
-// What the calls of a store answer where they fail.
+//! Why no store is opened.
 use liq_journal::Damage;
 use liq_pairs::Side;
 

@@ -1,5 +1,5 @@
-// What a journal begins with: the first one with the opening under its limit, each later one with
-// its checkpoint.
+//! The protocol with which a journal begins: the opening under its limit where it is of the first
+//! generation, else that of its checkpoint.
 ghost use Rattle.std.specs.Prelude.{◌≡◌, ◌≢◌, ◌+◌, ◌<◌, ◌^◌, Ok, Err, IfOk};
 ghost use Rattle.liq_types.specs.Image.{IsLimit};
 ghost use Rattle.liq_types.specs.Soundness.{HasTables};
@@ -72,6 +72,7 @@ fn begun(alloc: Global, generation: u64, limit: u64, image: Image) -> Result<Gui
         Err(ImageFault::Unsound { .. }) => return Err(misshapen(limit, 0)),
         Err(ImageFault::NoMemory) => return Err(AcceptedFault::NoMemory),
     };
+    // odd: law called
     protocols_are_sound(&protocol);
     if !is_of(&protocol, generation, limit) {
         return Err(misshapen(limit, 0));

@@ -1,4 +1,5 @@
-// Two disks, once each of them was tested whole.
+//! Two disks, once each of them was tested whole: a device's fault counts before all else, and what
+//! is wrong with the left disk before what is wrong with the right one.
 ghost use Rattle.std.specs.Prelude.{◌≡◌, Ok, IfOk, IfErr};
 ghost use Rattle.liq_store.specs.Judging.{IsJudged, disk_of, first_of, on_side};
 ghost use Rattle.liq_store.specs.Standing.{disk_in};

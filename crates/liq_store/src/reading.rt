@@ -1,4 +1,4 @@
-// The commands of a journal, read back.
+//! The accepted commands, read back from the disk that is taken.
 ghost use Rattle.std.specs.Prelude.{◌≡◌, ◌≤◌, ◌-◌, Some, List, ℕ, length, take, slice_get, false, IfOk, IfErr};
 ghost use Rattle.std.specs.List.{All};
 ghost use Rattle.liq_types.specs.declared.requests.Command.{Command};
@@ -71,6 +71,7 @@ pub fn read_commands<D: Disk>(
 {
     let mut commands = Vec::new(alloc);
     for done in 0..journal.records() {
+        // odd: match for ?
         let command = match read_command(journal, done + 1) {
             Ok(command) => command,
             Err(why) => return Err(why),

@@ -1,4 +1,4 @@
-// The checkpoint with which a rotation begins the next generation.
+//! The checkpoint with which a rotation begins the next generation.
 ghost use Rattle.std.specs.Prelude.{◌≡◌, ◌≤◌, ◌+◌, true, length, IfOk};
 ghost use Rattle.liq_types.specs.declared.amounts.TheConstants.{GENERATIONS_MOST};
 ghost use Rattle.liq_types.specs.declared.requests.Call.TheVariants.{Rotate};
@@ -30,6 +30,7 @@ pub fn checkpoint_after(
     ensures size { IfOk result (λ bytes. is_size (protocol.now.image.generation + 1)
         (length bytes.items) ≡ true) }
 {
+    // odd: law called
     protocols_are_sound(protocol);
     protocols_stand(protocol);
     let image = protocol.image_after(planned)?;

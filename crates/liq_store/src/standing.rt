@@ -1,4 +1,4 @@
-// One disk, whole: its own bytes tested, and the commands of its journal made again.
+//! One disk, whole: its own bytes tested, and the commands of its journal made again.
 ghost use Rattle.std.specs.Prelude.{◌≡◌, Some, Ok, List, ℕ, true, length, IfOk, IfSome};
 ghost use Rattle.liq_outside.specs.Disk.{Looked};
 ghost use Rattle.liq_journal.specs.Bodies.{IsJournalOf};
@@ -58,6 +58,7 @@ fn hold<D: Disk>(
     };
     // It is not kept beside the replay.
     drop(checkpoint);
+    // odd: steps counted
     match replay::<D, Brand>(&mut protocol, &mut journal, Blank::new(1)) {
         Ok(()) => Ok(Stood::Holding(journal, protocol)),
         Err(why) => Err(StandFault {
@@ -69,7 +70,7 @@ fn hold<D: Disk>(
 
 // Opens and tests a disk, whole, and settles it. It begins with a sync.
 pub fn stand<D: Disk>(alloc: Global, disk: D, odd: bool) -> Result<Stood<D>, StandFault<D>>
-    // What is found is what the disk is, and it is left so.
+    // The answer is what the disk is, and the disk is left so.
     ensures found { (held : List ℕ) → (D.at disk).seen ≡ Some held → IsFoundOn odd held result }
     ensures left { IfSome (D.at (disk_in result)).seen (λ after. IsLeftOn after result) }
     ensures same { IsFaultless result → (held after : List ℕ) → (D.at disk).seen ≡ Some held

@@ -1,4 +1,5 @@
-// The protocol over two disks.
+//! A store: two disks, the protocol that they stand for, and what nobody has followed yet of the
+//! list's changes. Each command is planned and given room, then written, then made.
 ghost use Rattle.std.specs.Prelude.{◌≡◌, ◌≢◌, ◌↔◌, ◌+◌, ◌++◌, [], min, Some, None, Ok, Err, List, ℕ, false};
 ghost use Rattle.std.specs.Prelude.{length, take, IfOk, IfErr, IfSome, IsSome, true};
 ghost use Rattle.std.specs.List.{All};
@@ -69,12 +70,12 @@ pub struct Store<D: Disk> {
     beside: D,
     side: Side,
     protocol: Guided,
-    // What nobody has followed yet.
+    // The list's changes that nobody has followed yet.
     changes: Vec<ListChange>,
     stopped: Option<u64>,
 }
 
-// Written out, as that of the protocol is.
+// odd: drop written out
 impl<D: Disk + Drop> Drop for Store<D> {
     fn drop(self) {
         let Store {
@@ -155,7 +156,7 @@ impl<D: Disk> Store<D> {
             → (D.at store.left).seen ≡ Some a → (D.at store.right).seen ≡ Some b
             → IsRecovered l r s a b) }
 
-        // Each disk by itself.
+        // What holds of each disk by itself.
         ensures left_leaves { (l r : List ℕ) → (D.at left).seen ≡ Some l
             → (D.at right).seen ≡ Some r → Only l (LeftNow D.at left)
             → LeavesOnly D.at left (left_after result) (LeftLeaves l r) }
@@ -262,6 +263,7 @@ impl<D: Disk> Store<D> {
                 }
             };
             self.side = side;
+            // odd: steps counted
             let done = make::<Brand>(&mut self.protocol, planned, &hints, Blank::new(1));
             return Answer::Reply(Reply::Said(done));
         }

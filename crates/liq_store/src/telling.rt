@@ -1,4 +1,5 @@
-// The changes of the ordered list, as others follow them.
+//! The changes of the ordered list that nobody has followed yet: noted behind each command, and let
+//! go once they were followed.
 ghost use Rattle.std.specs.Prelude.{◌≡◌, ◌≤◌, ◌+◌, ◌++◌, [], length, vec_capacity, vec_len};
 
 use liq_types::ListChange;

@@ -29,12 +29,12 @@ page_there pages key has = by (cases_lt (key / KEYS) (length pages)) where
   by (inr past) = let none = ap length (get_or_past pages (key / KEYS) [] past) in absurd (omega (arith, none, has))
 
 module _ (pages : List (List ℕ)) (i : ℕ) (page : List ℕ) where
-  -- another page
+  -- a key of another page keeps its number
   elsewhere : (key : ℕ) → key / KEYS ≢ i → place (set pages i page) key ≡ place pages key
   unfolding place
   elsewhere key apart = ap (λ p. get_or p (key % KEYS) NONE) (get_or-set_other pages i (key / KEYS) page [] apart)
 
-  -- the page itself
+  -- a key of this page has its number there
   here : i < length pages → (key : ℕ) → key / KEYS ≡ i → place (set pages i page) key ≡ get_or page (key % KEYS) NONE
   unfolding place
   here there key same =

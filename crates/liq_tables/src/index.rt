@@ -1,4 +1,4 @@
-//! Rows by key.
+//! Rows by key: a list of rows, and for each key the number of its row in the list.
 
 ghost use Rattle.std.specs.Prelude.{◌≡◌, ◌≤◌, ◌^◌, ℕ, [], None, IsSome, OnOk, OnErr, option_copied, is_some, if◌then◌else◌};
 ghost use Rattle.liq_types.specs.Tables.{at, put};
@@ -38,7 +38,7 @@ impl<X: Copy> Index<X> {
         }
     }
 
-    /// A number above the keys of all rows.
+    /// A number above all keys that have a row.
     pub(crate) fn end(&self) -> u64
         ensures above { (key : ℕ) → result ≤ key → at self.now key ≡ None }
         ensures few { result ≤ 2 ^ 32 }

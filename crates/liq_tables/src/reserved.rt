@@ -1,4 +1,4 @@
-//! A table with room.
+//! A table with room: rows that are not used only keep the room for one, and are not seen.
 
 ghost use Rattle.std.specs.Prelude.{◌≡◌, [], true, IsOk, IfOk, OnOk, OnErr, OnSome, option_copied, length};
 ghost use Rattle.liq_types.specs.Tables.{at, rows, without};
@@ -17,7 +17,7 @@ pub struct Reserved<X: Row> {
     index: Index<X>,
 }
 
-// Written out, so that who lets a table go need not look inside it.
+// odd: drop written out
 impl<X: Row> Drop for Reserved<X> {
     fn drop(self) {
         let Reserved { index: _ } = self;

@@ -10,11 +10,8 @@ use Rattle.liq_text.specs.Replies.{reply_line}
 -- what is told of a state: the replies to `system` and `pools`, the words of the Stability Pool,
 -- and the journal's generation with its commands so far
 unfoldable pub standing : State → List ℕ
-standing s =
-    let words = pool_words s in reply_line (step s (Ask System)).1
-    ++ reply_line (step s (Ask Pools)).1
+standing s = let words = pool_words s in
+    reply_line (step s (Ask System)).1 ++ reply_line (step s (Ask Pools)).1
     ++ codes "pool " ++ decimal words.p ++ codes " " ++ decimal words.scale ++ codes " "
-    ++ decimal words.epoch
-    ++ codes " " ++ decimal words.sum ++ codes "\njournal " ++ decimal s.generation ++ codes " "
-    ++ decimal s.records
-    ++ 10 ∷ []
+    ++ decimal words.epoch ++ codes " " ++ decimal words.sum ++ codes "\njournal "
+    ++ decimal s.generation ++ codes " " ++ decimal s.records ++ 10 ∷ []

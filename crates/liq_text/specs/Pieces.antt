@@ -36,7 +36,7 @@ fails kind failed pieces = failed || not (is_some (first (value_of kind) pieces)
 unfoldable pub finished : {A : Type 0} → A → Bool → List (List ℕ) → Option A
 finished x failed pieces = then_some (not failed && is_empty pieces) x
 
--- what is so unless a reader had failed
+-- this, or nothing where a reader had failed before
 unfoldable pub unless : {A : Type 0} → Bool → Option A → Option A
 unless true o = None
 unless false o = o

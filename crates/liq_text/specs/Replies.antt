@@ -27,13 +27,13 @@ reply_words (No refusal) = codes "no" ∷ map decimal (refusal_numbers refusal)
 abbrev pub text : Reply → List ℕ
 text reply = join_with_byte 32 (reply_words reply)
 
--- and with its line end
+-- the text of a reply with its line end
 abbrev pub reply_line : Reply → List ℕ
 reply_line reply = text reply ++ 10 ∷ []
 
 -- ---- how long a text may be
 
--- at most ten numbers of 64 bits
+-- the numbers are at most ten, of 64 bits each
 abbrev pub AreAmounts : List ℕ → Type 0
 AreAmounts numbers = (length numbers ≤ 10) × AllByRecursion (λ n. n < 2 ^ 64) numbers
 

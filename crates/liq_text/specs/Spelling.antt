@@ -81,7 +81,7 @@ IsLineOf line words = (pieces : List (List ℕ)) × (line ≡ join_with_byte 32 
 abbrev pub Spells : List ℕ → Request → Type 0
 Spells line request = IsLineOf line (request_words request)
 
--- the same behind a session's number and a space
+-- a line spells a request behind a session's number and a space
 abbrev pub SpellsInSession : List ℕ → ℕ → Request → Type 0
 SpellsInSession line session request =
     (1 ≤ session) × (session ≤ 8) × IsLineOf line (number session ∷ request_words request)

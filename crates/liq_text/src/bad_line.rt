@@ -1,3 +1,5 @@
+//! Why a line is no request.
+
 use thiserror::Error;
 
 /// A line is none of the grammar.

@@ -1,4 +1,7 @@
-//! Lines of text: the grammar of requests, read and written, and the texts of replies.
+//! Lines of text: the grammar of requests, read and written, and the texts of replies. A line is
+//! read exactly where the grammar has it, and then spells one request: words with one space
+//! between, numbers in digits without a leading zero. The ranges of the numbers are for the rules
+//! to test.
 #![tactic(auto)]
 
 mod appending;

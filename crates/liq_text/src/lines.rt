@@ -1,4 +1,4 @@
-//! Lines, read.
+//! Lines, read: a request, a query alone, or a request with its session in front.
 
 ghost use Rattle.std.specs.Prelude.{◌≡◌, ◌≢◌, ◌++◌, ℕ, List, Ok, Some, IfOk, IfSome, OnErr, codes};
 ghost use Rattle.liq_types.specs.declared.requests.Query.{Query};

@@ -1,4 +1,4 @@
-//! The verbs.
+//! The sixteen verbs by their names, which are told apart by their whole bytes.
 
 ghost use Rattle.std.specs.Prelude.{◌≡◌};
 ghost use Rattle.liq_text.specs.Names.{named};

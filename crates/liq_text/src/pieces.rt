@@ -1,4 +1,5 @@
-//! A line, word by word.
+//! A line, word by word. A word that is missing or not what it is to be is noted, and told at the
+//! end.
 
 ghost use Rattle.std.specs.Prelude.{◌≡◌, ◌≢◌, ◌==◌, ◌<◌, ◌∷◌, ◌&&◌, [], false, not, length, position, IfSome, MatchOption};
 ghost use Rattle.liq_text.specs.Reading.{an_account, a_number, a_hint, pieces_of, is_empty, others};

@@ -6,8 +6,8 @@ ghost use Rattle.liq_text.specs.Reading.{pieces_of, query_of};
 use crate::values::account;
 use liq_types::Query;
 
-/// The query that words spell. Each name is looked for with the space behind it: no word is
-/// searched for its end.
+/// The query that words spell. Each name is looked for with the space behind it, so that no word's
+/// end has to be found first.
 pub(crate) fn asked(words: &[u8]) -> Option<Query>
     ensures { result ≡ query_of (pieces_of words.now) }
 {

@@ -62,7 +62,7 @@ pub(crate) fn put_list(out: &mut Vec<u8>, numbers: &[u64])
     put(out, &text[start..]);
 }
 
-// Ten numbers of 64 bits, and a byte beside each.
+// The most bytes of a list: ten numbers of 20 digits, and a space beside each.
 const LIST_BYTES: usize = 210;
 
 // Writes the numbers, with one space between two, so that they end where the text ends. Tells where

@@ -20,7 +20,7 @@ pub record Kept : Type 0 where
 abbrev pub coll_in : Table Trove → ℕ
 coll_in troves = sum_by (λ (t : Trove). t.coll) (values_of troves)
 
--- of a trove, by the sums of now
+-- what holds of a kept trove, by the sums of now
 pub record IsKept (sum_coll sum_debt : ℕ) (t : Trove) : Type 0 where
   pub some : 1 ≤ t.stake
   pub within : t.stake ≤ t.coll

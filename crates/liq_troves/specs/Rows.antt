@@ -23,7 +23,7 @@ entire_by sums t = (
   t.debt + pending t.stake sums.debt t.mark_debt,
 )
 
--- of an account that has a trove
+-- entire amounts of an account, if it has a trove
 abbrev pub entire_in : Sums → Table Trove → ℕ → Option (ℕ × ℕ)
 entire_in sums troves account = option_map (entire_by sums) (at troves account)
 

@@ -67,7 +67,7 @@ trove_rows s = map_rows (trove_row s) s.troves
 abbrev pub entire : State → TroveEntry → ℕ × ℕ
 entire s t = entire_by (sums_words s) (trove_row s t)
 
--- of an account that has a trove
+-- entire amounts of an account, if it has a trove
 abbrev pub entire_of : State → ℕ → Option (ℕ × ℕ)
 entire_of s account = entire_in (sums_words s) (trove_rows s) account
 

@@ -35,7 +35,7 @@ books_of s =
 
 -- ---- what stands
 
--- of a trove, by the sums of now
+-- what stands of a trove, by the sums of now
 pub record TroveStands (sum_coll sum_debt : ℕ) (t : Trove) : Type 0 where
   pub some : 1 ≤ t.stake
   pub within : t.stake ≤ t.coll

@@ -1,4 +1,4 @@
-//! What a trove has by the sums per unit of stake.
+//! What a trove has by the sums per unit of stake; its key and its stake.
 
 ghost use Rattle.std.specs.Prelude.{◌≡◌, ◌≤◌, ◌<◌, ◌-◌, ◌*◌, ◌^◌, [], ◌∷◌};
 ghost use Rattle.liq_types.specs.declared.amounts.TheConstants.{ONE as one};

@@ -1,3 +1,5 @@
+//! The sums per unit of stake.
+
 /// What a table of troves keeps beside its rows: the sums per unit of stake, and the stakes.
 #[derive(Clone, Copy)]
 pub struct Sums {

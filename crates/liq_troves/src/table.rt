@@ -1,4 +1,5 @@
-//! The troves of all accounts, and the sums beside them.
+//! The troves of all accounts, and the sums beside them. No trove's marks pass the sums, and the
+//! stakes that the sums count are those of the rows.
 
 ghost use Rattle.std.specs.Prelude.{◌≡◌, ℕ, ◌+◌, ◌≤◌, [], None, Some, IsOk, IsSome, IfSome, IfOk, OnOk, OnSome, MatchResult, length, ◌∷◌, option_copied, is_ok, if◌then◌else◌};
 ghost use Rattle.liq_types.specs.Rules.{first_refusal};

@@ -15,7 +15,7 @@ use Rattle.liq_types.specs.declared.events.PoolEvent.{PoolEvent}
 use Rattle.liq_types.specs.declared.events.PoolEvent.TheVariants as event
 use Rattle.liq_types.specs.PlainLedger.{Share, no_share, share_after, exact_share, total_of, den_of, AreOwnedBelow, over_accounts}
 
--- from a on
+-- a sum over the n accounts from a on
 from : ℕ → ℕ → (ℕ → ℕ) → ℕ
 from a n f = sum_by f (range_with_len a n)
 
@@ -117,7 +117,7 @@ pub over-one : (n : ℕ) (f g : ℕ → ℕ) (k : ℕ) → k < n → ((q : ℕ) 
 unfolding over_accounts from
 over-one n f g k low h = from-one 0 n f g k (omega arith) (omega arith) h
 
--- nothing of each
+-- where each account has nothing, all have nothing
 pub over-none : (n : ℕ) → over_accounts n (λ q. 0) ≡ 0
 over-none n = let more = over-times n (λ q. 0) 0 in omega (arith, more)
 

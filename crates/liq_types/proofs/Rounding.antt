@@ -116,27 +116,27 @@ ended_upper_kept k gain den bal q total coll h =
     let first : k * den * total ≤ gain * q * total = mul-le-mul_right total h in
     omega arith
 
--- then cancel q
+-- both sides have the factor q, which is cancelled where it is cited
 pub balance_read_upper : (a v b den bal q : ℕ) → b * q ≤ a * v → a * v * den ≤ bal * q → b * den * q ≤ bal * q
 balance_read_upper a v b den bal q low h =
     let first : b * q * den ≤ a * v * den = mul-le-mul_right den low in
     omega arith
 
--- then cancel q
+-- both sides have the factor q, which is cancelled where it is cited
 pub gain_read_upper : (a s g more den gain q : ℕ) → more * q ≤ a * s → (g * q + a * s) * den ≤ gain * q
     → (g + more) * den * q ≤ gain * q
 gain_read_upper a s g more den gain q low h =
     let first : more * q * den ≤ a * s * den = mul-le-mul_right den low in
     omega arith
 
--- then cancel q
+-- both sides have the factor q, which is cancelled where it is cited
 pub balance_read_lower : (a v b den bal q n w lost : ℕ) → a * v ≤ (b + 1) * q
     → bal * q * n ≤ (a * v * n + (w + n * lost) * q) * den → bal * n * q ≤ (b * n + w + n * (lost + 1)) * den * q
 balance_read_lower a v b den bal q n w lost high h =
     let first : a * v * (n * den) ≤ (b + 1) * q * (n * den) = mul-le-mul_right (n * den) high in
     omega arith
 
--- then cancel q
+-- both sides have the factor q, which is cancelled where it is cited
 pub gain_read_lower : (a v b s g more den gain bal q n w lost : ℕ) → a * v ≤ (b + 1) * q → a * s ≤ (more + 4) * q
     → (gain + 11 * bal) * q * n ≤ ((g * q + a * s + 11 * (a * v)) * n + (12 * w + 15 * (n * lost)) * q) * den
     → (gain + 11 * bal) * n * q ≤ ((g + more + 11 * b) * n + 12 * w + 15 * (n * (lost + 1))) * den * q
@@ -145,7 +145,7 @@ gain_read_lower a v b s g more den gain bal q n w lost high most h =
     let second : a * s * (n * den) ≤ (more + 4) * q * (n * den) = mul-le-mul_right (n * den) most in
     omega arith
 
--- then cancel q
+-- both sides have the factor q, which is cancelled where it is cited
 pub ended_gain_read : (a s g more den gain bal q n w lost : ℕ) → a * s ≤ (more + 4) * q → (gain + 11 * bal) * q * n
     ≤ ((g * q + a * s) * n + (12 * w + 15 * (n * lost) + 11 * n) * q) * den → (gain + 11 * bal) * n * q
     ≤ ((g + more) * n + 12 * w + 15 * (n * (lost + 1))) * den * q
@@ -195,14 +195,14 @@ own_none_gain b g den gain bal bal1 n w m put_in out share left h =
     let lf : out * (n * den) ≡ (b + put_in) * (n * den) = ap (λ k. k * (n * den)) left in
     omega arith
 
--- then cancel n
+-- both sides have the factor n, which is cancelled where it is cited
 pub balance_law : (b den bal n w cw m : ℕ) → w ≤ cw * n → bal * n ≤ (b * n + w + n * m) * den
     → bal * n ≤ (b + (cw + m)) * den * n
 balance_law b den bal n w cw m up h =
     let first : w * den ≤ cw * n * den = mul-le-mul_right den up in
     omega arith
 
--- then cancel n
+-- both sides have the factor n, which is cancelled where it is cited
 pub gain_law : (b g den gain bal n w cw m : ℕ) → 12 * w ≤ cw * n → b * den ≤ bal
     → (gain + 11 * bal) * n ≤ ((g + 11 * b) * n + 12 * w + 15 * (n * m)) * den
     → gain * n ≤ (g + (cw + 15 * m)) * den * n
@@ -245,7 +245,7 @@ weight_covers a c n p0 power h all split least up =
     let second : n * (c * all) ≤ p0 * (c * all) = mul-le-mul_right (c * all) least in
     omega arith
 
--- power is 10^(9 * (rise - 1)); small is a ≤ all = 10^27 times n
+-- power is 10^(9 * (rise - 1)), and all is 10^27; small is a ≤ all, both sides times n
 pub little_left : (a p p0 n h power all total rest : ℕ) → h ≤ power → p * (rest * power) ≤ n * total → a * n ≤ n * all
     → n ≤ p0 → a * (p * h) * rest ≤ p0 * all * total
 little_left a p p0 n h power all total rest reach low small least =
@@ -255,7 +255,7 @@ little_left a p p0 n h power all total rest reach low small least =
     let fourth : n * (all * total) ≤ p0 * (all * total) = mul-le-mul_right (all * total) least in
     omega arith
 
--- then cancel total
+-- both sides have the factor total, which is cancelled where it is cited
 pub sum_within : (s x p p1 top debt rest total coll : ℕ) → debt + rest ≡ total → coll ≤ 11 * debt → x * total ≤ coll * p
     → p1 * total ≤ p * rest → s + 11 * p ≤ 11 * top → (s + x + 11 * p1) * total ≤ 11 * top * total
 sum_within s x p p1 top debt rest total coll whole worth_less low part h =
@@ -264,7 +264,7 @@ sum_within s x p p1 top debt rest total coll whole worth_less low part h =
     let third : (s + 11 * p) * total ≤ 11 * top * total = mul-le-mul_right total h in
     omega arith
 
--- then cancel total
+-- both sides have the factor total, which is cancelled where it is cited
 pub finished_within : (s x p top debt total coll : ℕ) → debt ≤ total → coll ≤ 11 * debt → x * total ≤ coll * p
     → s + 11 * p ≤ 11 * top → (s + x) * total ≤ 11 * top * total
 finished_within s x p top debt total coll some worth_less low h =

@@ -20,7 +20,7 @@ pub record LeavesPart (w : ScaledProduct) (o : PoolOffset) : Type 0 where
   pub scale : (after_offset w o).scale ≡ w.scale + rise_of w.p o
   pub epoch : (after_offset w o).epoch ≡ w.epoch
 
--- or all of it
+-- the offset takes all that the pool has
 pub record TakesAll (w : ScaledProduct) (o : PoolOffset) : Type 0 where
   pub all : o.debt ≡ o.total
   pub p : (after_offset w o).p ≡ P_OPENING

@@ -28,7 +28,7 @@ costs_from account now amount place (Offset debt coll total rise ∷ es) =
     + costs_from account (after_offset now (record { debt = debt; coll = coll; total = total }))
     amount place es
 
--- from the opening on, where nothing is recorded
+-- the weight from the opening on, where nothing is recorded
 abbrev pub weight_of : ℕ → List PoolEvent → ℕ
 weight_of account events = costs_from account opening_words 0 (0, 0) events
 

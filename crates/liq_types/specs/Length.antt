@@ -9,31 +9,31 @@ use Rattle.liq_types.specs.Image.{Image}
 abbrev pub words_length : ℕ
 words_length = 8 + 8 * 21 + 16 * 4 + 8 * 6
 
--- collateral and LUSD
+-- a row of wallets: the account, and collateral and LUSD
 abbrev pub wallet_length : ℕ
 wallet_length = 4 + 8 * 2
 
--- collateral, debt and stake, and two sums
+-- a row of troves: the account, collateral, debt and stake, and two sums
 abbrev pub trove_length : ℕ
 trove_length = 4 + 8 * 3 + 16 * 2
 
--- collateral
+-- a row of what owners may claim: the account, and collateral
 abbrev pub surplus_length : ℕ
 surplus_length = 4 + 8
 
--- a place and its sum
+-- a row of finished sums: a place and its sum
 abbrev pub finished_length : ℕ
 finished_length = 8 * 2 + 16
 
--- the amount, a product and a sum, and their place
+-- a row of deposits: the account, the amount, a product and a sum, and their place
 abbrev pub deposit_length : ℕ
 deposit_length = 4 + 8 + 16 * 2 + 8 * 2
 
--- the last number, and the kept reply
+-- a row of clients: the client, its last number, and the reply to that
 abbrev pub client_length : ℕ
 client_length = 4 + 8 + 1 + 8 * 6
 
--- with so many rows in each table
+-- the length of a checkpoint with so many rows in each table
 abbrev pub length_with : RowCounts → ℕ
 length_with n =
     words_length

@@ -54,7 +54,7 @@ after_offset w o =
 
 -- ---- offsets of a pool within its limit
 
--- it takes some of the pool, and no more than all; the pool has no more than so much
+-- the offset takes some of the pool, and no more than all; the pool has no more than so much
 pub record TakesPartUpTo (most : ℕ) (o : PoolOffset) : Type 0 where
   pub some : 1 ≤ o.debt
   pub within : o.debt ≤ o.total

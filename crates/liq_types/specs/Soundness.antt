@@ -74,7 +74,7 @@ has_surplus_at_home i = i.surplus == sum (values_of i.surplus_rows)
 
 -- ---- 6, 7, 8: troves
 
--- of a trove, by the sums per stake
+-- a trove is sound by these sums per stake
 abbrev pub is_sound_trove : ℕ → ℕ → Trove → Bool
 is_sound_trove sum_coll sum_debt t =
     nat_le 1 t.stake && nat_le t.stake t.coll
@@ -102,7 +102,7 @@ coll_due sum t = t.stake * (sum - t.mark_coll)
 abbrev pub debt_due : ℕ → Trove → ℕ
 debt_due sum t = t.stake * (sum - t.mark_debt)
 
--- and to all of them
+-- what is due to all troves before any rounding, over ONE
 abbrev pub due_coll : Image → ℕ
 due_coll i = sum_by (coll_due i.sum_coll) (values_of i.troves)
 
@@ -140,7 +140,7 @@ has_sound_words i records =
     && list_all (λ (row : Place × ℕ). nat_le row.1 (OFFSET_MOST * P_OPENING) && is_before row.0
     (i.epoch, i.scale)) i.finished
 
--- of a deposit, by the place of now and the sum of its own place
+-- a deposit is sound by the place of now and the sum of its own place
 abbrev pub is_sound_deposit : Place → ℕ → Deposit → Bool
 is_sound_deposit now sum d =
     is_product d.p

@@ -154,7 +154,7 @@ started i =
       clients = i.clients;
     }
 
--- before any command, under a limit
+-- the state before any command, under a limit
 abbrev pub opening_with : ℕ → State
 opening_with limit = started (opening_image_with limit)
 

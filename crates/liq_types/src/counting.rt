@@ -1,4 +1,4 @@
-//! A count of steps that is kept in contracts alone.
+//! A count of steps that is kept in contracts alone. When the program runs it is nothing.
 
 ghost use Rattle.std.specs.Prelude.{◌≡◌, ◌+◌};
 

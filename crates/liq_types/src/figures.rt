@@ -1,4 +1,5 @@
-//! Amounts that belong together.
+//! Amounts that belong together: what is kept of a trove, a deposit, a wallet and a client, and
+//! what a rule reads of the whole market.
 
 use crate::replies::Done;
 

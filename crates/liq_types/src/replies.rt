@@ -95,22 +95,24 @@ pub enum Refusal {
         net: u64,
         least: u64,
     },
-    /// 25: the trove's ratio would be too low.
+    /// 25: the trove's ratio would be too low: `left` is collateral (gwei) * price * 100, and
+    /// `right` the least percent * debt (micro-LUSD) * 10^9.
     RatioLow {
         left: u128,
         right: u128,
     },
-    /// 26: the ratio of the totals would be too low.
+    /// 26: the ratio of the totals would be too low, by the same two sides.
     SystemRatioLow {
         left: u128,
         right: u128,
     },
-    /// 27: Recovery Mode forbids the command.
+    /// 27: Recovery Mode forbids the command: the two sides of the totals as they are.
     RecoveryForbids {
         left: u128,
         right: u128,
     },
-    /// 28: the trove's ratio would fall, in Recovery Mode.
+    /// 28: the trove's ratio would fall, in Recovery Mode: `left`, the new collateral times the old
+    /// debt, is below `right`, the old collateral times the new debt.
     RatioFalls {
         left: u128,
         right: u128,
@@ -162,7 +164,7 @@ pub enum Refusal {
         minute: u64,
         limit: u64,
     },
-    /// 61: the ratio of the totals is below the least ratio.
+    /// 61: the ratio of the totals is below the least ratio, by the same two sides.
     SystemUnder {
         left: u128,
         right: u128,

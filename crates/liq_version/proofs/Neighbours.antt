@@ -1,4 +1,4 @@
--- Where there are no neighbours.
+-- An answer with no account on either side: nobody but the asker is in the list.
 use Rattle.std.proofs.Common.{◌≡◌, Bool, true, false, cond, List, [], ◌∷◌, refl, sym, ap, ◌∙◌, None}
 use Rattle.std.specs.Prelude.{◌==◌, ◌↔◌, not, reverse}
 use Rattle.std.specs.Ordering.{int_cmp, nat_cmp, is_lt, ordering_reverse}

@@ -1,3 +1,5 @@
+//! What a version is asked.
+
 /// What is asked of a version of the ordered list.
 #[derive(Clone, Copy)]
 pub enum Ask {

@@ -1,3 +1,5 @@
+//! A version: a guide of the list, the words beside it, and a number.
+
 ghost use Rattle.std.specs.Prelude.{◌≡◌, OnOk, OnErr};
 ghost use Rattle.liq_types.specs.Ranked.{neighbours};
 ghost use Rattle.liq_version.specs.declared.asks.Ask.TheVariants.{Own, Open};
@@ -17,7 +19,7 @@ pub struct Version {
     number: u64,
 }
 
-// Written out, as that of the guide's other holders is.
+// odd: drop written out
 impl Drop for Version {
     fn drop(self) {
         let Version {

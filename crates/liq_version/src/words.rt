@@ -1,4 +1,4 @@
-// The words from which keys are made.
+//! The words of the sums, from which the key of a trove that opens is reckoned.
 ghost use Rattle.std.specs.Prelude.{◌≡◌, ◌<◌, ◌^◌, pos, ◌-ℤ◌, ◌<ℤ◌, List, [], MatchOption};
 ghost use Rattle.liq_num.specs.Quotient.{floor_of};
 ghost use Rattle.liq_types.specs.declared.amounts.TheConstants.{ONE as one};

@@ -13,7 +13,7 @@ use Rattle.liq_rules.specs.Liquidation.{liquidate_lowest_row}
 abbrev pub lowest_refusal : State → ℕ → Option Refusal
 lowest_refusal s count = first_refusal (liquidate_lowest_row s 0 count).rules
 
--- so many of them at most, where no rule refuses them
+-- the victims are the lowest troves, so many at most, where no rule refuses them
 abbrev pub AreLowest : State → ℕ → List Victim → Type 0
 AreLowest s count victims = (lowest_refusal s count ≡ None) × (lowest s count ≡ victims)
 

@@ -72,7 +72,7 @@ abbrev pub told_of : Option PoolEvent → List PoolEvent
 told_of None = []
 told_of (Some event) = event ∷ []
 
--- after a trove with this stake
+-- the course behind the liquidation of a trove with this stake
 abbrev pub course_after : Course → ℕ → One → Course
 course_after c stake one =
     let stakes = c.stakes - stake in

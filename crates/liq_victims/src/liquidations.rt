@@ -121,6 +121,7 @@ pub fn strike(
         → AreKept (all_liquidated s liquidator victims.now) wallets.new pools.new surplus.new
         troves.new order.new stability.new }
 {
+    // odd: part by part
     for victim in victims {
         apply_one(
             victim, liquidator, wallets, pools, surplus, troves, order, stability,

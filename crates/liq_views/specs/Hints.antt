@@ -22,7 +22,7 @@ abbrev pub sought : Request → Option Ask
 sought (request.Do command) = sought_at command.call
 sought (request.Ask query) = None
 
--- both sides absent
+-- a hint of nothing: both sides are absent
 abbrev pub absent : ℕ → Hint
 absent number = record { prev = None; next = None; version = number }
 

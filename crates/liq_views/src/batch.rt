@@ -1,4 +1,4 @@
-//! What one publication adds.
+//! What one publication adds: changes, copied from the publisher's caller.
 
 ghost use Rattle.std.specs.Prelude.{◌≡◌, IfOk};
 

@@ -1,4 +1,4 @@
-//! Who looks for hints.
+//! Who looks for hints: a window, and the number of the version that was seen last.
 
 ghost use Rattle.std.specs.Prelude.{◌≤◌};
 ghost use Rattle.liq_views.specs.Windows.{number_or};

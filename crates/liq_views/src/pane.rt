@@ -1,4 +1,5 @@
-//! A finder's way to what is published.
+//! A finder's way to what is published: a reader of the two copies, which never waits. A pane
+//! without one is shut, and so may be one whose publisher has ended.
 
 use crate::rule::{Published, Sight};
 use crate::shelf::Shelf;
@@ -12,7 +13,7 @@ mod window;
 /// A window at what a publisher publishes.
 #[derive(Drop)]
 pub struct Pane {
-    /// None where no reader was to be had.
+    /// There is none where none was to be had: each look is then shut.
     reader: Option<Reader<Shelf, Sight, Published>>,
     /// How many looks were shut.
     shut: u64,

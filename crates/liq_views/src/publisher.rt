@@ -1,4 +1,4 @@
-//! The one who publishes.
+//! The one who publishes: it has the batches that are out, and those that wait.
 
 ghost use Rattle.std.specs.Prelude.{◌≡◌, ◌++◌, drop};
 ghost use Rattle.left_right.specs.Sides.{view};

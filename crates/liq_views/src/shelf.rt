@@ -1,4 +1,5 @@
-//! What is published: a version, and how many batches made it.
+//! What is published: a version, and how many batches made it. A batch is absorbed whole, or not at
+//! all.
 
 ghost use Rattle.std.specs.Prelude.{◌≡◌};
 ghost use Rattle.liq_views.specs.Shelves.{opening, after};

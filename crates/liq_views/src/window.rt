@@ -1,4 +1,4 @@
-//! Where a finder looks.
+//! What a finder looks through: one version after the other stands behind it, never an older one.
 
 ghost use Rattle.std.specs.Prelude.{◌≡◌, ℕ, Option, Some, IfOk, IfSome, OnOk, OnErr};
 ghost use Rattle.liq_version.specs.Versions.{Numbered, answer_of};
@@ -11,7 +11,7 @@ use liq_version::{Ask, Version};
 #[derive(Clone, Copy)]
 pub struct Shut;
 
-/// Something through which one version after the other is shown.
+/// Shows a version of the list at each look, and never one that is before that of an earlier look.
 pub trait Window {
     /// The version last shown, where that is told.
     ghost shown: { Self → Option Numbered };

@@ -9,7 +9,7 @@ use Rattle.liq_types.specs.declared.requests.Call.TheVariants.{Price, Advance, F
 use Rattle.liq_types.specs.declared.hints.HintWords.{HintWords}
 use Rattle.liq_wire.specs.Fields.{Fields, fields_of, hint_word, hint_of, hints_of, AreHints, HasHints, heard, shape_of, isnt_zero, first_place, tests, misfit, call_in, command_in, command_of, command_or, fields_at, Spells96}
 
--- hints
+-- a hint that is written as a word and read again
 pub word_back : (n : ℕ) → hint_word (hint_of n) ≡ n
 word_back n = grind (arith, nat_tests)
 
@@ -511,7 +511,7 @@ hinted_back client number hints call are =
       call = call (record { prev = hints.prev; next = n });
     }) (hint_back hints.next are.1)
 
--- It is that command.
+-- The bytes of a command are read as that command.
 pub written_back : (client number : ℕ) (call : Call) → HasHints call
     → command_in (fields_of (record { client = client; number = number; call = call })) ≡ record {
       client = client;

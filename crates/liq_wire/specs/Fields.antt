@@ -77,7 +77,7 @@ bare kind command = record {
   rest = replicate 24 0;
 }
 
--- with two hints
+-- the fields with two hints
 abbrev pub hinted : HintWords → Fields → Fields
 hinted hints fields = record fields { before = hint_word hints.prev; after = hint_word hints.next }
 
@@ -159,7 +159,7 @@ pub record Shape : Type 0 where
   pub amounts : ℕ
   pub hints : ℕ
 
--- of the kinds from 0 on, which is none
+-- the shapes of the kinds from 0 on, which is no kind
 abbrev pub shapes : List Shape
 shapes =
     record { accounts = 0; amounts = 0; hints = 0 }

@@ -1,3 +1,5 @@
+//! Why bytes are no command.
+
 use thiserror::Error;
 
 /// The bytes are no command.

@@ -1,4 +1,4 @@
-// A command read from its bytes.
+//! A command read from its bytes.
 ghost use Rattle.std.specs.Prelude.{◌≡◌, ◌≤◌, ◌+◌, ◌<◌, ◌^◌, ◌&&◌, ◌||◌, nat_lt, not, replicate, Ok, Err, List, ℕ, take, drop, length, IfOk, IfErr};
 ghost use Rattle.std.specs.Str.{bytes_eq};
 ghost use Rattle.std.specs.Result.{MatchResult};

@@ -1,4 +1,4 @@
-// A command written to its bytes.
+//! A command written to its bytes.
 ghost use Rattle.std.specs.Prelude.{◌≡◌, ◌≤◌, ◌<◌, ◌^◌, ◌+◌, ◌++◌, Ok, length, take, drop};
 ghost use Rattle.byteorder.specs.Endian.{big_bytes};
 ghost use Rattle.liq_wire.specs.Fields.{HasHints, Spells96, command_of, heard};

@@ -1,4 +1,5 @@
-// What stands in the fields of a command's bytes.
+//! Which word of a command stands in which field: the one table by which its bytes are read and
+//! written.
 ghost use Rattle.std.specs.Prelude.{◌≡◌, replicate};
 ghost use Rattle.liq_wire.specs.Fields.{fields_of, hint_word};
 ghost use Rattle.liq_wire.specs.View.{seen};

@@ -13,11 +13,10 @@ Ask words State = words ≡ codes "state" ∷ []
 Ask words Audit = words ≡ codes "audit" ∷ []
 Ask words Report = words ≡ codes "report" ∷ []
 Ask words Follow = words ≡ codes "follow" ∷ []
-Ask words (Gen seed count) =
-    (words ≡ codes "gen" ∷ decimal seed ∷ decimal count ∷ [])
+Ask words (Gen seed count) = (words ≡ codes "gen" ∷ decimal seed ∷ decimal count ∷ [])
     × (seed < 2 ^ 64) × (1 ≤ count) × (count ≤ 1000000)
 
--- it uses the disks
+-- what the word asks for uses the disks
 abbrev pub UsesDisks : Word → Type 0
 UsesDisks (Gen seed count) = ⊥
 UsesDisks Follow = ⊥

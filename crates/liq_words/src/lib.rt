@@ -1,4 +1,6 @@
-//! The words of the command line: what they ask the program to do.
+//! The words of the command line: what they ask the program to do, and whether that uses the disks.
+//! They are judged as they are, without memory; `liq_arguments` reads them once they are
+//! understood.
 #![tactic(auto)]
 
 mod words;

@@ -25,6 +25,7 @@ pub enum Outcome {
 
 /// Whether the protocol's image has this checkpoint.
 pub fn of_protocol(alloc: Global, protocol: &Protocol, bytes: &[u8]) -> Outcome {
+    // odd: law called
     protocols_are_sound(protocol);
     match protocol.image() {
         Ok(image) => of_image(alloc, &image, bytes),

@@ -1,3 +1,5 @@
+//! The tests, and what they share.
+
 ghost use Rattle.std.specs.Prelude.{◌≡◌};
 
 use crate::bytes::{Version, checkpoint, set_second};
@@ -61,6 +63,7 @@ fn make_calls<L: Ledger>(
 
 // What comes of the image that a rotation would leave.
 fn foretell(alloc: Global, protocol: &Protocol, number: u64, bytes: &[u8]) -> Outcome {
+    // odd: law called
     protocols_stand(protocol);
     match protocol.plan(&numbered(number, Call::Rotate)) {
         Ok(Turn::New(planned)) => match protocol.image_after(&planned) {
@@ -164,6 +167,7 @@ fn check_run<R: Abort>(rt: &R, wanted: &Run, seen: &Seen) {
 #[test]
 fn a_run_leaves_its_image(rt: HostRuntime) {
     for wanted in all_runs() {
+        // odd: steps counted
         match see_run::<Brand>(rt.alloc(), wanted, Blank::new(1)) {
             Some(seen) => check_run(&rt, wanted, &seen),
             None => shows(&rt, wanted.what, "memory", false),
@@ -215,6 +219,7 @@ fn a_run_of_the_second_generation_begins_again(rt: HostRuntime) {
         if wanted.version == Version::One {
             continue;
         }
+        // odd: steps counted
         match see_second::<Brand>(rt.alloc(), wanted, Blank::new(1)) {
             Some((left, begins)) => check_second(&rt, wanted.what, left, begins),
             None => shows(&rt, wanted.what, "memory", false),

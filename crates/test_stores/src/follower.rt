@@ -1,3 +1,6 @@
+//! A follower that is fed journals, whole, cut at each byte and damaged, in pieces of several
+//! sizes.
+
 use crate::journals::{ABOVE, FIRST, LATER, REFUSED, REPEATED, ROTATING, SECOND, TROVES};
 use liq_follower::{Fed, FedEnd, Follower};
 use liq_types::amounts::{LIM, LIM_OF_VERSION_1};

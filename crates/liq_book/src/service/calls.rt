@@ -1,4 +1,4 @@
-//! Calls at a service.
+//! A call at a service: one turn at the lock.
 ghost use Rattle.std.specs.Prelude.{◌≡◌};
 ghost use Rattle.liq_types.specs.Desks.{own_after, faulted_after, EndsKnown};
 ghost use Rattle.liq_rules.specs.History.{IsLegal};

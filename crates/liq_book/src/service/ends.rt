@@ -1,4 +1,5 @@
-//! The end of a service.
+//! The end of a service: its seats are joined into one, the lock is closed, and the book is taken
+//! apart.
 ghost use Rattle.std.specs.Prelude.{◌≡◌, ◌≤◌, ◌<◌, ◌+◌, ◌-◌, [], ◌∷◌, All, IfOk, MatchResult, length};
 ghost use Rattle.liq_lock.specs.History.{Behind, Within};
 ghost use Rattle.liq_lock.specs.Seats.{lock_id, seat_id, seen_of, shares_of, stands_of};

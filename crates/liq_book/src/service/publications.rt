@@ -1,4 +1,4 @@
-//! Publications of a service.
+//! A publication of a service: a turn at the lock in which the list's changes go out.
 ghost use Rattle.std.specs.Prelude.{◌≡◌, IfOk, length};
 ghost use Rattle.liq_book.specs.Answered.{SeesOthers};
 ghost use Rattle.liq_book.specs.Items.{entries_of};

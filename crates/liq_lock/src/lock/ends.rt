@@ -1,4 +1,4 @@
-//! The end of a lock.
+//! The end of a lock: the seat that has all shares takes the value out for good.
 ghost use Rattle.std.specs.Prelude.{◌≡◌, ◌<◌, MatchResult, IfOk};
 ghost use Rattle.liq_lock.specs.History.{Within};
 ghost use Rattle.liq_lock.specs.Seats.{lock_id, lock_seats, seat_id, seen_of, shares_of};

@@ -1,4 +1,4 @@
-//! Two seats become one.
+//! Two seats become one, which stands for the numbers and the shares of both.
 ghost use Rattle.std.specs.Prelude.{◌≡◌, ◌+◌, ◌++◌};
 ghost use Rattle.liq_lock.specs.History.{Behind};
 ghost use Rattle.liq_lock.specs.Views.{longer};

@@ -18,7 +18,7 @@ use std::thread::yield_now;
 // Looks of a thread before it draws a ticket, and of one that waits before it sleeps.
 const LOOKS: u32 = 64;
 
-// A sleep compares the low 32 bits of a word.
+// The bits of a word that a sleep compares: the low 32.
 const LOW: u64 = 0xffff_ffff;
 
 impl<T: Chronicle> Lock<T> {

@@ -9,7 +9,7 @@ use crate::window::Window;
 use liq_types::{Call, Hint, Hinter, Request};
 use liq_version::Ask;
 
-/// What is looked up for a request; None where it places no trove.
+/// What a version is asked for a request; none where the request puts no trove into the list.
 fn sought_by(request: &Request) -> Option<Ask>
     ensures { result ≡ sought request.now }
 {

@@ -1,4 +1,4 @@
-//! A pane as a window.
+//! A pane as a window: what is shown is what the batches make that it has seen.
 
 ghost use Rattle.std.specs.Prelude.{Some};
 ghost use Rattle.liq_views.specs.Batches.{StartsWith, version_after};

@@ -1,4 +1,4 @@
-//! How a batch is published.
+//! A batch is appended to those that wait, and all of them go out in one publication.
 
 ghost use Rattle.std.specs.Prelude.{◌≡◌, ◌≤◌, ◌⊎◌, [], ◌∷◌, ◌++◌, drop, IfOk, MatchResult};
 ghost use Rattle.left_right.specs.Sides.{view};

@@ -9,6 +9,7 @@ use liq_types::{Done, Info, Refusal, Reply};
 const WIDE: u128 = (1 << 64) + 6;
 
 fn replies() -> [bool; 6] {
+    // odd: law called
     one_reply();
     let values = [9; 6];
     let sum = WIDE;

@@ -181,6 +181,7 @@ fn run_two_over<D: Disk + Drop + Send, R: Abort + Threads + Wait + Sync>(
     requires going { store.stopped ≡ None }
     requires listed { TellsList store }
 {
+    // odd: law called
     protocols_stand(store.protocol());
     run_two::<D, Brand, R>(rt, alloc, store)
 }

@@ -178,6 +178,7 @@ fn two_seats_over<D: Disk + Drop, R: Abort + Wait>(rt: &R, alloc: Global, store:
     requires going { store.stopped ≡ None }
     requires listed { TellsList store }
 {
+    // odd: law called
     protocols_stand(store.protocol());
     two_seats::<D, Brand, R>(rt, alloc, store)
 }

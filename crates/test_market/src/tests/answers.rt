@@ -26,6 +26,7 @@ fn is(reply: &Result<Reply, NoMemory>, want: Reply) -> bool {
 /// next number, and a query; and whether what it saves is loaded.
 fn answers(alloc: Global) -> [bool; 7] {
     let mut market = Market::new(alloc);
+    // odd: law called
     markets_stand(&market);
     markets_are_sound(&market);
     let previewed = market.preview(&funding(1));

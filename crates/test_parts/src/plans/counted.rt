@@ -43,6 +43,7 @@ fn counted(rt: HostRuntime) {
         Rows::Refused,
         Rows::Redeemed,
     ] {
+        // odd: steps counted
         check::<HostRuntime, Brand>(&rt, rt.alloc(), rows, Blank::new(1));
     }
 }

@@ -171,5 +171,6 @@ fn check_turns<R: Abort, L: Ledger>(rt: &R, alloc: Global, blank: Blank)
 
 #[test]
 fn hints(rt: HostRuntime) {
+    // odd: steps counted
     check_turns::<HostRuntime, Brand>(&rt, rt.alloc(), Blank::new(1));
 }

@@ -110,6 +110,7 @@ fn see_full<L: Ledger>(alloc: Global, blank: Blank) -> Seen
 
 #[test]
 fn full_journal(rt: HostRuntime) {
+    // odd: steps counted
     let seen = see_full::<Brand>(rt.alloc(), Blank::new(1));
     let is_full = seen.told && seen.counts == [1, RECORDS, RECORDS];
     shows(&rt, "each is accepted, and a query answered", is_full);

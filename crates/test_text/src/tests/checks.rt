@@ -2,7 +2,7 @@
 
 use std::process::Abort;
 
-/// Where nothing is found.
+/// The number that stands for a place where nothing is found.
 pub const NOWHERE: u64 = u64::MAX;
 
 /// Stops the test where the number is not the one that is wanted.
