@@ -1,5 +1,5 @@
-// A device as a disk: each of its calls is made again until all is done. As such it tells no
-// content, and any image may be left.
+//! A device as a disk: each of its calls is made again until all is done. As such it tells no
+//! content, and any image may be left.
 ghost use Rattle.std.specs.Prelude.{◌≡◌, ◌≤◌, ◌+◌, ◌-◌, ◌^◌, None, Some, List, ℕ, is_some, length, min, take, drop, option_and_then, IfOk, IfSome, OnOk};
 ghost use Rattle.liq_outside.specs.Adapters.{AnyImage, CountsFailure, CountsSuccess};
 ghost use Rattle.liq_outside.specs.Devices.{IsCall, TellsFailure};
@@ -17,8 +17,8 @@ use std::marker::Model;
 /// behind it.
 ///
 /// Without a device every call fails and is counted. A contract sees the device, how many writes
-/// and syncs succeeded, which is its moment, and how many calls failed. Both counts stay at their
-/// last value.
+/// and syncs succeeded, which is its moment, and how many calls failed. Both counts begin at 0 and
+/// stay at their last value.
 #[derive(Drop)]
 pub struct DeviceDisk<V> {
     device: Option<V>,
@@ -38,6 +38,7 @@ impl<V: Device> DeviceDisk<V> {
     /// The disk over this device, or over none.
     pub(crate) fn over(device: Option<V>) -> Self
         ensures device { result.device ≡ device }
+        ensures moment { result.moment ≡ 0 }
         ensures faults { result.faults ≡ 0 }
     {
         DeviceDisk {
@@ -85,7 +86,7 @@ impl<V: Device> Disk for DeviceDisk<V> {
 
     fn read_at(&mut self, place: u64, buf: &mut [u8]) -> Result<usize, Failed>
         ensures fits { IfOk result (λ n. n ≤ length buf.old) }
-        // As far as places go.
+        // Up to place 2^64, beyond which there is none.
         ensures told { place + length buf.old ≤ 2 ^ 64
             → IfOk result (λ n. IfSome (option_and_then V.held self.old.device) (λ old.
             (n ≡ min (length buf.old) (length old - place))

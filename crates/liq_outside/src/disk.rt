@@ -1,4 +1,5 @@
-// What keeps bytes by their places, over a stop too.
+//! What keeps bytes by their places, over a stop too: the one trait on which all that is said of
+//! crashes rests.
 ghost use Rattle.std.specs.Prelude.{◌≡◌, ◌↔◌, ◌≤◌, ◌+◌, ◌-◌, ◌^◌, Option, Some, List, ℕ, min, length, take, drop, option_map, IfOk, OnOk, OnErr, IfSome, IsSome};
 ghost use Rattle.liq_outside.specs.At.{DiskAt};
 ghost use Rattle.liq_outside.specs.Calls.{one_more};
@@ -12,9 +13,9 @@ use super::ours::Ours;
 /// Keeps bytes by their places, and those that were synced over a stop too.
 ///
 /// A disk has a moment for what a crash may leave: it rises by one with each write or sync that
-/// succeeds. A crash leaves what was there at the last sync that answered `Ok`, but in each range
-/// that was written since, by a call that failed too, any bytes and any length up to the range's
-/// end.
+/// succeeds, and by one at most with a write that fails. A crash leaves what was there at the last
+/// sync that answered `Ok`, but in each range that was written since, by a call that failed too,
+/// any bytes and any length up to the range's end.
 ///
 /// The disks of this crate are all that there are.
 pub trait Disk: Ours {
@@ -52,6 +53,7 @@ pub trait Disk: Ours {
             (Reaches (Torn place (length bytes.now)) (LeftNow at self.old) (LeftNow at self.new)) }
         ensures keeps { Within (LeftNow at self.old) (LeftNow at self.new) }
         ensures one { OnOk result ((at self.new).moment ≡ one_more (at self.old).moment) }
+        ensures one_at_most { OnErr result ((at self.new).moment ≤ (at self.old).moment + 1) }
         ensures time { Elapses at self.old self.new }
         ensures cause { HasCause (at self.old).faults (at self.new).faults result };
 
@@ -64,6 +66,7 @@ pub trait Disk: Ours {
         ensures crash { Within (LeftNow at self.new) (LeftNow at self.old) }
         ensures unsynced { OnErr result (Within (LeftNow at self.old) (LeftNow at self.new)) }
         ensures one { OnOk result ((at self.new).moment ≡ one_more (at self.old).moment) }
+        ensures none { OnErr result ((at self.new).moment ≡ (at self.old).moment) }
         ensures time { Elapses at self.old self.new }
         ensures cause { HasCause (at self.old).faults (at self.new).faults result };
 
@@ -75,7 +78,7 @@ pub trait Disk: Ours {
     fn faults(&self) -> u64
         ensures { result ≡ (at self.now).faults };
 
-    /// What a read gives is one of the images.
+    /// What a read gives is among what a crash now may leave.
     ghost seen_may_stay: { (disk : Self) (held : List ℕ)
         → (at disk).seen ≡ Some held → LeftNow at disk held };
 }

@@ -1,4 +1,4 @@
-// A file as a device, and the disk over it. As such it tells no content: only faults are told.
+//! A file as a device, and the disk over it. As such it tells no content: only faults are told.
 ghost use Rattle.std.specs.Prelude.{◌≡◌, ◌≤ℤ◌, ◌≤◌, Some, None, pos, IfSome};
 ghost use Rattle.std.specs.Fd.{file_raw_fd};
 ghost use Rattle.std.specs.declared.fs.File.{File};
@@ -14,7 +14,7 @@ use std::os::unix::fs::FileExt;
 /// `fdatasync`.
 ///
 /// Without a file every device call fails and is counted. A contract sees whether there is a file,
-/// and how many calls failed.
+/// how many writes and syncs succeeded, and how many calls failed.
 pub type FileDisk = DeviceDisk<File>;
 
 impl DeviceDisk<File> {
@@ -24,6 +24,7 @@ impl DeviceDisk<File> {
         ensures taken { (f : File) → file ≡ Some f → pos 3 ≤ℤ file_raw_fd f
             → result.device ≡ Some f }
         ensures apart { IfSome result.device (λ f. (file ≡ Some f) × (pos 3 ≤ℤ file_raw_fd f)) }
+        ensures moment { result.moment ≡ 0 }
         ensures faults { result.faults ≡ 0 }
     {
         match file {

@@ -1,5 +1,5 @@
-// A device in memory, whose reads and writes do a part of what they are asked, and whose calls fail
-// where they are told to.
+//! A device in memory, whose reads and writes do a part of what they are asked, and whose calls
+//! fail where they are told to.
 ghost use Rattle.std.specs.Prelude.{◌≡◌, ◌≤◌, ◌<◌, ◌↔◌, ◌+◌, ◌-◌, ◌++◌, ◌^◌, [], Ok, Some, length, take, drop, min, IfOk, OnOk, OnErr, IsErr};
 ghost use Rattle.liq_outside.specs.Calls.{FailsNext, not_begun};
 ghost use Rattle.liq_outside.specs.Devices.{after_asking, after_failure, after_syncing, after_writing};
@@ -68,6 +68,7 @@ impl DeviceDisk<MemoryDevice> {
     /// The disk over this device.
     pub fn new(device: MemoryDevice) -> Self
         ensures device { result.device ≡ Some device }
+        ensures moment { result.moment ≡ 0 }
         ensures faults { result.faults ≡ 0 }
     {
         DeviceDisk::over(Some(device))
@@ -126,7 +127,7 @@ impl Device for MemoryDevice {
             return Err(Failed);
         }
         let count = bytes.len().min(self.chunk);
-        // What stood there before is not kept.
+        // What the write replaces is let go: a device notes nothing.
         let mut before = Vec::new(self.alloc);
         match overwrite(
             self.alloc,

@@ -1,4 +1,6 @@
-// A disk in memory, whose calls fail where they are told to, and which a crash may tear.
+//! A disk in memory, whose calls fail where they are told to, and which a crash may tear. It has
+//! the bytes of now and a note of each write and sync, from the latest of which it goes back to
+//! what was there before.
 ghost use Rattle.std.specs.Prelude.{◌≡◌, ◌≤◌, ◌<◌, ◌↔◌, ◌⊎◌, ◌+◌, ◌-◌, ◌++◌, ◌^◌, [], Some, length, take, drop, min, IfOk, OnOk, OnErr, IsErr};
 ghost use Rattle.liq_outside.specs.Calls.{FailsNext, one_more};
 ghost use Rattle.liq_outside.specs.Faults.{HasCause};
@@ -141,13 +143,15 @@ impl Disk for MemoryDisk {
         ensures keeps { Within (LeftNow disk_at self.old) (LeftNow disk_at self.new) }
         ensures one { OnOk result (length self.new.disk.steps
             ≡ one_more (length self.old.disk.steps)) }
+        ensures one_at_most { OnErr result (length self.new.disk.steps
+            ≤ length self.old.disk.steps + 1) }
         ensures time { Elapses disk_at self.old self.new }
         ensures cause { HasCause self.old.disk.calls.faults self.new.disk.calls.faults result }
     {
         let at = place as usize;
         if self.schedule.begin() {
             self.schedule.fault();
-            // Some of the bytes may have been written.
+            // A crash may leave any part of the bytes all the same.
             note_try(&mut self.made, at, bytes.len());
             return Err(Failed);
         }

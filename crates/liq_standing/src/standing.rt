@@ -43,6 +43,7 @@ pub fn lift(pools: &mut Pools, troves: &mut Troves, order: &mut Order, account: 
     ensures had { HasRoom troves.new.table account }
     ensures spare { order.new.room ≡ order.old.room + 1 }
 {
+    // odd: part by part
     let sums = *troves.sums();
     let trove = troves.remove(account);
     let (coll, debt) = entire(&trove, &sums);
@@ -56,7 +57,7 @@ pub fn lift(pools: &mut Pools, troves: &mut Troves, order: &mut Order, account: 
 
 /// A trove of the account comes into the table, the active pool and the list, with these amounts in
 /// gwei and micro-LUSD and nothing pending. The other pools stay. The hint changes nothing but the
-/// steps: with a tight one there are four at most.
+/// steps: there is one at least, and with a tight hint there are four at most.
 pub fn place<L: Ledger>(
     pools: &mut Pools,
     troves: &mut Troves,
@@ -86,11 +87,13 @@ pub fn place<L: Ledger>(
     ensures few { TakesFew order.new.entries hint.now (entry_in order.new.entries account) steps.old
         steps.new }
     ensures any { steps.new ≤ steps.old + (length order.old.entries + 4) }
+    ensures least { steps.old + 1 ≤ steps.new }
     ensures list { order.new.entries ≡ with_ranked order.old.entries
         (key_by (set_row troves.old.sums coll debt), account) }
     ensures room { troves.new.table.room ≡ troves.old.table.room }
     ensures spare { order.new.room + 1 ≡ order.old.room }
 {
+    // odd: part by part
     pools.active_coll += coll;
     pools.active_debt += debt;
     let row = troves.set(account, coll, debt);
