@@ -17,8 +17,7 @@ use crate::reading::tested_command;
 use liq_guided::{Guided, RedoFault};
 use liq_journal::{Block, Damage, Journal, What};
 use liq_outside::Disk;
-use liq_pairs::code_of;
-use liq_types::{Command, Steps};
+use liq_types::{Command, Steps, code_of};
 use std::sync::ledger::{Blank, Ledger};
 
 // The record of this number is damaged: the rules refuse its command, with this code; or it is a
@@ -77,6 +76,7 @@ fn redo_record<D: Disk, L: Ledger>(
     ensures cause { CountsReading result (D.at journal.old.disk).faults
         (D.at journal.new.disk).faults }
 {
+    // odd: match for ?
     let command = match tested_command(journal, block, index) {
         Ok(command) => command,
         Err(why) => return Err(why),
@@ -110,6 +110,7 @@ pub fn replay<D: Disk, L: Ledger>(
     let mut steps = Steps::<L>::new(blank);
     let mut block = Block::new();
     for done in 0..journal.records() {
+        // odd: match for ?
         match redo_record(protocol, journal, &mut block, done + 1, &mut steps) {
             Ok(()) => {}
             Err(fault) => return Err(fault),

@@ -1,12 +1,11 @@
-//! Replies in 96 bytes.
+//! The 96 bytes of a reply, by what kind of reply it is.
 
 ghost use Rattle.std.specs.Prelude.{◌≡◌, ◌≤◌, ◌/◌, ◌%◌, ◌^◌, length};
 ghost use Rattle.liq_types.specs.declared.replies.Reply.TheVariants.{Said, Told, No};
 ghost use Rattle.liq_replies96.specs.Replies.{reply96, bad96, no_memory96, made};
 
 use crate::reply::{ACCEPTED, BAD, NO_MEMORY, REFUSED, Reply96, TOLD};
-use liq_replies::{numbers_of, value_count};
-use liq_types::{Done, Info, Refusal, Reply};
+use liq_types::{Done, Info, Refusal, Reply, numbers_of, value_count};
 
 /// The 96 bytes of a reply.
 pub fn encode(reply: &Reply) -> Reply96

@@ -1,4 +1,5 @@
 mod Alike
-mod Numbers
+mod Rows
+mod Sending
 mod Stands
 mod Written

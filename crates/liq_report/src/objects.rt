@@ -1,69 +1,67 @@
-//! The objects of a report, as values.
+//! The objects of a report, as they are sent to be written.
 
-ghost use Rattle.std.specs.Prelude.{◌≡◌, IfOk, codes};
-ghost use Rattle.serde_json.specs.Data.{member, no_members, number, object, string, unsigned};
-ghost use Rattle.serde_json.specs.View.{view};
-ghost use Rattle.liq_report.specs.Values.{with_numbers};
+ghost use Rattle.std.specs.Prelude.{OnOk, decimal};
+ghost use Rattle.serde_json.specs.Data.{string};
+ghost use Rattle.serde_json.specs.Events.{SendsValue};
+ghost use Rattle.liq_report.specs.Values.{deposit_data, numbers_data, pool_data, totals_data, trove_data};
 
-use serde_json::{Map, Value, json};
-use std::alloc::{AllocError, Global};
+use itoa::Buffer;
+use liq_stability::PoolWords;
+use serde::Serializer;
 
-/// A deposit with its position: what is left of it (micro-LUSD), and what it has gained (gwei).
-pub fn deposit_object(
-    alloc: Global,
+/// Sends a deposit with its position: what is left of it (micro-LUSD), and what it has gained
+/// (gwei).
+pub fn send_deposit<S: Serializer>(
+    out: &mut S,
     account: u32,
     position: (u64, u64),
-) -> Result<Value, AllocError>
-    ensures { IfOk result (λ value. view value ≡ object
-        (member (codes "account") (number (unsigned account))
-        (member (codes "balance") (number (unsigned position.0))
-        (member (codes "gain") (number (unsigned position.1)) no_members)))) }
+) -> Result<(), S::Error>
+    ensures { OnOk result
+        (SendsValue (deposit_data account position) (S.written out.old) (S.written out.new)) }
 {
+    let (balance, gain) = position;
     let numbers = [
         ("account", u64::from(account)),
-        ("balance", position.0),
-        ("gain", position.1),
+        ("balance", balance),
+        ("gain", gain),
     ];
-    numbers_object(alloc, &numbers)
+    send_numbers(out, &numbers)
 }
 
-/// A trove with its entire amounts, collateral (gwei) and debt (micro-LUSD).
-pub fn trove_object(
-    alloc: Global,
+/// Sends a trove: its entire collateral (gwei), its entire debt (micro-LUSD), and its stake.
+pub fn send_trove<S: Serializer>(
+    out: &mut S,
     account: u32,
-    entire: (u64, u64),
-    stake: u64,
-) -> Result<Value, AllocError>
-    ensures { IfOk result (λ value. view value ≡ object
-        (member (codes "account") (number (unsigned account))
-        (member (codes "coll") (number (unsigned entire.0))
-        (member (codes "debt") (number (unsigned entire.1))
-        (member (codes "stake") (number (unsigned stake)) no_members))))) }
+    standing: (u64, u64, u64),
+) -> Result<(), S::Error>
+    ensures { OnOk result
+        (SendsValue (trove_data account standing) (S.written out.old) (S.written out.new)) }
 {
+    let (coll, debt, stake) = standing;
     let numbers = [
         ("account", u64::from(account)),
-        ("coll", entire.0),
-        ("debt", entire.1),
+        ("coll", coll),
+        ("debt", debt),
         ("stake", stake),
     ];
-    numbers_object(alloc, &numbers)
+    send_numbers(out, &numbers)
 }
 
-/// The Stability Pool, with the digits of its product and its sum.
-pub fn pool_object(
-    alloc: Global,
-    epoch: u64,
-    p: &str,
-    scale: u64,
-    sum: &str,
-) -> Result<Value, AllocError>
-    ensures { IfOk result (λ value. view value ≡ object
-        (member (codes "epoch") (number (unsigned epoch))
-        (member (codes "p") (string p.now)
-        (member (codes "scale") (number (unsigned scale))
-        (member (codes "sum") (string sum.now) no_members))))) }
+/// Sends the Stability Pool's words. Product and sum are words of 128 bits, and strings of digits.
+pub fn send_words<S: Serializer>(out: &mut S, words: &PoolWords) -> Result<(), S::Error>
+    ensures { OnOk result
+        (SendsValue (pool_data words.now) (S.written out.old) (S.written out.new)) }
 {
-    json!(in alloc; {"epoch": epoch, "p": p, "scale": scale, "sum": sum})
+    out.begin_map(Some(4))?;
+    out.key("epoch")?;
+    out.u64(words.epoch)?;
+    out.key("p")?;
+    send_digits(out, words.p)?;
+    out.key("scale")?;
+    out.u64(words.scale)?;
+    out.key("sum")?;
+    send_digits(out, words.sum)?;
+    out.end_map()
 }
 
 /// The ten words of the reply to `system`.
@@ -87,19 +85,10 @@ pub struct Totals {
     pub records: u64,
 }
 
-/// The totals.
-pub fn system_object(alloc: Global, totals: Totals) -> Result<Value, AllocError>
-    ensures { IfOk result (λ value. view value ≡ object
-        (member (codes "base") (number (unsigned totals.base))
-        (member (codes "coll") (number (unsigned totals.coll))
-        (member (codes "debt") (number (unsigned totals.debt))
-        (member (codes "fee_minute") (number (unsigned totals.fee_minute))
-        (member (codes "minute") (number (unsigned totals.minute))
-        (member (codes "mode") (number (unsigned totals.mode))
-        (member (codes "price") (number (unsigned totals.price))
-        (member (codes "records") (number (unsigned totals.records))
-        (member (codes "stakes") (number (unsigned totals.stakes))
-        (member (codes "troves") (number (unsigned totals.troves)) no_members))))))))))) }
+/// Sends the totals.
+pub fn send_totals<S: Serializer>(out: &mut S, totals: Totals) -> Result<(), S::Error>
+    ensures { OnOk result
+        (SendsValue (totals_data totals) (S.written out.old) (S.written out.new)) }
 {
     let numbers = [
         ("base", totals.base),
@@ -113,34 +102,27 @@ pub fn system_object(alloc: Global, totals: Totals) -> Result<Value, AllocError>
         ("stakes", totals.stakes),
         ("troves", totals.troves),
     ];
-    numbers_object(alloc, &numbers)
+    send_numbers(out, &numbers)
 }
 
-/// The whole.
-pub fn report_object(
-    alloc: Global,
-    deposits: Value,
-    pool: Value,
-    system: Value,
-    troves: Value,
-) -> Result<Value, AllocError>
-    ensures { IfOk result (λ value. view value ≡ object
-        (member (codes "deposits") (view deposits)
-        (member (codes "pool") (view pool)
-        (member (codes "system") (view system)
-        (member (codes "troves") (view troves) no_members))))) }
+/// Sends an object of numbers by their names.
+fn send_numbers<S: Serializer>(out: &mut S, numbers: &[(&str, u64)]) -> Result<(), S::Error>
+    ensures { OnOk result
+        (SendsValue (numbers_data numbers.now) (S.written out.old) (S.written out.new)) }
 {
-    json!(in alloc; {"deposits": deposits, "pool": pool, "system": system, "troves": troves})
-}
-
-/// An object of numbers by their names. Where a name comes twice, the later number stays.
-fn numbers_object(alloc: Global, numbers: &[(&str, u64)]) -> Result<Value, AllocError>
-    ensures { IfOk result (λ value. view value ≡ object (with_numbers numbers.now no_members)) }
-{
-    let mut members = Map::new(alloc);
+    out.begin_map(Some(numbers.len()))?;
     for (name, number) in numbers {
-        let name = String::from_str(alloc, name)?;
-        drop(members.insert(name, Value::from(*number))?);
+        out.key(name)?;
+        out.u64(*number)?;
     }
-    Ok(Value::Object(members))
+    out.end_map()
+}
+
+/// Sends a string of a number's digits.
+fn send_digits<S: Serializer>(out: &mut S, number: u128) -> Result<(), S::Error>
+    ensures { OnOk result
+        (SendsValue (string (decimal number)) (S.written out.old) (S.written out.new)) }
+{
+    let mut buffer = Buffer::new();
+    out.str(buffer.format(number))
 }

@@ -1,20 +1,20 @@
 //! The report of a protocol.
 
-ghost use Rattle.std.specs.Prelude.{◌≡◌, IfOk};
+ghost use Rattle.std.specs.Prelude.{◌≡◌, IfOk, OnOk};
 ghost use Rattle.liq_types.specs.State.{State};
 ghost use Rattle.liq_core.specs.Core.{StandsFor, state_of};
-ghost use Rattle.liq_report.specs.Report.{deposits_text, report_text, troves_text};
-ghost use Rattle.liq_report.specs.Values.{HasText};
+ghost use Rattle.liq_report.specs.Report.{report_text};
+ghost use Rattle.liq_report.specs.Sent.{SendsReport};
 
-use crate::entries::{deposits, troves};
+use crate::entries::{send_deposits, send_troves};
 use crate::laws::reports_follow_the_image;
-use crate::objects::report_object;
-use crate::totals::{pool, system};
+use crate::totals::{send_pool, send_system};
 use liq_core::Protocol;
-use liq_core::laws::{protocols_are_sound_states, protocols_stand};
-use liq_types::{Image, NoMemory};
-use serde_json::Value;
-use std::alloc::{AllocError, Global};
+use liq_core::laws::protocols_stand;
+use liq_types::NoMemory;
+use serde::{Described, Serialize, Serializer};
+use serde_json::to_vec;
+use std::alloc::Global;
 
 /// The report of a protocol: one object in JSON without spaces, in which the names of every object
 /// ascend. Collateral is in gwei, debt and LUSD in micro-LUSD. How the protocol came to be shows
@@ -24,42 +24,45 @@ pub fn report(alloc: Global, protocol: &Protocol) -> Result<Vec<u8>, NoMemory>
     ensures { IfOk result (λ text. (s : State) → StandsFor protocol.now s
         → text.items ≡ report_text s) }
 {
+    // odd: law called
     reports_follow_the_image();
     protocols_stand(protocol);
-    let image = protocol.image()?;
-    let value = report_value(alloc, protocol, &image)?;
-    let text = value.to_vec(alloc)?;
-    Ok(text)
+    match to_vec(alloc, &Document { protocol }) {
+        Ok(text) => Ok(text),
+        // What is sent is always written but for want of memory.
+        Err(_) => Err(NoMemory),
+    }
 }
 
-/// The report as a value, by the image.
-fn report_value(alloc: Global, protocol: &Protocol, image: &Image) -> Result<Value, AllocError>
-    requires { image.now ≡ protocol.now.image }
-    ensures { IfOk result (HasText (report_text (state_of protocol.now))) }
-{
-    let deposits = image_deposits(alloc, protocol, image)?;
-    let troves = image_troves(alloc, protocol, image)?;
-    let pool = pool(alloc, protocol)?;
-    let system = system(alloc, protocol)?;
-    report_object(alloc, deposits, pool, system, troves)
+/// A protocol as its report.
+#[derive(Drop)]
+struct Document<'a> {
+    protocol: &'a Protocol,
 }
 
-/// The deposits of the image.
-fn image_deposits(alloc: Global, protocol: &Protocol, image: &Image) -> Result<Value, AllocError>
-    requires { image.now ≡ protocol.now.image }
-    ensures { IfOk result (HasText (deposits_text (state_of protocol.now))) }
-{
-    protocols_stand(protocol);
-    protocols_are_sound_states(protocol);
-    deposits(alloc, protocol, image.deposits.rows())
+impl Described for Document<'_> {
+    ghost writes = { λ document. SendsReport (state_of document.protocol.now) };
 }
 
-/// The troves of the image.
-fn image_troves(alloc: Global, protocol: &Protocol, image: &Image) -> Result<Value, AllocError>
-    requires { image.now ≡ protocol.now.image }
-    ensures { IfOk result (HasText (troves_text (state_of protocol.now))) }
+impl Serialize for Document<'_> {
+    fn serialize<S: Serializer>(&self, out: &mut S) -> Result<(), S::Error> {
+        send_report(self.protocol, out)
+    }
+}
+
+/// Sends the report.
+fn send_report<S: Serializer>(protocol: &Protocol, out: &mut S) -> Result<(), S::Error>
+    ensures { OnOk result
+        (SendsReport (state_of protocol.now) (S.written out.old) (S.written out.new)) }
 {
-    protocols_stand(protocol);
-    protocols_are_sound_states(protocol);
-    troves(alloc, protocol, image.troves.rows())
+    out.begin_map(Some(4))?;
+    out.key("deposits")?;
+    send_deposits(protocol, out)?;
+    out.key("pool")?;
+    send_pool(protocol, out)?;
+    out.key("system")?;
+    send_system(protocol, out)?;
+    out.key("troves")?;
+    send_troves(protocol, out)?;
+    out.end_map()
 }

@@ -1,63 +1,57 @@
 //! The Stability Pool's words and the totals, as objects.
 
-ghost use Rattle.std.specs.Prelude.{◌≡◌, ◌∷◌, [], IfOk, codes, decimal};
+ghost use Rattle.std.specs.Prelude.{◌≡◌, OnOk};
 ghost use Rattle.liq_types.specs.State.{State};
+ghost use Rattle.liq_stability.specs.Words.{pool_words};
 ghost use Rattle.liq_rules.specs.Queries.{system};
 ghost use Rattle.liq_core.specs.Core.{state_of};
-ghost use Rattle.liq_report.specs.Report.{pool_text, system_text};
-ghost use Rattle.liq_report.specs.Texts.{object_text, string_text};
-ghost use Rattle.liq_report.specs.Values.{HasText, totals_of};
+ghost use Rattle.serde_json.specs.Events.{SendsValue};
+ghost use Rattle.liq_report.specs.Told.{system_words};
+ghost use Rattle.liq_report.specs.Values.{pool_data, totals_data, totals_of};
 
-use crate::objects::{Totals, pool_object, system_object};
+use crate::objects::{Totals, send_totals, send_words};
 use liq_core::Protocol;
 use liq_core::laws::protocols_stand;
-use liq_replies::system_in;
-use liq_types::Query;
-use serde_json::Value;
-use std::alloc::{AllocError, Global};
+use liq_types::{Info, Query, Reply};
+use serde::Serializer;
 
-/// The Stability Pool's words.
-pub fn pool(alloc: Global, protocol: &Protocol) -> Result<Value, AllocError>
-    ensures { IfOk result (HasText (pool_text (state_of protocol.now))) }
+/// Sends the Stability Pool's words.
+pub fn send_pool<S: Serializer>(protocol: &Protocol, out: &mut S) -> Result<(), S::Error>
+    ensures { OnOk result (SendsValue (pool_data (pool_words (state_of protocol.now)))
+        (S.written out.old) (S.written out.new)) }
 {
+    // odd: law called
     protocols_stand(protocol);
-    let words = protocol.pool_words();
-    pool_value(alloc, words.epoch, words.p, words.scale, words.sum)
+    send_words(out, protocol.pool_words())
 }
 
-/// The Stability Pool by its words. Product and sum are words of 128 bits, and strings of digits.
-fn pool_value(
-    alloc: Global,
-    epoch: u64,
-    p: u128,
-    scale: u64,
-    sum: u128,
-) -> Result<Value, AllocError>
-    ensures { IfOk result (HasText (object_text (
-        (codes "epoch", decimal epoch)
-        ∷ (codes "p", string_text (decimal p))
-        ∷ (codes "scale", decimal scale)
-        ∷ (codes "sum", string_text (decimal sum)) ∷ []))) }
+/// Sends price, time, rate and totals, as `system` tells them.
+pub fn send_system<S: Serializer>(protocol: &Protocol, out: &mut S) -> Result<(), S::Error>
+    ensures { OnOk result (SendsValue (totals_data (totals_of (state_of protocol.now)))
+        (S.written out.old) (S.written out.new)) }
 {
-    let p = format!(in alloc; "{p}")?;
-    let sum = format!(in alloc; "{sum}")?;
-    pool_object(alloc, epoch, &p, scale, &sum)
-}
-
-/// Price, time, rate and totals, as `system` tells them.
-pub fn system(alloc: Global, protocol: &Protocol) -> Result<Value, AllocError>
-    ensures { IfOk result (HasText (system_text (state_of protocol.now))) }
-{
-    system_object(alloc, totals(protocol))
+    send_totals(out, totals(protocol))
 }
 
 /// The words of the reply to `system`.
 fn totals(protocol: &Protocol) -> Totals
     ensures { result ≡ totals_of (state_of protocol.now) }
 {
+    // odd: law called
     protocols_stand(protocol);
     let reply = protocol.query(&Query::System);
     named(system_in(&reply))
+}
+
+/// The ten words of the totals, in their order, by the reply to a query for them; zeros by any
+/// other reply.
+fn system_in(reply: &Reply) -> [u64; 10]
+    ensures { result ≡ system_words reply.now }
+{
+    match *reply {
+        Reply::Told(Info::System { words }) => words,
+        _ => [0; 10],
+    }
 }
 
 /// Ten words by their names.

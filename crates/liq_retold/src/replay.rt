@@ -1,4 +1,5 @@
-//! Commands, made again one after the other.
+//! A list of commands, made again one after the other: each is shown to the onlooker, and then
+//! made.
 
 ghost use Rattle.std.specs.Prelude.{◌≡◌, All, [], false, Err, IfOk};
 ghost use Rattle.liq_types.specs.declared.requests.Command.{Command};
@@ -16,8 +17,7 @@ use crate::onlooker::Onlooker;
 use liq_core::{PlanFault, Planned, Protocol, Turn, unhinted};
 use liq_guided::{Guided, Hints};
 use liq_journal::{Damage, What};
-use liq_pairs::code_of;
-use liq_types::{Command, Steps};
+use liq_types::{Command, Steps, code_of};
 use std::alloc::Global;
 use std::marker::Brand;
 use std::sync::ledger::{Blank, Ledger};
@@ -41,6 +41,7 @@ pub fn retold<O: Onlooker>(
     ensures damaged { (damage : Damage) → result ≡ Err (ReplayFault.Damaged damage)
         → replay 1 (opening_with limit) commands.now ≡ Err damage }
 {
+    // odd: steps counted
     retold_on::<O, Brand>(alloc, limit, commands, onlooker, Blank::new(1))
 }
 

@@ -7,9 +7,8 @@ ghost use Rattle.liq_text.specs.Replies.{text, info_words, refusal_numbers, show
 ghost use Rattle.liq_text.specs.Writing.{spaced};
 
 use crate::writing::{put, put_list, put_numbers};
-use liq_replies::{numbers_of, value_count};
 use liq_types::amounts::REPLY_BYTES;
-use liq_types::{Done, Info, NoMemory, Refusal, Reply};
+use liq_types::{Done, Info, NoMemory, Refusal, Reply, numbers_of, value_count};
 
 fn put_refusal(out: &mut Vec<u8>, refusal: &Refusal)
     requires { vec_len out.old + 240 ≤ vec_capacity out.old }

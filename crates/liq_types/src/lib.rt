@@ -1,11 +1,17 @@
 //! The plain data that every crate of liq speaks of: requests, replies, refusals, amounts and their
-//! limits.
+//! limits. Nothing here decides anything: the rules stand in `liq_rules`.
 //!
 //! Debt and LUSD are in micro-LUSD, collateral in gwei, the price in micro-LUSD per ether, time in
-//! whole minutes.
+//! whole minutes, and a fraction in 10^18ths.
+//!
+//! A `Request` is a `Command`, which is a `Call` with its client and its number, or a `Query`. A
+//! desk answers it, by a `Reply` of the rules or by what kept it from one (`Answer`).
+//!
+//! An `Image` is all of a state on which its future rests, but for the count of its records.
 #![tactic(auto)]
 
 pub mod amounts;
+pub mod codes;
 pub mod counting;
 pub mod desks;
 pub mod entries;
@@ -18,6 +24,7 @@ pub mod lengths;
 pub mod replies;
 pub mod requests;
 
+pub use codes::{code_of, numbers_of, value_count};
 pub use counting::Steps;
 pub use desks::{Desk, Hinter};
 pub use entries::Entry;

@@ -1,6 +1,6 @@
 use Rattle.std.proofs.Common.{sym, ◌∙◌, ap}
 use Rattle.liq_core.specs.Core.{state_of}
-use Rattle.liq_replies.specs.Told.{system_words}
+use Rattle.liq_report.specs.Told.{system_words}
 use Rattle.liq_report.proofs.totals.totals.Goals as goal
 
 pub returns : goal.returns

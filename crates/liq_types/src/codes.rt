@@ -2,9 +2,9 @@
 //! command shows.
 
 ghost use Rattle.std.specs.Prelude.{◌≡◌, ◌≤◌, take, slice_index};
-ghost use Rattle.liq_types.specs.Codes.{refusal_numbers, value_counts};
+ghost use Rattle.liq_types.specs.Codes.{code_of, refusal_numbers, value_counts};
 
-use liq_types::Refusal;
+use crate::replies::Refusal;
 
 /// A refusal's code and the values that it carries, in front of noughts, and how many numbers these
 /// are.
@@ -66,6 +66,14 @@ pub fn numbers_of(refusal: &Refusal) -> ([u128; 6], usize)
         Refusal::OutOfTurn { expected } => ([70, expected.into(), 0, 0, 0, 0], 2),
         Refusal::JournalFull { records } => ([81, records.into(), 0, 0, 0, 0], 2),
     }
+}
+
+/// The code with which a refusal is written, and a record that is refused is told.
+pub fn code_of(refusal: &Refusal) -> u8
+    ensures { result ≡ code_of refusal.now }
+{
+    let (numbers, _) = numbers_of(refusal);
+    numbers[0] as u8
 }
 
 // How many values the reply to a kind of command shows.
