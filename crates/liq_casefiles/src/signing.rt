@@ -10,7 +10,7 @@ const DIGEST: usize = 32;
 const BODY: usize = 96;
 
 /// The bytes of a record with its gate.
-const RECORD: usize = 129;
+const RECORD_BYTES: usize = 129;
 
 /// Makes the digest true of the record of this number, or of the header and the checkpoint where it
 /// is 0.
@@ -38,7 +38,7 @@ fn sign_record(held: &mut [u8], index: u64) -> Result<(), Misread> {
         .saturating_add(size);
     let before = (index as usize).saturating_sub(1);
     let body = first
-        .saturating_add(RECORD.saturating_mul(before))
+        .saturating_add(RECORD_BYTES.saturating_mul(before))
         .saturating_add(1);
     let mut hasher = Sha256::new();
     hasher.update(part(held, 9, 8)?);

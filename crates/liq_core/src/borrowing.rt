@@ -92,7 +92,7 @@ impl Protocol {
             → IsRuled (state_of self.now) (call.Adjust account change.now.coll_in
             change.now.coll_out change.now.borrow change.now.repay bound hint) result }
     {
-        // Where no field is used, nothing is known of the protocol.
+        // odd: field read
         let _ = &self.records;
         let had = self.entire(account);
         let wallet = self.wallet(account);
@@ -127,7 +127,7 @@ impl Protocol {
 
     /// Opens the account's trove as it is planned: its collateral leaves the wallet, and what is
     /// borrowed comes into it.
-    pub(crate) fn open_trove<L: Ledger>(
+    pub(crate) fn apply_open<L: Ledger>(
         &mut self,
         account: u32,
         borrow: u64,
@@ -168,7 +168,7 @@ impl Protocol {
     }
 
     /// Adjusts the account's trove as it is planned: the owner gives and gets what is asked.
-    pub(crate) fn adjust_trove<L: Ledger>(
+    pub(crate) fn apply_adjust<L: Ledger>(
         &mut self,
         account: u32,
         change: &Change,
@@ -209,7 +209,7 @@ impl Protocol {
 
     /// Closes the account's trove: its debt beside the reserve is repaid, the reserve is burned,
     /// and its collateral returns.
-    pub(crate) fn close_trove(&mut self, account: u32, repaid: u64, coll: u64)
+    pub(crate) fn apply_close(&mut self, account: u32, repaid: u64, coll: u64)
         requires allowed { first_refusal (rules (state_of self.old) (call.Close account)) ≡ None }
         requires terms { (repaid, coll)
             ≡ closing_terms (or_nothing (entire_of (state_of self.old) account)) }

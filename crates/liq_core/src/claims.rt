@@ -27,7 +27,7 @@ impl Protocol {
     }
 
     /// All that the account may claim comes into its wallet.
-    pub(crate) fn claim(&mut self, account: u32)
+    pub(crate) fn apply_claim(&mut self, account: u32)
         requires allowed { first_refusal (rules (state_of self.old) (call.Claim account)) ≡ None }
         requires range { account < ACCOUNTS }
         requires room { Contains self.old.room.wallets account }

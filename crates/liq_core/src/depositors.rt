@@ -155,7 +155,7 @@ impl Protocol {
     }
 
     /// LUSD from the account's wallet into its deposit; its gain comes into the wallet.
-    pub(crate) fn provide(&mut self, account: u32, lusd: u64)
+    pub(crate) fn apply_provide(&mut self, account: u32, lusd: u64)
         requires allowed { first_refusal (rules (state_of self.old) (call.Provide account lusd))
             ≡ None }
         requires range { account < ACCOUNTS }
@@ -175,7 +175,7 @@ impl Protocol {
     }
 
     /// LUSD, no more than there is, and the gain from the account's deposit into its wallet.
-    pub(crate) fn withdraw(&mut self, account: u32, lusd: u64)
+    pub(crate) fn apply_withdraw(&mut self, account: u32, lusd: u64)
         requires allowed { first_refusal (rules (state_of self.old) (call.Withdraw account lusd))
             ≡ None }
         requires range { account < ACCOUNTS }
@@ -189,7 +189,7 @@ impl Protocol {
     }
 
     /// The gain of the account's deposit moves into its trove, as it is planned.
-    pub(crate) fn gain_to_trove<L: Ledger>(
+    pub(crate) fn apply_gain_to_trove<L: Ledger>(
         &mut self,
         account: u32,
         plan: &Plan,

@@ -1,4 +1,4 @@
-//! The protocol's state, and its steps.
+//! The protocol's state, and its steps: planned by a command's verb, and applied.
 
 ghost use Rattle.std.specs.Prelude.{◌≡◌, ◌≤◌, ◌<◌, ◌+◌, ℕ, false, length, None};
 ghost use Rattle.std.specs.List.{AllByRecursion, Contains};
@@ -55,7 +55,7 @@ pub struct Protocol {
     pub(crate) clients: Reserved<Client>,
 }
 
-// Written out, so that who lets a protocol go need not look inside it.
+// odd: drop written out
 impl Drop for Protocol {
     fn drop(self) {
         let Protocol {
@@ -203,7 +203,7 @@ impl Protocol {
     pub fn plan(&self, command: &Command) -> Result<Turn, PlanFault>
         ensures { (s : State) → StandsFor self.now s → Plans s command.now result }
     {
-        // Where no field is used, nothing is known of the protocol.
+        // odd: field read; match for ?
         let _ = &self.records;
         match self.kept(command) {
             Ok(None) => {}
@@ -315,15 +315,15 @@ impl Protocol {
             (last_put planned.changes) steps.old steps.new }
         ensures any { steps.new ≤ steps.old + (length self.old.list + 4) }
     {
-        // Where no field is used, nothing is known of the protocol.
+        // odd: field read; law called
         let _ = &self.records;
         let Planned { command, forecast } = planned;
         let Forecast { done, terms, .. } = forecast;
         match command.call {
             Call::Liquidate(liquidator, _) | Call::LiquidateLowest(liquidator, _) => {
-                self.liquidate(&command, done, liquidator, terms.victims());
+                self.apply_liquidate(&command, done, liquidator, terms.victims());
             }
-            Call::Rotate => self.rotate(&command, done),
+            Call::Rotate => self.apply_rotate(&command, done),
             _ => {
                 self.change(&command.call, &terms, hint, steps);
                 self.note(&command, done);
@@ -354,14 +354,14 @@ impl Protocol {
         ensures any { steps.new ≤ steps.old + (length self.old.list + 4) }
     {
         match *call {
-            Call::Price(price) => self.set_price(price),
-            Call::Advance(minutes) => self.pass(minutes),
-            Call::Fund(account, coll) => self.bring_in(account, coll),
-            Call::Take(account, coll) => self.take_out(account, coll),
-            Call::Send(from, to, lusd) => self.send(from, to, lusd),
+            Call::Price(price) => self.apply_price(price),
+            Call::Advance(minutes) => self.apply_advance(minutes),
+            Call::Fund(account, coll) => self.apply_fund(account, coll),
+            Call::Take(account, coll) => self.apply_take(account, coll),
+            Call::Send(from, to, lusd) => self.apply_send(from, to, lusd),
             Call::Open(account, _, borrow, _, words) => {
                 let hint = hint_of(&words, hint);
-                self.open_trove(account, borrow, terms.trove(), &hint, steps);
+                self.apply_open(account, borrow, terms.trove(), &hint, steps);
             }
             Call::Adjust(account, coll_in, coll_out, borrow, repay, _, words) => {
                 let change = Change {
@@ -371,22 +371,22 @@ impl Protocol {
                     repay,
                 };
                 let hint = hint_of(&words, hint);
-                self.adjust_trove(account, &change, terms.trove(), &hint, steps);
+                self.apply_adjust(account, &change, terms.trove(), &hint, steps);
             }
             Call::Close(account) => {
                 let (repaid, coll) = terms.closing();
-                self.close_trove(account, repaid, coll);
+                self.apply_close(account, repaid, coll);
             }
-            Call::Provide(account, lusd) => self.provide(account, lusd),
-            Call::Withdraw(account, lusd) => self.withdraw(account, lusd),
+            Call::Provide(account, lusd) => self.apply_provide(account, lusd),
+            Call::Withdraw(account, lusd) => self.apply_withdraw(account, lusd),
             Call::GainToTrove(account, words) => {
                 let hint = hint_of(&words, hint);
-                self.gain_to_trove(account, terms.trove(), &hint, steps);
+                self.apply_gain_to_trove(account, terms.trove(), &hint, steps);
             }
-            Call::Claim(account) => self.claim(account),
+            Call::Claim(account) => self.apply_claim(account),
             Call::Redeem(account, _, _, words) => {
                 let hint = hint_of(&words, hint);
-                self.redeem(account, terms.redemption(), &hint, steps);
+                self.apply_redeem(account, terms.redemption(), &hint, steps);
             }
             _ => unreachable!(),
         }
@@ -414,7 +414,7 @@ impl Protocol {
     pub fn query(&self, query: &Query) -> Reply
         ensures { (s : State) → StandsFor self.now s → (step s (Ask query.now)).1 ≡ result }
     {
-        // Where no field is used, nothing is known of the protocol.
+        // odd: field read
         let _ = &self.records;
         self.answer(query)
     }

@@ -30,7 +30,7 @@ impl Protocol {
     pub(crate) fn plan_liquidate(&self, liquidator: u32, account: u32) -> Result<Forecast, Refusal>
         ensures { IsRuled (state_of self.now) (call.Liquidate liquidator account) result }
     {
-        // Where no field is used, nothing is known of the protocol.
+        // odd: field read
         let _ = &self.records;
         let one = self.one(account)?;
         let mut course = self.course();
@@ -62,7 +62,7 @@ impl Protocol {
     ) -> Result<Forecast, PlanFault>
         ensures { Forecasts (state_of self.now) (call.LiquidateLowest liquidator count) result }
     {
-        // Where no field is used, nothing is known of the protocol.
+        // odd: field read
         let _ = &self.records;
         let victims = match self.lowest(count) {
             Ok(victims) => victims,
@@ -85,7 +85,7 @@ impl Protocol {
     fn one(&self, account: u32) -> Result<One, Refusal>
         ensures { result ≡ rules.one (state_of self.now) account }
     {
-        // Where no field is used, nothing is known of the protocol.
+        // odd: field read
         let _ = &self.records;
         let Some(trove) = self.troves.get(account) else {
             return Err(Refusal::NoTrove { account });
@@ -113,7 +113,7 @@ impl Protocol {
         ensures { result ≡ unwrap_or (option_map (λ t. t.stake) (at (trove_rows (state_of self.now))
             account)) 0 }
     {
-        // Where no field is used, nothing is known of the protocol.
+        // odd: field read
         let _ = &self.records;
         match self.troves.get(account) {
             Some(trove) => trove.stake,
@@ -178,7 +178,7 @@ impl Protocol {
 
     /// Makes planned liquidations and counts the command. The two are one call, since offsets may
     /// move the place of the Stability Pool further than the records before it allow.
-    pub(crate) fn liquidate(
+    pub(crate) fn apply_liquidate(
         &mut self,
         command: &Command,
         done: Done,

@@ -73,7 +73,7 @@ impl Protocol {
     }
 
     /// Sets the price.
-    pub(crate) fn set_price(&mut self, price: u64)
+    pub(crate) fn apply_price(&mut self, price: u64)
         requires { first_refusal (rules (state_of self.old) (call.Price price)) ≡ None }
         ensures { Changes self.old (call.Price price) self.new }
     {
@@ -81,7 +81,7 @@ impl Protocol {
     }
 
     /// Lets minutes pass.
-    pub(crate) fn pass(&mut self, minutes: u64)
+    pub(crate) fn apply_advance(&mut self, minutes: u64)
         requires allowed { first_refusal (rules (state_of self.old) (call.Advance minutes)) ≡ None }
         requires limit { self.old.image.minute + minutes ≤ MINUTE_MOST }
         ensures { Changes self.old (call.Advance minutes) self.new }
@@ -90,7 +90,7 @@ impl Protocol {
     }
 
     /// Collateral from outside into a wallet.
-    pub(crate) fn bring_in(&mut self, account: u32, coll: u64)
+    pub(crate) fn apply_fund(&mut self, account: u32, coll: u64)
         requires allowed { first_refusal (rules (state_of self.old) (call.Fund account coll))
             ≡ None }
         requires range { account < ACCOUNTS }
@@ -103,7 +103,7 @@ impl Protocol {
     }
 
     /// Collateral from a wallet to the outside.
-    pub(crate) fn take_out(&mut self, account: u32, coll: u64)
+    pub(crate) fn apply_take(&mut self, account: u32, coll: u64)
         requires allowed { first_refusal (rules (state_of self.old) (call.Take account coll))
             ≡ None }
         requires range { account < ACCOUNTS }
@@ -118,7 +118,7 @@ impl Protocol {
     }
 
     /// LUSD from one wallet into another, which may be the same.
-    pub(crate) fn send(&mut self, from: u32, to: u32, lusd: u64)
+    pub(crate) fn apply_send(&mut self, from: u32, to: u32, lusd: u64)
         requires allowed { first_refusal (rules (state_of self.old) (call.Send from to lusd))
             ≡ None }
         requires from { from < ACCOUNTS }

@@ -36,7 +36,7 @@ impl Protocol {
         ensures { (hint : HintWords)
             → Forecasts (state_of self.now) (call.Redeem account lusd bound hint) result }
     {
-        // Where no field is used, nothing is known of the protocol.
+        // odd: field read
         let _ = &self.records;
         let taken = match self.redemption(account, lusd, bound) {
             Ok(taken) => taken,
@@ -111,7 +111,7 @@ impl Protocol {
 
     /// Makes the planned cuts: troves are closed or cut down, LUSD leaves the account's wallet, and
     /// collateral comes into it.
-    pub(crate) fn redeem<L: Ledger>(
+    pub(crate) fn apply_redeem<L: Ledger>(
         &mut self,
         account: u32,
         taken: &RedeemPlan,

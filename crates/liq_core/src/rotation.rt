@@ -91,7 +91,7 @@ impl Protocol {
         ensures sound { IfOk result (λ i. first_unsound i 0 ≡ None) }
         ensures limit { IfOk result (λ i. i.limit ≡ LIM) }
     {
-        // Where no field is used, nothing is known of the protocol.
+        // odd: field read
         let _ = &self.records;
         let command = &planned.command;
         let row = Client {
@@ -120,7 +120,7 @@ impl Protocol {
 
     /// Begins the next generation, under the greater limit, of which no record is counted yet, and
     /// keeps the reply of the rotation.
-    pub(crate) fn rotate(&mut self, command: &Command, done: Done)
+    pub(crate) fn apply_rotate(&mut self, command: &Command, done: Done)
         requires rotates { command.now.call ≡ Rotate }
         requires allowed { ruling (state_of self.old) command.now ≡ Allowed }
         requires done { done ≡ done_of (state_of self.old) command.now.call }

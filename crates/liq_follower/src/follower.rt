@@ -1,4 +1,5 @@
-//! A replica that is fed the bytes of a journal.
+//! A follower: a protocol with its guide, the phase in which it is, and the bytes of what isn't
+//! whole.
 
 ghost use Rattle.std.specs.Prelude.{◌≡◌, ◌≤◌, ◌<◌, ◌+◌, ◌-◌, ◌^◌, ◌∷◌, ◌++◌, [], List, ℕ, length, min, take};
 ghost use Rattle.std.specs.Prelude.{true, false, None, IfOk, OnErr, OnOk, slice_index};
@@ -9,7 +10,7 @@ ghost use Rattle.liq_follower.specs.Judging.{phase_of};
 
 use crate::answers::{Fed, FedEnd};
 use crate::header::{Judged, begun_limit, header_size, judge};
-use crate::held::{Held, RECORD};
+use crate::held::{BODY_AND_DIGEST, Held};
 use crate::phase::Phase;
 use crate::record::{Redone, take};
 use liq_core::Protocol;
@@ -19,7 +20,7 @@ use liq_types::amounts::LIM;
 use std::alloc::Global;
 use std::marker::Model;
 
-// A count of bytes to which those of a record can be added.
+// The most bytes that are counted exactly: with those of one record more the count still fits.
 const MANY: u64 = u64::MAX - 128;
 
 /// A replica of the protocol that follows a journal's bytes. Each record makes its step once all
@@ -32,7 +33,7 @@ pub struct Follower {
     taken: u64,
 }
 
-// Written out, as that of the protocol is.
+// odd: drop written out
 impl Drop for Follower {
     fn drop(self) {
         let Follower {
@@ -59,7 +60,7 @@ impl Model for Follower {
 }
 
 impl Follower {
-    /// One that has taken no byte: its protocol is the opening under the greater limit.
+    /// A follower that has taken no byte: its protocol is the opening under the greater limit.
     pub fn new(alloc: Global) -> Follower
         ensures { IsFed [] result }
     {
@@ -171,7 +172,7 @@ impl Follower {
         ensures few { result ≡ true → self.now.taken + count < 2 ^ 64 }
     {
         match self.phase {
-            Phase::Inside => count < RECORD - self.held.len() && self.taken < MANY,
+            Phase::Inside => count < BODY_AND_DIGEST - self.held.len() && self.taken < MANY,
             _ => false,
         }
     }
@@ -321,7 +322,7 @@ impl Follower {
             → IsAt bytes self.new × LackOne bytes × Completes (slice_index piece.now 0) bytes) }
         ensures taken { self.new.taken ≡ self.old.taken }
     {
-        let missing = RECORD - 1 - self.held.len();
+        let missing = BODY_AND_DIGEST - 1 - self.held.len();
         if missing == 0 {
             self.complete(piece[0])?;
             return Ok(1);
@@ -357,7 +358,7 @@ impl Follower {
     }
 }
 
-// Where the follower is behind a whole header.
+// The phase behind a whole header.
 fn phase_of(judged: Judged) -> Phase
     ensures { result ≡ phase_of judged }
 {

@@ -1,15 +1,15 @@
-// The bytes of a header or a record that isn't whole.
+//! The bytes of a header or a record that isn't whole.
 ghost use Rattle.std.specs.Prelude.{◌≡◌, ◌<◌, ◌+◌, ◌++◌, ◌∷◌, [], length};
 
 use std::marker::Model;
 
 /// How many bytes a record has behind its gate.
-pub const RECORD: usize = 128;
+pub const BODY_AND_DIGEST: usize = 128;
 
 /// Fewer bytes than a record has. Contracts see them.
 #[derive(Drop)]
 pub struct Held {
-    bytes: [u8; RECORD],
+    bytes: [u8; BODY_AND_DIGEST],
     count: usize,
 }
 
@@ -29,7 +29,7 @@ impl Held {
         ensures { result ≡ [] }
     {
         Held {
-            bytes: [0; RECORD],
+            bytes: [0; BODY_AND_DIGEST],
             count: 0,
         }
     }
@@ -60,7 +60,7 @@ impl Held {
     pub fn push(&mut self, byte: u8)
         ensures { length self.old < 127 → self.new ≡ self.old ++ byte ∷ [] }
     {
-        if self.count < RECORD - 1 {
+        if self.count < BODY_AND_DIGEST - 1 {
             self.bytes[self.count] = byte;
             self.count += 1;
         }
@@ -82,7 +82,7 @@ impl Held {
     }
 
     /// All bytes of a record, of which one was missing.
-    pub fn with(&self, last: u8) -> [u8; RECORD]
+    pub fn with(&self, last: u8) -> [u8; BODY_AND_DIGEST]
         requires { length self.now ≡ 127 }
         ensures { result ≡ self.now ++ last ∷ [] }
     {

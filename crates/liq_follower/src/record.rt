@@ -1,4 +1,4 @@
-// A whole record, tested, and its command, made again.
+//! A whole record: tested, and the step of its command made.
 ghost use Rattle.std.specs.Prelude.{◌≡◌, false, take, drop, IfSome};
 ghost use Rattle.std.specs.Str.{bytes_eq};
 ghost use Rattle.liq_types.specs.State.{State};
@@ -7,7 +7,7 @@ ghost use Rattle.liq_journal.specs.Written.{is_rotate};
 ghost use Rattle.liq_header.specs.RecordDigest.{record_digest};
 ghost use Rattle.liq_follower.specs.Judging.{IsRedone, IsSpelled, IsTaken, IsTested};
 
-use crate::held::RECORD;
+use crate::held::BODY_AND_DIGEST;
 use liq_guided::{Guided, RedoFault};
 use liq_header::record_digest;
 use liq_types::{Call, Command, Steps};
@@ -25,7 +25,7 @@ pub enum Redone {
 }
 
 // The body of a record.
-fn body_of(raw: &[u8; RECORD]) -> [u8; 96]
+fn body_of(raw: &[u8; BODY_AND_DIGEST]) -> [u8; 96]
     ensures { result ≡ take 96 raw.now }
 {
     let mut body = [0; 96];
@@ -34,7 +34,7 @@ fn body_of(raw: &[u8; RECORD]) -> [u8; 96]
 }
 
 // Whether the digest behind the body is that of the record of this number in the first generation.
-fn has_digest(raw: &[u8; RECORD], index: u64) -> bool
+fn has_digest(raw: &[u8; BODY_AND_DIGEST], index: u64) -> bool
     ensures { result ≡ bytes_eq (drop 96 raw.now) (record_digest 1 index (take 96 raw.now)) }
 {
     &raw[96..] == record_digest(1, index, &body_of(raw)).as_slice()
@@ -42,7 +42,7 @@ fn has_digest(raw: &[u8; RECORD], index: u64) -> bool
 
 // The command that the body spells, whatever the digest: none where it is no command, or a
 // rotation.
-fn spelled(raw: &[u8; RECORD]) -> Option<Command>
+fn spelled(raw: &[u8; BODY_AND_DIGEST]) -> Option<Command>
     ensures spelled { IsSpelled raw.now result }
     ensures stays { IfSome result (λ c. is_rotate c.call ≡ false) }
 {
@@ -57,7 +57,7 @@ fn spelled(raw: &[u8; RECORD]) -> Option<Command>
 
 // The command of the record of this number in the first generation: its digest is right, and its
 // body is a command that is no rotation.
-fn tested(raw: &[u8; RECORD], index: u64) -> Option<Command>
+fn tested(raw: &[u8; BODY_AND_DIGEST], index: u64) -> Option<Command>
     ensures tested { IsTested index raw.now result }
     ensures stays { IfSome result (λ c. is_rotate c.call ≡ false) }
 {
@@ -89,12 +89,13 @@ fn make(protocol: &mut Guided, command: &Command) -> Redone
     requires stays { is_rotate command.now.call ≡ false }
     ensures { (s : State) → StandsFor protocol.old s → IsRedone s command.now protocol.new result }
 {
+    // odd: steps counted
     redo::<Brand>(protocol, command, Blank::new(1))
 }
 
 // Makes the step of the command of a whole record of this number, if it has one and the rules allow
 // it.
-pub fn take(protocol: &mut Guided, raw: &[u8; RECORD], index: u64) -> Redone
+pub fn take(protocol: &mut Guided, raw: &[u8; BODY_AND_DIGEST], index: u64) -> Redone
     ensures { (s : State) → StandsFor protocol.old s → IsTaken s index raw.now protocol.new result }
 {
     match tested(raw, index) {

@@ -1,4 +1,5 @@
-// A part of a disk that was read at once.
+//! A part of a disk that was read at once, so that an opening makes few device calls for many
+//! records.
 ghost use Rattle.std.specs.Prelude.{◌≡◌, ◌≤◌, [], length, take, IfOk, IfSome, OnOk};
 ghost use Rattle.liq_outside.specs.Disk.{Looked};
 ghost use Rattle.liq_outside.specs.Faults.{HasCause};
@@ -6,13 +7,13 @@ ghost use Rattle.liq_journal.specs.Looked.{IsRead};
 ghost use Rattle.liq_journal.specs.Parts.{IsPartOf, bytes_from};
 ghost use Rattle.liq_header.specs.Layout.{piece};
 
-use crate::journal::RECORD;
+use crate::journal::RECORD_BYTES;
 use crate::reads::read_at;
 use liq_outside::{Disk, Failed};
 use std::marker::Model;
 
-// As many bytes as 508 records have.
-const BLOCK_BYTES: usize = 508 * RECORD as usize;
+// How many bytes are read at once: those of 508 records, just below 64 KiB.
+const BLOCK_BYTES: usize = 508 * RECORD_BYTES as usize;
 
 /// A part of a disk, read at once, from which records are taken one after the other. A contract
 /// sees where it begins, and its bytes.

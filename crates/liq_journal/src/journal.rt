@@ -1,4 +1,14 @@
-// A journal that is open.
+//! A journal that is open: its disk, its generation, the limit of its version, where its records
+//! begin, and how many there are.
+//!
+//! ```text
+//! create, open --> open -- append --> open, with one more record
+//!                       -- turn   --> open on the other disk, as the next generation without
+//!                                     records; the old disk stays as it was
+//! ```
+//!
+//! The count may be one above the most records that a replay accepts, so that the first record too
+//! many is found and told.
 ghost use Rattle.std.specs.Prelude.{◌≡◌, ◌≤◌, ◌<◌, ◌+◌, ◌^◌, ◌↔◌, Some, List, ℕ, true, length, OnOk, OnErr, IfOk, IfErr, IfSome, IsSome};
 ghost use Rattle.std.specs.Result.{MatchResult};
 ghost use Rattle.liq_types.specs.declared.amounts.TheConstants.{LIM};
@@ -32,7 +42,7 @@ use std::marker::Model;
 use std::mem;
 
 // A gate byte, 96 bytes of a command and 32 of their digest.
-pub const RECORD: u64 = 129;
+pub const RECORD_BYTES: u64 = 129;
 
 /// A journal on a disk. A contract sees the disk, the generation, the limit, the place of the first
 /// record's gate and the number of records.
@@ -287,7 +297,7 @@ impl<D: Disk> Journal<D> {
         ensures calls { OnOk result (IsLater D.at 4 self.old.disk self.new.disk) }
         ensures called { Called D.at self.old.disk self.new.disk result }
     {
-        let gate = self.start + RECORD * self.count;
+        let gate = self.start + RECORD_BYTES * self.count;
         let record = record_bytes(self.generation, self.count + 1, body);
         write_gated(&mut self.disk, gate, &record)?;
         self.count += 1;
@@ -318,7 +328,7 @@ impl<D: Disk> Journal<D> {
         ensures looked { Looked D.at self.old.disk self.new.disk }
         ensures cause { CountsLook result (D.at self.old.disk).faults (D.at self.new.disk).faults }
     {
-        let place = self.start + RECORD * (index - 1);
+        let place = self.start + RECORD_BYTES * (index - 1);
         read_body(&mut self.disk, self.generation, index, place)
     }
 
@@ -352,7 +362,7 @@ impl<D: Disk> Journal<D> {
         ensures looked { Looked D.at self.old.disk self.new.disk }
         ensures cause { CountsLook result (D.at self.old.disk).faults (D.at self.new.disk).faults }
     {
-        let gate = self.start + RECORD * (index - 1);
+        let gate = self.start + RECORD_BYTES * (index - 1);
         read_command(&mut self.disk, block, self.generation, index, gate)
     }
 

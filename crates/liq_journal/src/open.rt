@@ -1,4 +1,5 @@
-// A journal opened: all of its disk tested, and the byte behind it shut.
+//! A journal opened: a sync, then all of its disk read and tested in the order of its faults, and
+//! the byte behind its last record shut where it isn't. Nothing else is written.
 ghost use Rattle.std.specs.Prelude.{◌≡◌, ◌≤◌, ◌+◌, ◌^◌, ◌⊎◌, ◌↔◌, Some, IsTrue, true, Ok, Err, List, ℕ, length, OnOk, IfOk, IfErr, IfSome, IsSome};
 ghost use Rattle.std.specs.Result.{MatchResult};
 ghost use Rattle.liq_journal.specs.Crash.{Stands};
@@ -15,7 +16,7 @@ ghost use Rattle.liq_header.specs.Header.{is_generation};
 use crate::answers::{LookFault, OpenWhy};
 use crate::bytes::write_synced;
 use crate::gate::settle;
-use crate::journal::RECORD;
+use crate::journal::RECORD_BYTES;
 use crate::looking::sound_header;
 use crate::reads::{PIECE_BYTES, read_at};
 use crate::records::count_records;
@@ -89,6 +90,7 @@ fn scan<D: Disk>(alloc: Global, disk: &mut D, odd: bool) -> Result<Scanned, Open
         Err(why) => return Err(why_of(why)),
     };
     let header = header_size(head.limit);
+    // odd: match for ?
     let checkpoint = match read_checkpoint(alloc, disk, header, head.size) {
         Ok(checkpoint) => checkpoint,
         Err(why) => return Err(why),
@@ -170,7 +172,7 @@ fn settle_scanned<D: Disk>(
         → (result ≡ found) × ((D.at disk.new).faults ≡ (D.at disk.old).faults) }
 {
     match found {
-        Ok(scanned) => match settle(disk, scanned.start + RECORD * scanned.count) {
+        Ok(scanned) => match settle(disk, scanned.start + RECORD_BYTES * scanned.count) {
             Ok(()) => Ok(scanned),
             Err(_) => Err(OpenWhy::DiskFault),
         },

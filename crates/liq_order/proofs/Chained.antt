@@ -10,7 +10,7 @@ use Rattle.liq_order.specs.Listed.{AreDistinct}
 use Rattle.liq_order.specs.Accounts.{Row, row_of}
 use Rattle.liq_order.specs.declared.places.Node.{Node}
 use Rattle.liq_order.specs.declared.places.NodeNo.{NodeNo}
-use Rattle.liq_order.specs.Nodes.{Memory, memory, nobody, entry_of, entries_at, first_or, last_or, IsOff, AreApart, AreWithin, Linked, node_of, IsRing, come}
+use Rattle.liq_order.specs.Nodes.{Memory, memory, nobody, entry_of, entries_at, first_or, last_or, IsOff, AreApart, AreWithin, Linked, node_of, IsRing, visited}
 use Rattle.liq_order.proofs.Kept.{along_order}
 
 -- ---- one more
@@ -140,9 +140,9 @@ chained_told f n i (e ∷ es) h account =
 -- the places to which one comes along the links are those of the entries
 pub record Chain (es : List Ranked) (nodes : List Node) (place : ℕ → Option NodeNo) (first last : Option NodeNo) :
     Type 0 where
-  pub ring : IsRing nodes (come nodes first) [] place first last
-  pub listed : entries_at (memory nodes) (come nodes first) ≡ es
-  pub long : length (come nodes first) ≡ length es
+  pub ring : IsRing nodes (visited nodes first) [] place first last
+  pub listed : entries_at (memory nodes) (visited nodes first) ≡ es
+  pub long : length (visited nodes first) ≡ length es
   pub nodes_long : length nodes ≡ length es
 
 pub chain : (es : List Ranked) (nodes : List Node) (place : ℕ → Option NodeNo) (first last : Option NodeNo)
@@ -171,7 +171,7 @@ chain es nodes place first last up apart made told first_is last_is =
       ascending = subst IsAscending (sym listed) up;
       distinct = subst AreDistinct (sym listed) apart;
     } in
-    let same : come nodes first ≡ places = along_order nodes places [] place first last ring in
+    let same : visited nodes first ≡ places = along_order nodes places [] place first last ring in
     record {
       ring = subst (λ l. IsRing nodes l [] place first last) (sym same) ring;
       listed = ap (λ l. entries_at f l) same ∙ listed;

@@ -7,7 +7,7 @@ use Rattle.liq_order.specs.declared.linked.Nodes.TheInside.{Inside}
 use Rattle.liq_order.specs.declared.places.Gap.{Gap}
 use Rattle.liq_order.specs.declared.places.Node.{Node}
 use Rattle.liq_order.specs.declared.places.NodeNo.{NodeNo}
-use Rattle.liq_order.specs.Nodes.{Ring, memory, at_place, entries, entry_of, entries_at, along, come, first_or, last_or, end_or, AreWithin, Linked, node_of, with_next, with_previous, IsWithin, IsSettled, IsRing, IsBehind, IsGap}
+use Rattle.liq_order.specs.Nodes.{Ring, memory, at_place, entries, entry_of, entries_at, along, visited, first_or, last_or, end_or, AreWithin, Linked, node_of, with_next, with_previous, IsWithin, IsSettled, IsRing, IsBehind, IsGap}
 use Rattle.liq_order.proofs.Chains.{all_front, all_back, first_within, last_within, along_is, linked_back}
 use Rattle.liq_order.proofs.Changed.{Taken, taken, put_ring, out_ring, node_split, met_length}
 use Rattle.liq_order.proofs.Found.{absent_from_key}
@@ -23,16 +23,16 @@ along_order nodes order free place first last r =
 -- what the vectors stand for
 abbrev pub ring_of : Inside → Ring
 ring_of i =
-    let order = come i.cells.nodes.items i.cells.first in
+    let order = visited i.cells.nodes.items i.cells.first in
     record { nodes = i.cells.nodes.items; order = order; room = i.most - length order }
 
 -- ---- an entry comes
 
 pub record Put (v : Ring) (key : ℤ) (id : ℕ) (nodes : List Node) (free : List NodeNo) (place : ℕ
     → Option NodeNo) (first last : Option NodeNo) : Type 0 where
-  pub ring : IsRing nodes (come nodes first) free place first last
-  pub listed : entries_at (memory nodes) (come nodes first) ≡ with_ranked (entries v) (key, id)
-  pub more : length (come nodes first) ≡ length v.order + 1
+  pub ring : IsRing nodes (visited nodes first) free place first last
+  pub listed : entries_at (memory nodes) (visited nodes first) ≡ with_ranked (entries v) (key, id)
+  pub more : length (visited nodes first) ≡ length v.order + 1
   pub grown : (most : ℕ) → length v.order < most → length v.nodes ≤ most → length nodes ≤ most
 
 abbrev pub node_for : ℤ → ℕ → Gap → Node
@@ -98,7 +98,7 @@ put_whole v free place first last r key id gap g none at nodes' free' s place' t
     (first_is ∙ ap (λ (p : Gap). end_or p.previous first (Some at)) b.gap_is)
     (last_is ∙ ap (λ (p : Gap). end_or p.next last (Some at)) b.gap_is) in
     let order = b.front ++ at ∷ b.back in
-    let same : come nodes'' first' ≡ order = along_order nodes'' order free' place' first' last' all.0 in
+    let same : visited nodes'' first' ≡ order = along_order nodes'' order free' place' first' last' all.0 in
     record {
       ring = subst (λ l. IsRing nodes'' l free' place' first' last') (sym same) all.0;
       listed = ap (λ l. entries_at (memory nodes'') l) same ∙ all.1;
@@ -117,9 +117,9 @@ put_whole v free place first last r key id gap g none at nodes' free' s place' t
 
 pub record Out (v : Ring) (id : ℕ) (nodes : List Node) (free : List NodeNo) (place : ℕ
     → Option NodeNo) (first last : Option NodeNo) : Type 0 where
-  pub ring : IsRing nodes (come nodes first) free place first last
-  pub listed : entries_at (memory nodes) (come nodes first) ≡ without_ranked (entries v) id
-  pub less : length (come nodes first) + 1 ≡ length v.order
+  pub ring : IsRing nodes (visited nodes first) free place first last
+  pub listed : entries_at (memory nodes) (visited nodes first) ≡ without_ranked (entries v) id
+  pub less : length (visited nodes first) + 1 ≡ length v.order
   pub same : length nodes ≡ length v.nodes
 
 pub out_within : (v : Ring) (free : List NodeNo) (place : ℕ → Option NodeNo) (first last : Option NodeNo)
@@ -163,7 +163,7 @@ out_whole v free place first last r id at found previous next p n free' freed pl
     let order = s.front ++ s.back in
     let here : IsRing nodes' order free' place' first' last' = subst (λ l. IsRing nodes' order l place' first' last')
     (sym freed) all.0 in
-    let same : come nodes' first' ≡ order = along_order nodes' order free' place' first' last' here in
+    let same : visited nodes' first' ≡ order = along_order nodes' order free' place' first' last' here in
     record {
       ring = subst (λ l. IsRing nodes' l free' place' first' last') (sym same) here;
       listed = ap (λ l. entries_at (memory nodes') l) same ∙ all.1;

@@ -34,8 +34,8 @@ along f (suc n) None = []
 along f (suc n) (Some p) = p ∷ along f n (f p).next
 
 -- the places that one comes to from the first, in cells of so many nodes
-abbrev pub come : List Node → Option NodeNo → List NodeNo
-come nodes first = along (memory nodes) (length nodes) first
+abbrev pub visited : List Node → Option NodeNo → List NodeNo
+visited nodes first = along (memory nodes) (length nodes) first
 
 abbrev pub first_or : Option NodeNo → List NodeNo → Option NodeNo
 first_or other [] = other

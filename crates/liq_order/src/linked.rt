@@ -26,18 +26,18 @@ pub struct Nodes {
 
 impl Model for Nodes {
     ghost use Rattle.std.specs.Prelude.{◌-◌, length, vec_capacity};
-    ghost use Rattle.liq_order.specs.Nodes.{Ring, IsRing, IsRoomy, come};
+    ghost use Rattle.liq_order.specs.Nodes.{Ring, IsRing, IsRoomy, visited};
     ghost use Rattle.liq_order.specs.Accounts.{place_of};
 
     ghost Value = { Ring };
 
     ghost view = { λ n.
-        let order = come n.cells.nodes.items n.cells.first in
+        let order = visited n.cells.nodes.items n.cells.first in
         record { nodes = n.cells.nodes.items; order = order; room = n.most - length order } };
 
     ghost invariant = { λ n.
         let cells = n.cells in
-        let order = come cells.nodes.items cells.first in
+        let order = visited cells.nodes.items cells.first in
         IsRing cells.nodes.items order cells.free.items (place_of n.accounts) cells.first cells.last
         × IsRoomy n.most (length cells.nodes.items) (vec_capacity cells.nodes)
         (vec_capacity cells.free) n.accounts.room (length order) };
@@ -104,6 +104,7 @@ impl Nodes {
         ensures same { result.now ≡ self.now }
         ensures all { Visits self.now (first_or None self.now.order) None (entries self.now) }
     {
+        // odd: field read
         let _ = &self.cells;
         self
     }
@@ -179,6 +180,7 @@ impl Nodes {
         ensures steps { steps.new ≤ steps.old + 2 }
         ensures least { steps.old ≤ steps.new }
     {
+        // odd: field read
         let _ = &self.cells;
         let at = self.at(id, steps)?;
         self.past(at, entry, steps)
@@ -257,6 +259,7 @@ impl Nodes {
         ensures least { steps.old ≤ steps.new }
         ensures ended { gap.next ≡ None → steps.new ≡ steps.old }
     {
+        // odd: field read
         let _ = &self.cells;
         match gap.next {
             Some(at) => self.past(at, entry, steps),
@@ -372,6 +375,7 @@ impl Nodes {
         ensures { result ≡ before_in (entries self.now) id }
     {
         let mut steps = Steps::<L>::new(blank);
+        // odd: field read
         let _ = &self.cells;
         let at = self.at(id, &mut steps)?;
         let previous = self.read(at, &mut steps).previous?;

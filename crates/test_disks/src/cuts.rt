@@ -11,7 +11,7 @@ use std::test::Fail;
 // Below so many bytes there is no journal, of neither version.
 const LEAST_HEADER: u64 = 57;
 
-const RECORD: u64 = 129;
+const RECORD_BYTES: u64 = 129;
 
 // What is found where the bytes end before a place, behind a header of so many bytes.
 fn cut_at(header: u64, at: u64) -> Found {
@@ -23,7 +23,7 @@ fn cut_at(header: u64, at: u64) -> Found {
             place: at,
         }
     } else {
-        Found::Records((at - header) / RECORD)
+        Found::Records((at - header) / RECORD_BYTES)
     }
 }
 
@@ -32,11 +32,11 @@ fn cut_at(header: u64, at: u64) -> Found {
 fn changed_at(header: u64, at: u64) -> Found {
     if at < header {
         of_header(header, at, 1)
-    } else if (at - header) % RECORD == 0 {
+    } else if (at - header) % RECORD_BYTES == 0 {
         // The gate behind the last record opens nothing: no whole record stands there.
-        Found::Records((at - header) / RECORD)
+        Found::Records((at - header) / RECORD_BYTES)
     } else {
-        Found::OtherDigest((at - header) / RECORD + 1)
+        Found::OtherDigest((at - header) / RECORD_BYTES + 1)
     }
 }
 

@@ -131,65 +131,65 @@ liquidation old sound inside plan view planned fit room liquidator is vs same =
     (liquidation_planned old sound its (subst (λ (p : Plan). IsPlannedOn old p) (sym view) planned) fit
     (subst (λ (p : Plan). HasRoom old p) (sym view) room) liquidator is)
 
-pub liquidate-requires-clause-allowed : goal.liquidate-requires-clause-allowed
-liquidate-requires-clause-allowed g c =
+pub apply_liquidate-requires-clause-allowed : goal.apply_liquidate-requires-clause-allowed
+apply_liquidate-requires-clause-allowed g c =
     let sound = subst (λ (core : Core). IsSoundImage core.image core.records) c.self.view_is c.self.invariant.image in
     (liquidation c.args.self.now sound c.planned.inside c.args.planned c.planned.view_is c.requires.planned
     c.planned.invariant c.requires.room c.in-Liquidate.liquidator c.in-Liquidate.is c.victims.result.now
     c.victims.ensures).allowed
 
-pub liquidate-requires-clause-done : goal.liquidate-requires-clause-done
-liquidate-requires-clause-done g c =
+pub apply_liquidate-requires-clause-done : goal.apply_liquidate-requires-clause-done
+apply_liquidate-requires-clause-done g c =
     let sound = subst (λ (core : Core). IsSoundImage core.image core.records) c.self.view_is c.self.invariant.image in
     (liquidation c.args.self.now sound c.planned.inside c.args.planned c.planned.view_is c.requires.planned
     c.planned.invariant c.requires.room c.in-Liquidate.liquidator c.in-Liquidate.is c.victims.result.now
     c.victims.ensures).done_is
 
-pub liquidate-requires-clause-effect : goal.liquidate-requires-clause-effect
-liquidate-requires-clause-effect g c =
+pub apply_liquidate-requires-clause-effect : goal.apply_liquidate-requires-clause-effect
+apply_liquidate-requires-clause-effect g c =
     let sound = subst (λ (core : Core). IsSoundImage core.image core.records) c.self.view_is c.self.invariant.image in
     (liquidation c.args.self.now sound c.planned.inside c.args.planned c.planned.view_is c.requires.planned
     c.planned.invariant c.requires.room c.in-Liquidate.liquidator c.in-Liquidate.is c.victims.result.now
     c.victims.ensures).strike.effect_is
 
-pub liquidate-requires-clause-victims : goal.liquidate-requires-clause-victims
-liquidate-requires-clause-victims g c =
+pub apply_liquidate-requires-clause-victims : goal.apply_liquidate-requires-clause-victims
+apply_liquidate-requires-clause-victims g c =
     let sound = subst (λ (core : Core). IsSoundImage core.image core.records) c.self.view_is c.self.invariant.image in
     (liquidation c.args.self.now sound c.planned.inside c.args.planned c.planned.view_is c.requires.planned
     c.planned.invariant c.requires.room c.in-Liquidate.liquidator c.in-Liquidate.is c.victims.result.now
     c.victims.ensures).strike.victims
 
-pub liquidate-requires-clause-few : goal.liquidate-requires-clause-few
-liquidate-requires-clause-few g c =
+pub apply_liquidate-requires-clause-few : goal.apply_liquidate-requires-clause-few
+apply_liquidate-requires-clause-few g c =
     let sound = subst (λ (core : Core). IsSoundImage core.image core.records) c.self.view_is c.self.invariant.image in
     (liquidation c.args.self.now sound c.planned.inside c.args.planned c.planned.view_is c.requires.planned
     c.planned.invariant c.requires.room c.in-Liquidate.liquidator c.in-Liquidate.is c.victims.result.now
     c.victims.ensures).strike.few
 
-pub liquidate-requires-clause-wallet : goal.liquidate-requires-clause-wallet
-liquidate-requires-clause-wallet g c =
+pub apply_liquidate-requires-clause-wallet : goal.apply_liquidate-requires-clause-wallet
+apply_liquidate-requires-clause-wallet g c =
     let sound = subst (λ (core : Core). IsSoundImage core.image core.records) c.self.view_is c.self.invariant.image in
     (liquidation c.args.self.now sound c.planned.inside c.args.planned c.planned.view_is c.requires.planned
     c.planned.invariant c.requires.room c.in-Liquidate.liquidator c.in-Liquidate.is c.victims.result.now
     c.victims.ensures).wallet
 
-pub liquidate-requires-clause-owners : goal.liquidate-requires-clause-owners
-liquidate-requires-clause-owners g c =
+pub apply_liquidate-requires-clause-owners : goal.apply_liquidate-requires-clause-owners
+apply_liquidate-requires-clause-owners g c =
     let sound = subst (λ (core : Core). IsSoundImage core.image core.records) c.self.view_is c.self.invariant.image in
     (liquidation c.args.self.now sound c.planned.inside c.args.planned c.planned.view_is c.requires.planned
     c.planned.invariant c.requires.room c.in-Liquidate.liquidator c.in-Liquidate.is c.victims.result.now
     c.victims.ensures).owners
 
 -- what is planned, where its call rotates
-pub rotate-requires-clause-allowed : goal.rotate-requires-clause-allowed
-rotate-requires-clause-allowed g c =
+pub apply_rotate-requires-clause-allowed : goal.apply_rotate-requires-clause-allowed
+apply_rotate-requires-clause-allowed g c =
     let sound = subst (λ (core : Core). IsSoundImage core.image core.records) c.self.view_is c.self.invariant.image in
     let s = state_of c.args.self.now in
     let plan = c.requires.planned s (sound_stands c.args.self.now sound) in
     subst (λ (p : Plan). ruling s p.command ≡ Allowed) (sym c.planned.view_is) plan.allowed
 
-pub rotate-requires-clause-done : goal.rotate-requires-clause-done
-rotate-requires-clause-done g c =
+pub apply_rotate-requires-clause-done : goal.apply_rotate-requires-clause-done
+apply_rotate-requires-clause-done g c =
     let sound = subst (λ (core : Core). IsSoundImage core.image core.records) c.self.view_is c.self.invariant.image in
     let s = state_of c.args.self.now in
     let plan = c.requires.planned s (sound_stands c.args.self.now sound) in
@@ -216,17 +216,17 @@ returns-clause-state g c s h =
           subst (λ (core : Core). StandsFor core (after_ruling s command (ruling s command)).0) (sym w.self-is)
           (subst (λ r. StandsFor w.note.new.self (after_ruling s command r).0) (sym plan.allowed) done)
       | in-Liquidate2 w ↦
-          let its = subst (λ (p : Plan). StandsFor w.liquidate.new.self (after (state_of old) p.command))
-          c.planned.view_is w.liquidate.ensures in
+          let its = subst (λ (p : Plan). StandsFor w.apply_liquidate.new.self (after (state_of old) p.command))
+          c.planned.view_is w.apply_liquidate.ensures in
           let allowed = (c.requires.planned (state_of old) (sound_stands old sound)).allowed in
           subst (λ (core : Core). StandsFor core (after_ruling s command (ruling s command)).0) (sym w.self-is)
-          (stepped_stands old w.liquidate.new.self command sound allowed its s h)
+          (stepped_stands old w.apply_liquidate.new.self command sound allowed its s h)
       | in-Rotate w ↦
-          let its = subst (λ (p : Plan). StandsFor w.rotate.new.self (after (state_of old) p.command)) c.planned.view_is
-          w.rotate.ensures.state in
+          let its = subst (λ (p : Plan). StandsFor w.apply_rotate.new.self (after (state_of old) p.command)) c.planned.view_is
+          w.apply_rotate.ensures.state in
           let allowed = (c.requires.planned (state_of old) (sound_stands old sound)).allowed in
           subst (λ (core : Core). StandsFor core (after_ruling s command (ruling s command)).0) (sym w.self-is)
-          (stepped_stands old w.rotate.new.self command sound allowed its s h)
+          (stepped_stands old w.apply_rotate.new.self command sound allowed its s h)
     ]
 
 pub returns-clause-list : goal.returns-clause-list

@@ -1,5 +1,5 @@
 use Rattle.std.proofs.Common.{sym, subst, arith}
-use Rattle.liq_order.specs.Nodes.{IsRing, come}
+use Rattle.liq_order.specs.Nodes.{IsRing, visited}
 use Rattle.liq_order.specs.Accounts.{place_of}
 use Rattle.liq_order.proofs.Chained.{chain}
 use Rattle.liq_order.proofs.linked.Nodes.of.Goals as goal
@@ -13,7 +13,7 @@ invariant_of-result c =
     let place = place_of accounts.field-0 in
     let all = chain c.args.entries.now nodes place cells.first cells.last c.requires.ascending c.requires.distinct
     made.nodes accounts.ensures made.first made.last in (
-      subst (λ l. IsRing nodes (come nodes cells.first) l place cells.first cells.last) (sym made.free) all.ring,
+      subst (λ l. IsRing nodes (visited nodes cells.first) l place cells.first cells.last) (sym made.free) all.ring,
       record {
         used = omega (arith, all.nodes_long);
         for_nodes = made.nodes_room;

@@ -3,7 +3,7 @@ use Rattle.std.proofs.lemmas.Int.{to_z-of_z}
 use Rattle.liq_types.specs.Ranked.{Ranked, key_in, with_ranked}
 use Rattle.liq_order.specs.declared.places.NodeNo.{NodeNo}
 use Rattle.liq_order.specs.Accounts.{place_of}
-use Rattle.liq_order.specs.Nodes.{Ring, come, memory, entries, IsGap}
+use Rattle.liq_order.specs.Nodes.{Ring, visited, memory, entries, IsGap}
 use Rattle.liq_order.proofs.Chains.{all_back}
 use Rattle.liq_order.proofs.Changed.{node_absent}
 use Rattle.liq_order.proofs.Found.{absent_from_key}
@@ -15,7 +15,7 @@ pub link-at-requires-clause-within : goal.link-at-requires-clause-within
 link-at-requires-clause-within g c =
     let cells = c.self.inside.cells in
     let nodes = cells.nodes.items in
-    all_back (λ (q : NodeNo). q.0 < length nodes) (come nodes cells.first) cells.free.items c.self.invariant.0.within
+    all_back (λ (q : NodeNo). q.0 < length nodes) (visited nodes cells.first) cells.free.items c.self.invariant.0.within
 
 pub link-at-requires-clause-before : goal.link-at-requires-clause-before
 link-at-requires-clause-before g c =
@@ -51,7 +51,7 @@ put-requires-clause-absent g c =
     let nodes = cells.nodes.items in
     let none = subst (λ (r : Ring). key_in (entries r) c.args.id ≡ None) (sym c.self.view_is) c.requires.absent in
     let away = absent_from_key _ c.args.id none in
-    c.self.invariant.0.told c.args.id ∙ node_absent (memory nodes) (come nodes cells.first) c.args.id away
+    c.self.invariant.0.told c.args.id ∙ node_absent (memory nodes) (visited nodes cells.first) c.args.id away
 
 whole : (g : given.Over) (c : goal.After-put g) → let new = c.link-at.new.self in
     Put (ring_of c.self.inside) c.args.key c.args.id new.nodes.items new.free.items (place_of c.put.new.self)

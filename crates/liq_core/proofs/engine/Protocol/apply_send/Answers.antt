@@ -5,7 +5,7 @@ use Rattle.liq_core.specs.Core.{Core}
 use Rattle.liq_core.specs.Sound.{core_of}
 use Rattle.liq_core.proofs.Paying.{charge_passes, sent, sent_sound}
 use Rattle.liq_core.proofs.SoundCores.{sent_within}
-use Rattle.liq_core.proofs.engine.Protocol.send.Goals as goal
+use Rattle.liq_core.proofs.engine.Protocol.apply_send.Goals as goal
 
 pub send-requires-clause-limit : goal.send-requires-clause-limit
 send-requires-clause-limit c enough = sent_within (core_of c.self.inside) c.self.invariant.image c.args.from c.args.to

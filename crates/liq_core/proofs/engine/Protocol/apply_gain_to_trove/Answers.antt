@@ -3,7 +3,7 @@ use Rattle.liq_core.specs.Core.{Core}
 use Rattle.std.specs.Prelude.{Result, Ok, Err}
 use Rattle.liq_core.proofs.Depositing.{moves_so, move_answer, move_changes, move_sound}
 use Rattle.liq_core.proofs.Lending.{books_stand, coll_held, debt_held}
-use Rattle.liq_core.proofs.engine.Protocol.gain_to_trove.Goals as goal
+use Rattle.liq_core.proofs.engine.Protocol.apply_gain_to_trove.Goals as goal
 
 refused_not : {A B : Type 0} (r : Result A B) (e : B) (x : A) → r ≡ Err e → r ≡ Ok x → ⊥
 refused_not r e x is not = cc

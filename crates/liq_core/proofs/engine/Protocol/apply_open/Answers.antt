@@ -6,7 +6,7 @@ use Rattle.liq_standing.proofs.Others.{others_of}
 use Rattle.liq_core.specs.Core.{Core}
 use Rattle.liq_core.proofs.Lending.{books_stand, opens_so, open_changes, open_sound}
 use Rattle.liq_core.proofs.Placing.{not_listed, placed_list}
-use Rattle.liq_core.proofs.engine.Protocol.open_trove.Goals as goal
+use Rattle.liq_core.proofs.engine.Protocol.apply_open.Goals as goal
 
 pub exchange-requires-clause-coll : goal.exchange-requires-clause-coll
 exchange-requires-clause-coll g c =

@@ -1,7 +1,7 @@
 use Rattle.std.proofs.Common.{◌≡◌, sym, ◌∙◌}
 use Rattle.std.specs.Prelude.{Result, Ok, Err}
 use Rattle.liq_core.proofs.Depositing.{withdraws_so, withdraw_answer, withdraw_changes, withdraw_sound}
-use Rattle.liq_core.proofs.engine.Protocol.withdraw.Goals as goal
+use Rattle.liq_core.proofs.engine.Protocol.apply_withdraw.Goals as goal
 
 refused_not : {A B : Type 0} (r : Result A B) (e : B) (x : A) → r ≡ Err e → r ≡ Ok x → ⊥
 refused_not r e x is not = cc

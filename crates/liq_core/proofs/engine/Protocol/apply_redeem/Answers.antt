@@ -4,7 +4,7 @@ use Rattle.liq_core.specs.Core.{AreAmong, Core}
 use Rattle.liq_core.specs.Terms.{closed}
 use Rattle.liq_core.proofs.Rooms.{among_closed}
 use Rattle.liq_core.proofs.Redeeming.{redeem_parts, redeem_planned, wallets_ascend, redeem_changes, redeem_sound}
-use Rattle.liq_core.proofs.engine.Protocol.redeem.Goals as goal
+use Rattle.liq_core.proofs.engine.Protocol.apply_redeem.Goals as goal
 
 pub apply-requires-clause-sound : goal.apply-requires-clause-sound
 apply-requires-clause-sound g c = redeem_parts c.self.inside c.self.invariant c.args.account

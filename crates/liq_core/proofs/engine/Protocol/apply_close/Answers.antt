@@ -1,6 +1,6 @@
 use Rattle.std.proofs.Common.{arith}
 use Rattle.liq_core.proofs.Lending.{books_stand, coll_held, debt_held, closes_so, close_changes, close_sound}
-use Rattle.liq_core.proofs.engine.Protocol.close_trove.Goals as goal
+use Rattle.liq_core.proofs.engine.Protocol.apply_close.Goals as goal
 
 pub exchange-requires-clause-lusd : goal.exchange-requires-clause-lusd
 exchange-requires-clause-lusd c =

@@ -3,7 +3,7 @@ use Rattle.liq_turns.specs.Generations.{next_generation}
 use Rattle.liq_core.specs.Core.{Core, current, state_of}
 use Rattle.liq_rules.specs.Step.{Allowed, done_of, ruling}
 use Rattle.liq_core.proofs.Rotating.{turned_sound, turned_stands}
-use Rattle.liq_core.proofs.engine.Protocol.rotate.Goals as goal
+use Rattle.liq_core.proofs.engine.Protocol.apply_rotate.Goals as goal
 
 pub invariant_of-self : goal.invariant_of-self
 invariant_of-self c =

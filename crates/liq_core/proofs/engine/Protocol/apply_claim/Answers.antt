@@ -1,6 +1,6 @@
 use Rattle.std.proofs.Common.{arith}
 use Rattle.liq_core.proofs.Depositing.{claims_so, claim_changes, claim_sound}
-use Rattle.liq_core.proofs.engine.Protocol.claim.Goals as goal
+use Rattle.liq_core.proofs.engine.Protocol.apply_claim.Goals as goal
 
 pub overflow_sub-self : goal.overflow_sub-self
 overflow_sub-self c = let may = claims_so c.self.inside c.args.self.now c.self.view_is c.self.invariant c.args.account

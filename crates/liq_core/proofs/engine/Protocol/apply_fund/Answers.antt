@@ -3,7 +3,7 @@ use Rattle.liq_core.specs.Core.{Core}
 use Rattle.liq_core.specs.Sound.{core_of}
 use Rattle.liq_core.proofs.Paying.{funded, funded_sound}
 use Rattle.liq_core.proofs.SoundCores.{limit_within, wallet_coll, wallet_lusd}
-use Rattle.liq_core.proofs.engine.Protocol.bring_in.Goals as goal
+use Rattle.liq_core.proofs.engine.Protocol.apply_fund.Goals as goal
 
 pub pay-requires-clause-coll : goal.pay-requires-clause-coll
 pay-requires-clause-coll c =

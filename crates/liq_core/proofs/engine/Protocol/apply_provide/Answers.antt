@@ -1,7 +1,7 @@
 use Rattle.std.proofs.Common.{refl, arith}
 use Rattle.liq_stability.specs.Kept.{position_at}
 use Rattle.liq_core.proofs.Depositing.{provides_so, provide_changes, provide_sound}
-use Rattle.liq_core.proofs.engine.Protocol.provide.Goals as goal
+use Rattle.liq_core.proofs.engine.Protocol.apply_provide.Goals as goal
 
 pub provide-gain-requires-clause-limit : goal.provide-gain-requires-clause-limit
 provide-gain-requires-clause-limit c =

@@ -5,7 +5,7 @@ use Rattle.liq_core.specs.Core.{Core}
 use Rattle.liq_core.specs.Sound.{core_of}
 use Rattle.liq_core.proofs.Paying.{charge_passes, taken, taken_sound}
 use Rattle.liq_core.proofs.SoundCores.{wallet_coll}
-use Rattle.liq_core.proofs.engine.Protocol.take_out.Goals as goal
+use Rattle.liq_core.proofs.engine.Protocol.apply_take.Goals as goal
 
 pub overflow_sub-self : goal.overflow_sub-self
 overflow_sub-self c =

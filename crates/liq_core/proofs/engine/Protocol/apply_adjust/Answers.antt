@@ -1,7 +1,7 @@
 use Rattle.std.proofs.Common.{arith, ap, length}
 use Rattle.liq_core.specs.Core.{Core}
 use Rattle.liq_core.proofs.Lending.{books_stand, coll_held, debt_held, adjusts_so, adjust_changes, adjust_sound}
-use Rattle.liq_core.proofs.engine.Protocol.adjust_trove.Goals as goal
+use Rattle.liq_core.proofs.engine.Protocol.apply_adjust.Goals as goal
 
 pub exchange-requires-clause-coll : goal.exchange-requires-clause-coll
 exchange-requires-clause-coll g c =
