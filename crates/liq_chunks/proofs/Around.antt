@@ -11,8 +11,8 @@ use Rattle.liq_types.specs.Ranked.{Ranked, rank_order, IsAscending, first_of}
 use Rattle.liq_types.proofs.RankedLists.{Behind}
 use Rattle.liq_chunks.specs.Chunks.{joined, last_of}
 use Rattle.liq_chunks.specs.Entries.{with_entry, without_entry, entry_before, entry_after}
-use Rattle.liq_chunks.proofs.Lists.{Ahead, after_ahead, after_past, before_ahead, before_past, entered_ahead, entered_past, left_ahead, left_past, is_less, turned}
-use Rattle.liq_chunks.proofs.Standing.{Leads, before_middle, before_more, behind_from, first_half, last_half}
+use Rattle.liq_chunks.proofs.Lists.{Ahead, after_ahead, after_past, before_ahead, before_past, entered_ahead, entered_past, left_ahead, left_past, is_less, turned, before_middle}
+use Rattle.liq_chunks.proofs.Standing.{Leads, before_more, behind_from, first_half, last_half}
 
 pub around : (fs : List Ranked) (rs : List (List Ranked)) (i : ℕ) (d : Ranked) → i < length fs → length fs ≡ length rs
     → joined fs rs ≡ joined (take i fs) (take i rs) ++ ((get_or fs i d ∷ get_or rs i []) ++ joined (drop (suc i) fs)

@@ -1,3 +1,4 @@
+mod Added
 mod Around
 pub mod Lists
 mod Nearest

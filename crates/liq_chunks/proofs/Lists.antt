@@ -39,6 +39,15 @@ is_less Greater h = cc
 abbrev pub Ahead : Ranked → List Ranked → Type 0
 Ahead e list = AllByRecursion (λ (f : Ranked). rank_order f e ≡ Less) list
 
+-- what stands before an entry of an ascending list comes before it
+pub before_middle : (front : List Ranked) (f : Ranked) (back : List Ranked) → IsAscending (front ++ (f ∷ back))
+    → Ahead f front
+before_middle [] f back h = tt
+before_middle (a ∷ front) f back h = (at front h.0, before_middle front f back h.1) where
+  at : (xs : List Ranked) → Behind a (xs ++ (f ∷ back)) → rank_order a f ≡ Less
+  at [] k = k.0
+  at (x ∷ xs) k = at xs k.1
+
 pub each : (P Q : Ranked → Type 0) → ((f : Ranked) → P f → Q f) → (list : List Ranked) → AllByRecursion P list
     → AllByRecursion Q list
 each P Q so list h = recursion_from_All Q list (All-weaker P Q so list (All-from_recursion P list h))

@@ -25,15 +25,6 @@ pub last_half : (front back : List Ranked) → IsAscending (front ++ back) → I
 last_half [] back h = h
 last_half (a ∷ front) back h = last_half front back h.1
 
--- what stands before an entry of an ascending list comes before it
-pub before_middle : (front : List Ranked) (f : Ranked) (back : List Ranked) → IsAscending (front ++ (f ∷ back))
-    → Ahead f front
-before_middle [] f back h = tt
-before_middle (a ∷ front) f back h = (at front h.0, before_middle front f back h.1) where
-  at : (xs : List Ranked) → Behind a (xs ++ (f ∷ back)) → rank_order a f ≡ Less
-  at [] k = k.0
-  at (x ∷ xs) k = at xs k.1
-
 pub before_more : (front : List Ranked) (f e : Ranked) → is_lt (rank_order e f) ≡ false → Ahead f front → Ahead e front
 before_more [] f e h k = tt
 before_more (a ∷ front) f e h k = (by (rank_order e f) refl h, before_more front f e h k.1) where

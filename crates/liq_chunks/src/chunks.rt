@@ -58,6 +58,22 @@ impl Chunks {
         }
     }
 
+    /// These entries at once, in chunks of 32, so that each has room for as many more.
+    pub fn of(alloc: Global, entries: &[Entry]) -> Result<Chunks, NoMemory>
+        requires { IsAscending entries.now }
+        ensures { IfOk result (λ chunks. chunks ≡ entries.now) }
+    {
+        let mut firsts = Vec::new(alloc);
+        let mut rests = Vec::new(alloc);
+        let mut left = entries;
+        while let [first, more @ ..] = left {
+            let (rest, behind) = more.split_at(more.len().min(HALF));
+            add_chunk(&mut firsts, &mut rests, *first, rest)?;
+            left = behind;
+        }
+        Ok(Chunks { firsts, rests })
+    }
+
     /// Puts an entry in, if it isn't there. Where there is no memory all is as before.
     #[tactic(auto, using(crate::proofs::Lists::entered_ascending))]
     pub fn insert(&mut self, entry: Entry) -> Result<(), NoMemory>
@@ -209,6 +225,32 @@ fn stands_at(rest: &[Entry], at: usize, entry: Entry) -> bool
         Some(found) => is_same(entry, *found),
         None => false,
     }
+}
+
+// Puts a chunk behind all others.
+fn add_chunk(
+    firsts: &mut Vec<Entry>,
+    rests: &mut Vec<Vec<Entry>>,
+    first: Entry,
+    rest: &[Entry],
+) -> Result<(), NoMemory>
+    requires len { length firsts.old.items ≡ length rests.old.items }
+    requires short { AreShort (lists rests.old) }
+    requires few { length rest.now ≤ HALF }
+    ensures len { OnOk result (length firsts.new.items ≡ length rests.new.items) }
+    ensures short { OnOk result (AreShort (lists rests.new)) }
+    ensures added { OnOk result (entries firsts.new rests.new
+        ≡ entries firsts.old rests.old ++ (first ∷ rest.now)) }
+{
+    let mut kept = Vec::with_capacity(*rests.allocator(), MOST)?;
+    kept.extend_from_slice(rest)?;
+    let Ok(()) = firsts.push(first) else {
+        return Err(NoMemory);
+    };
+    let Ok(()) = rests.push(kept) else {
+        return Err(NoMemory);
+    };
+    Ok(())
 }
 
 // The first chunk, of one entry.

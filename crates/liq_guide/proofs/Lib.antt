@@ -1,3 +1,4 @@
+mod Behind
 mod Beside
 pub mod Following
 mod Halves

@@ -1,9 +1,10 @@
 //! The entries of the ordered list, which follow its changes.
 
-ghost use Rattle.std.specs.Prelude.{◌≡◌, ℤ, ◌<ℤ◌, [], OnOk, OnErr};
-ghost use Rattle.liq_types.specs.Ranked.{neighbours, key_in};
+ghost use Rattle.std.specs.Prelude.{◌≡◌, ℤ, ◌<ℤ◌, [], IfOk, OnOk, OnErr};
+ghost use Rattle.liq_types.specs.Ranked.{neighbours, key_in, IsAscending};
 ghost use Rattle.liq_types.specs.Views.{View, all_followed};
 ghost use Rattle.liq_guide.specs.Followed.{last_put, hint_of_last};
+ghost use Rattle.liq_guide.specs.Rows.{StandOnce};
 
 use crate::rows::Rows;
 use crate::sides::{accounts_aside, first_account};
@@ -38,6 +39,18 @@ impl Guide {
         Guide {
             rows: Rows::new(alloc),
         }
+    }
+
+    /// A guide of this list at once, in which no account stands twice. `NoMemory` where there is no
+    /// memory for it.
+    pub fn of(alloc: Global, list: &[(i128, u32)]) -> Result<Guide, NoMemory>
+        requires ascending { IsAscending list.now }
+        requires once { StandOnce list.now }
+        ensures { IfOk result (λ guide. guide ≡ list.now) }
+    {
+        Ok(Guide {
+            rows: Rows::of(alloc, list)?,
+        })
     }
 
     /// Follows the changes of a command.

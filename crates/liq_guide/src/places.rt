@@ -1,9 +1,20 @@
-// The entries of the ordered list.
-ghost use Rattle.std.specs.Prelude.{◌≡◌, [], ◌++◌, reverse, true, false, ℤ, ◌<ℤ◌, IfSome, OnOk, OnErr};
+//! The entries of the ordered list, ascending by key and, where keys are equal, by account. They
+//! are kept in three parts, by what an `i64` can hold.
+//!
+//! ```text
+//! key < -2^63      -2^63 <= key < 2^63      2^63 <= key
+//! below: Longs     shorts: Chunks           above: Longs
+//! ```
+//!
+//! Each part ascends and has all entries of its keys, so the list is the three one behind the
+//! other. What is next to a place is looked for in the place's own part, and in another one only
+//! where that part has nothing on that side.
+
+ghost use Rattle.std.specs.Prelude.{◌≡◌, [], ◌∷◌, ◌++◌, reverse, true, false, ℤ, ◌<ℤ◌, IfOk, IfSome, OnOk, OnErr};
 ghost use Rattle.std.specs.Option.{option_or};
 ghost use Rattle.liq_types.specs.Ranked.{IsAscending, first_of};
 ghost use Rattle.liq_chunks.specs.Entries.{with_entry, without_entry, entry_before, entry_after};
-ghost use Rattle.liq_guide.specs.Places.{IsPartOf};
+ghost use Rattle.liq_guide.specs.Places.{AreParted, IsPartOf};
 
 use crate::longs::Longs;
 use liq_chunks::{Chunks, Entry};
@@ -55,6 +66,24 @@ impl Places {
             shorts: Chunks::new(alloc),
             above: Longs::new(alloc),
         }
+    }
+
+    // These entries at once.
+    pub(crate) fn of(alloc: Global, list: &[Place]) -> Result<Places, NoMemory>
+        requires { IsAscending list.now }
+        ensures { IfOk result (λ places. places ≡ list.now) }
+    {
+        let mut below = Longs::new(alloc);
+        let mut shorts = Vec::new(alloc);
+        let mut above = Longs::new(alloc);
+        for place in list {
+            add(&mut below, &mut shorts, &mut above, *place)?;
+        }
+        Ok(Places {
+            below,
+            shorts: Chunks::of(alloc, &shorts)?,
+            above,
+        })
     }
 
     // Puts an entry in. Where there is no memory all is as before.
@@ -138,6 +167,31 @@ impl Places {
         ensures least { (key : ℤ) → key <ℤ i128.MIN → IfSome result (λ e. key <ℤ e.0) }
     {
         or_first_not_below(self.below.first(), &self.shorts, &self.above)
+    }
+}
+
+// Puts an entry that comes after all others into its part.
+fn add(
+    below: &mut Longs,
+    shorts: &mut Vec<Entry>,
+    above: &mut Longs,
+    place: Place,
+) -> Result<(), NoMemory>
+    requires parted { AreParted below.old shorts.old.items above.old }
+    requires last { IsAscending ((below.old ++ (shorts.old.items ++ above.old)) ++ place ∷ []) }
+    ensures parted { OnOk result (AreParted below.new shorts.new.items above.new) }
+    ensures added { OnOk result (below.new ++ (shorts.new.items ++ above.new)
+        ≡ (below.old ++ (shorts.old.items ++ above.old)) ++ place ∷ []) }
+{
+    match part_of(place) {
+        Part::Below => below.insert(place),
+        Part::Short(entry) => {
+            let Ok(()) = shorts.push(entry) else {
+                return Err(NoMemory);
+            };
+            Ok(())
+        }
+        Part::Above => above.insert(place),
     }
 }
 

@@ -1,14 +1,27 @@
-// The entries of the ordered list, and where each account stands.
-ghost use Rattle.std.specs.Prelude.{◌≡◌, ◌==◌, ℕ, ℤ, true, false, [], Some, None, List, is_ok, not, if◌then◌else◌, OnOk, OnErr, IsOk, IfSome, IfNone, MatchOption};
+//! The entries of the ordered list beside each account's key, and how a command's changes are
+//! followed in both.
+//!
+//! ```text
+//!           prepare: note, put in             settle: take out
+//! at rest ------------------------> ready --------------------> at rest, after the changes
+//!    |                no memory `-> partly ready -------------> at rest, as before
+//!    `-- follow_one: one change of a common kind, without notes --> at rest
+//! ```
+//!
+//! At rest each account that has a key stands in the list under that key, and no other does. In
+//! between an account may stand there under its key and its next one at once: `prepare` takes no
+//! entry out, so `settle` can go either way, and takes no memory.
+
+ghost use Rattle.std.specs.Prelude.{◌≡◌, ◌==◌, ℕ, ℤ, true, false, [], Some, None, List, is_ok, not, if◌then◌else◌, OnOk, OnErr, IsOk, IfOk, IfSome, IfNone, MatchOption};
 ghost use Rattle.std.specs.Ordering.{is_eq};
 ghost use Rattle.liq_types.specs.Ranked.{Ranked, rank_order, IsAscending};
 ghost use Rattle.liq_stands.specs.Parts.{stand_of};
-ghost use Rattle.liq_stands.specs.Stands.{nowhere, side_of};
+ghost use Rattle.liq_stands.specs.Stands.{nowhere, moved, settled_at, side_of};
 ghost use Rattle.liq_types.specs.declared.events.ListChange.TheVariants.{Put, Gone};
 ghost use Rattle.liq_guide.specs.Followed.{listed, all_listed};
-ghost use Rattle.liq_guide.specs.Rows.{Follows, Holds, AreSettledBeside, names, named_by, key_at, next_at, side_at, is_in, is_key};
+ghost use Rattle.liq_guide.specs.Rows.{Follows, Holds, AreSettledBeside, StandOnce, names, named_by, key_at, next_at, side_at, is_in, is_key};
 
-use crate::places::Places;
+use crate::places::{Place, Places};
 use liq_stands::{Kept, Stand, Stands};
 use liq_types::{ListChange, NoMemory};
 use std::alloc::Global;
@@ -29,6 +42,20 @@ impl Rows {
             places: Places::new(alloc),
             stands: Stands::new(alloc),
         }
+    }
+
+    // The entries of a list at once, in which no account stands twice.
+    pub(crate) fn of(alloc: Global, list: &[Place]) -> Result<Rows, NoMemory>
+        requires ascending { IsAscending list.now }
+        requires once { StandOnce list.now }
+        ensures places { IfOk result (λ rows. rows.places ≡ list.now) }
+        ensures follows { IfOk result (λ rows. Follows (key_at rows.stands) list.now) }
+        ensures settled { IfOk result (λ rows. AreSettledBeside rows.stands []) }
+    {
+        Ok(Rows {
+            places: Places::of(alloc, list)?,
+            stands: stands_of(alloc, list)?,
+        })
     }
 
     // Follows one change alone without notes: one that puts an account under a key that can be
@@ -273,6 +300,33 @@ impl Rows {
             self.places.remove((key, account));
         }
     }
+}
+
+// Where the accounts of a list stand, each under its key.
+fn stands_of(alloc: Global, list: &[Place]) -> Result<Stands, NoMemory>
+    requires ascending { IsAscending list.now }
+    requires once { StandOnce list.now }
+    ensures follows { IfOk result (λ stands. Follows (key_at stands) list.now) }
+    ensures settled { IfOk result (λ stands. AreSettledBeside stands []) }
+{
+    let mut stands = Stands::new(alloc);
+    for place in list {
+        put_under(&mut stands, place.0, place.1)?;
+    }
+    Ok(stands)
+}
+
+// Puts an account under a key, whether it can be kept or not.
+fn put_under(stands: &mut Stands, key: i128, account: u32) -> Result<(), NoMemory>
+    ensures { OnOk result ((a : ℕ) → stand_of stands.new a
+        ≡ moved (stand_of stands.old) account (settled_at (Some key)) a) }
+{
+    if let Some(kept) = Kept::of(key) {
+        return stands.open(account, kept);
+    }
+    stands.aim(account, Some(key))?;
+    stands.settle(account, true);
+    Ok(())
 }
 
 // The key that is kept and the one that is given up, where the changes are made and where they are

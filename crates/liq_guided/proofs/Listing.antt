@@ -1,20 +1,17 @@
--- The list of a protocol: how it stands, what becomes of it, and how it is told from its end.
+-- The list of a protocol: how it stands, what becomes of it, and how it is told.
 use Rattle.std.proofs.Common.{◌≡◌, Bool, true, false, List, [], ◌∷◌, ◌++◌, map, refl, sym, ap, subst, ◌∙◌}
-use Rattle.std.specs.Prelude.{reverse}
-use Rattle.std.specs.Ordering.{match_ordering}
-use Rattle.std.specs.declared.cmp.Ordering.{Ordering}
-use Rattle.std.proofs.lemmas.List.{reverse-append}
+use Rattle.std.specs.Prelude.{filter_map}
 use Rattle.liq_types.specs.declared.events.ListChange.{ListChange}
 use Rattle.liq_types.specs.declared.events.ListChange.TheVariants.{Words}
 use Rattle.liq_types.specs.declared.image.Image.{Image}
 use Rattle.liq_types.specs.declared.requests.Request.TheVariants.{Do}
-use Rattle.liq_types.specs.Ranked.{Ranked, IsAscending, with_ranked}
+use Rattle.liq_types.specs.Ranked.{Ranked, IsAscending}
 use Rattle.liq_order.specs.Listed.{AreDistinct}
 use Rattle.liq_order.specs.Order.{trove_order}
-use Rattle.liq_order.proofs.Found.{without_absent}
 use Rattle.liq_order.proofs.Ranking.{order_distinct}
 use Rattle.liq_order.proofs.Sorting.{order_ascends}
-use Rattle.liq_guide.specs.Followed.{listed, all_listed}
+use Rattle.liq_guide.specs.Followed.{all_listed, put_by}
+use Rattle.liq_guide.specs.Rows.{StandOnce}
 use Rattle.liq_guide.proofs.Following.{list_of_views}
 use Rattle.liq_rules.specs.Rules.{call_changes}
 use Rattle.liq_rules.specs.Step.{Ruling, after_ruling, step}
@@ -54,47 +51,18 @@ made_list old new plan sound is planned now =
     ∙ ap (all_listed (trove_order s)) (sym planned.changes)
     ∙ ap (λ (l : List Ranked). all_listed l plan.changes) (sym is)
 
--- ---- told from its end
+-- ---- as it is told
 
-all_more : (list : List Ranked) (xs ys : List ListChange)
-    → all_listed list (xs ++ ys) ≡ all_listed (all_listed list xs) ys
-all_more list [] ys = refl
-all_more list (x ∷ xs) ys = all_more (listed list x) xs ys
+entries_told : (list : List Ranked) → filter_map put_by (map put_entry list) ≡ list
+entries_told [] = refl
+entries_told (e ∷ es) = ap (λ (l : List Ranked). e ∷ l) (entries_told es)
 
-first_in : (e : Ranked) (rest : List Ranked) → IsAscending (e ∷ rest) → with_ranked rest e ≡ e ∷ rest
-first_in e [] asc = refl
-first_in e (f ∷ fs) asc =
-    ap (λ (o : Ordering). match_ordering o (e ∷ f ∷ fs) (e ∷ f ∷ fs) (f ∷ with_ranked fs e)) asc.0.0
+pub puts_told : (i : Image) (list : List Ranked) → filter_map put_by (told_whole i list) ≡ list
+puts_told i list = entries_told list
 
-put_first : (e : Ranked) (rest : List Ranked) → IsAscending (e ∷ rest) → AreDistinct (e ∷ rest)
-    → listed rest (put_entry e) ≡ e ∷ rest
-put_first e rest asc dis =
-    ap (λ (l : List Ranked). with_ranked l e) (without_absent rest e.1 dis.0) ∙ first_in e rest asc
-
-entries_back : (list : List Ranked) → IsAscending list → AreDistinct list
-    → all_listed [] (reverse (map put_entry list)) ≡ list
-entries_back [] asc dis = refl
-entries_back (e ∷ es) asc dis =
-    ap (all_listed []) (reverse-append (put_entry e ∷ []) (map put_entry es))
-    ∙ all_more [] (reverse (map put_entry es)) (put_entry e ∷ [])
-    ∙ ap (λ (l : List Ranked). listed l (put_entry e)) (entries_back es asc.1 dis.1)
-    ∙ put_first e es asc dis
-
-pub told_back : (i : Image) (list : List Ranked) → IsAscending list → AreDistinct list
-    → all_listed [] (reverse (told_whole i list)) ≡ list
-told_back i list asc dis =
-    ap (all_listed []) (reverse-append (Words i.snap_stakes i.snap_coll i.sum_debt ∷ []) (map put_entry list))
-    ∙ all_more [] (reverse (map put_entry list)) (Words i.snap_stakes i.snap_coll i.sum_debt ∷ [])
-    ∙ entries_back list asc dis
-
--- one more from the end
-pub told_next : (guide list : List Ranked) (left rest : List ListChange) (change : ListChange)
-    → left ≡ rest ++ change ∷ []
-    → all_listed guide (reverse left) ≡ list → all_listed (listed guide change) (reverse rest) ≡ list
-told_next guide list left rest change is h =
-    sym (ap (λ (l : List ListChange). all_listed guide (reverse l)) is
-    ∙ ap (all_listed guide) (reverse-append rest (change ∷ [])))
-    ∙ h
+pub stand_once : (list : List Ranked) → AreDistinct list → StandOnce list
+stand_once [] h = tt
+stand_once (e ∷ es) h = (h.0, stand_once es h.1)
 
 -- ---- what is followed
 

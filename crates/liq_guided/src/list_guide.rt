@@ -1,6 +1,6 @@
 //! The guide of a protocol's list.
-ghost use Rattle.std.specs.Prelude.{◌≡◌, ◌↔◌, [], true, false, not, IfOk, OnOk, OnErr};
-ghost use Rattle.liq_guide.specs.Followed.{all_listed, hint_of_last};
+ghost use Rattle.std.specs.Prelude.{◌≡◌, ◌↔◌, [], true, false, not, filter_map, IfOk, OnOk, OnErr};
+ghost use Rattle.liq_guide.specs.Followed.{all_listed, hint_of_last, put_by};
 ghost use Rattle.liq_guided.specs.ListGuides.{IsGuideOf};
 
 use liq_core::Protocol;
@@ -112,17 +112,31 @@ impl ListGuide {
 fn guide_of(alloc: Global, protocol: &Protocol) -> Result<Guide, NoMemory>
     ensures { IfOk result (λ guide. guide ≡ protocol.now.list) }
 {
+    // odd: law called
     protocols_are_sound_states(protocol);
     lists_stand(protocol);
     protocols_stand(protocol);
-    let mut guide = Guide::new(alloc);
-    let mut changes = protocol.list(alloc)?;
-    // One after the other, since of a single change nothing is noted aside, and from the last one
-    // on, since the place before all others is found at once.
-    while let Some(change) = changes.pop() {
-        guide.follow(&[change])?;
+    let changes = protocol.list(alloc)?;
+    let list = puts_of(alloc, changes)?;
+    Guide::of(alloc, &list)
+}
+
+/// The entries that changes put, in their order. The changes are let go.
+fn puts_of(alloc: Global, changes: Vec<ListChange>) -> Result<Vec<(i128, u32)>, NoMemory>
+    ensures { IfOk result (λ puts. puts.items ≡ filter_map put_by changes.items) }
+{
+    let puts = changes.iter().filter_map(|change| put_by(change));
+    Ok(puts.collect(alloc)?)
+}
+
+/// The entry that a change puts, if it puts one.
+fn put_by(change: &ListChange) -> Option<(i128, u32)>
+    ensures { result ≡ put_by change.now }
+{
+    match *change {
+        ListChange::Put { key, account } => Some((key, account)),
+        ListChange::Gone { .. } | ListChange::Words { .. } => None,
     }
-    Ok(guide)
 }
 
 /// Whether two lists have the same changes.

@@ -101,6 +101,36 @@ fn guides(rt: HostRuntime) {
     check(&rt, rt.alloc());
 }
 
+// A key that fits no i64, and one below all that do.
+const FAR: i128 = 10_000_000_000_000_000_000;
+
+const LOW: i128 = -10_000_000_000_000_000_000;
+
+const WHOLE: [(i128, u32); 5] = [(LOW, 6), (-4, 2), (20, 4), (20, 5), (FAR, 1)];
+
+// A list that is there whole, and an account that comes among its entries.
+#[test]
+fn whole(rt: HostRuntime) {
+    let Ok(mut guide) = Guide::of(rt.alloc(), &WHOLE) else {
+        return shows(&rt, "memory", false);
+    };
+    agree(&rt, &guide, &WHOLE);
+    for (key, account) in WHOLE {
+        same(&rt, &guide.key_of(account), &Some(key), "its key");
+    }
+    let change = Put {
+        key: 20,
+        account: 3,
+    };
+    shows(&rt, "memory", guide.follow(&[change]).is_ok());
+    same(
+        &rt,
+        &guide.neighbours(20, 3),
+        &(Some(2), Some(4)),
+        "the neighbours of one that comes",
+    );
+}
+
 // How many accounts come and go: many times what a run of entries holds.
 const MANY: u32 = 2_000;
 

@@ -1,27 +1,34 @@
-use Rattle.std.proofs.Common.{ap, ◌∙◌, [], ◌∷◌, List}
-use Rattle.std.specs.Prelude.{reverse}
-use Rattle.liq_types.specs.Ranked.{Ranked}
+use Rattle.std.proofs.Common.{◌≡◌, List, ap, subst, sym, ◌∙◌}
+use Rattle.std.specs.Prelude.{filter_map, IfOk}
+use Rattle.liq_types.specs.Ranked.{Ranked, IsAscending}
 use Rattle.liq_types.specs.declared.events.ListChange.{ListChange}
-use Rattle.liq_guide.specs.Followed.{all_listed}
-use Rattle.liq_core.specs.Core.{state_of}
-use Rattle.liq_guided.proofs.Listing.{followed_on, list_ascends, list_distinct, told_back, told_next}
+use Rattle.liq_guide.specs.Followed.{put_by}
+use Rattle.liq_guide.specs.Rows.{StandOnce}
+use Rattle.liq_core.specs.Core.{Core, state_of}
+use Rattle.liq_core.specs.Entries.{told_whole}
+use Rattle.liq_guided.proofs.Listing.{list_ascends, list_distinct, puts_told, stand_once}
 use Rattle.liq_guided.proofs.list_guide.guide_of.Goals as goal
 
-pub loop-change-init : goal.loop-change-init
-loop-change-init c =
+listed : (p : Core) (seen list : List Ranked) (changes : List ListChange) → seen ≡ list
+    → list ≡ filter_map put_by changes → changes ≡ told_whole p.image p.list → seen ≡ p.list
+listed p seen list changes is puts told =
+    is ∙ puts ∙ ap (λ (l : List ListChange). filter_map put_by l) told ∙ puts_told p.image p.list
+
+pub of-requires : goal.of-requires
+of-requires c =
     let p = c.args.protocol.now in
     let sound = c.protocols_are_sound_states.ensures in
     let is = c.lists_stand.ensures (state_of p) c.protocols_stand.ensures in
-    ap (λ (l : List Ranked). all_listed l (reverse c.in_ok-changes.changes.items)) c.new-guide.ensures
-    ∙ ap (λ (cs : List ListChange). all_listed [] (reverse cs)) c.in_ok-changes.ensures.told
-    ∙ told_back p.image p.list (list_ascends p sound is) (list_distinct p sound is)
+    let same = listed p c.deref.result.now c.in_ok-list.list.items c.in_ok-changes.changes.items c.deref.ensures.value
+    c.in_ok-list.ensures c.in_ok-changes.ensures.told in
+    record {
+      ascending = subst IsAscending (sym same) (list_ascends p sound is);
+      once = subst StandOnce (sym same) (stand_once p.list (list_distinct p sound is));
+    }
 
-pub loop-change-preserved : goal.loop-change-preserved
-loop-change-preserved c =
-    let guide = c.loop-change.guide in
-    let rest = c.pop.new.self.items in
-    let change = c.in-Some.change in
-    ap (λ (l : List Ranked). all_listed l (reverse rest))
-    (followed_on guide c.follow.new.self (change ∷ []) c.in_ok-follow.ensures.list)
-    ∙ told_next guide c.args.protocol.now.list c.loop-change.changes.items rest change
-    c.in-Some.ensures.items c.loop-change.invariant
+pub returns : goal.returns
+returns c =
+    let p = c.args.protocol.now in
+    subst (λ (l : List Ranked). IfOk c.of.result (λ guide. guide ≡ l))
+    (listed p c.deref.result.now c.in_ok-list.list.items c.in_ok-changes.changes.items c.deref.ensures.value
+    c.in_ok-list.ensures c.in_ok-changes.ensures.told) c.of.ensures
