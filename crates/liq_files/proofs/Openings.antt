@@ -2,8 +2,8 @@
 use Rattle.std.specs.Prelude.{◌≡◌, ℕ, Bool, true, List, [], ◌∷◌, Option, Some, None, Result, Ok, Err, IfOk, IfSome, IsSome, unwrap_or}
 use Rattle.std.proofs.Common.{subst, sym, ◌∙◌, ap, refl, rules}
 use Rattle.std.specs.declared.fs.File.{File}
-use Rattle.liq_files.specs.Asked.{Asked, User, Behind, Looked, Opened, Synced, Earlier, WasAsked}
-use Rattle.liq_files.specs.Opened.{BothTaken, IsItsTurn, LeadsTo, MayOpen, OpensWell, SawRegular, Taken, WasHeld, WasOpened}
+use Rattle.liq_files.specs.Asked.{Asked, User, Behind, Looked, Opened, Earlier, WasAsked}
+use Rattle.liq_files.specs.Opened.{AreSynced, BothTaken, IsItsTurn, LeadsTo, MayOpen, OpensWell, SawRegular, Taken, WasHeld, WasOpened}
 use Rattle.liq_files.specs.declared.calls.Name.{Name}
 use Rattle.liq_files.specs.declared.calls.Name.TheVariants.{Left, Right}
 use Rattle.liq_files.specs.declared.calls.Opening.{Opening}
@@ -83,7 +83,7 @@ pub both_taken : (user : ℕ) (input output errors : FileId) (left_found right_f
     → IfSome right (λ f. Taken user (input ∷ output ∷ errors ∷ left_found.id ∷ []) Right f right_found before)
     → WasAsked (User (Some user)) before → WasAsked (Behind Input (Some input)) before
     → WasAsked (Behind Output (Some output)) before → WasAsked (Behind Errors (Some errors)) before
-    → calls ≡ Synced Right true ∷ Synced Left true ∷ before → IfSome left (λ l. IfSome right (λ r. BothTaken l r calls))
+    → AreSynced before calls → IfSome left (λ l. IfSome right (λ r. BothTaken l r calls))
 both_taken user input output errors left_found right_found (Some l) (Some r) between before calls since taken_l taken_r
     u i o e synced = record {
       user = user;

@@ -40,7 +40,7 @@ abbrev pub IsItsTurn : Name → List Asked → Type 0
 IsItsTurn Left calls = Unit {0}
 IsItsTurn Right calls = (file : File) × WasOpened Left file calls × WasHeld file calls
 
--- to read and write, and never truncated
+-- a file is opened to read and to write, and never truncated
 abbrev pub KeepsBytes : Opening → Type 0
 KeepsBytes how = (how.read ≡ true) × (how.write ≡ true) × (how.truncate ≡ false)
 
@@ -63,7 +63,7 @@ OpensWell [] = Unit {0}
 OpensWell (Opened name how answer ∷ before) = MayOpen name how before × OpensWell before
 OpensWell (_ ∷ before) = OpensWell before
 
--- it is the same link at both looks: none took its name meanwhile
+-- both looks saw the same link: none took its name meanwhile
 abbrev pub IsUnchanged : Seen → Seen → Type 0
 IsUnchanged seen again = (seen.found.id ≡ again.found.id) × (seen.changed ≡ again.changed)
 
@@ -104,6 +104,19 @@ pub record Taken (user : ℕ) (others : List FileId) (name : Name) (file : File)
   pub may : MayBeTaken user others found
   pub held : WasHeld file calls
 
+-- Both names were looked at, and then the folders of both files were synced. It is one folder,
+-- which was synced once, only where neither name is a link: then both stand in the folder in which
+-- the program runs.
+pub record AreSynced (before calls : List Asked) : Type 0 where
+  pub left : Seen
+  pub right : Seen
+  pub looked : List Asked
+  pub looks :
+      looked ≡ Saw (text_of Right) (Some right) ∷ Saw (text_of Left) (Some left) ∷ before
+  pub synced :
+      (calls ≡ Synced Right true ∷ Synced Left true ∷ looked)
+      ⊎ (left.is_link ≡ false) × (right.is_link ≡ false) × (calls ≡ Synced Left true ∷ looked)
+
 -- Both files are taken, and then their folders were synced. Neither is the other or a standard
 -- stream.
 pub record BothTaken (left right : File) (calls : List Asked) : Type 0 where
@@ -114,7 +127,7 @@ pub record BothTaken (left right : File) (calls : List Asked) : Type 0 where
   pub left_found : Found
   pub right_found : Found
   pub before : List Asked
-  pub synced : calls ≡ Synced Right true ∷ Synced Left true ∷ before
+  pub synced : AreSynced before calls
   pub is_user : WasAsked (User (Some user)) before
   pub is_input : WasAsked (Behind Input (Some input)) before
   pub is_output : WasAsked (Behind Output (Some output)) before

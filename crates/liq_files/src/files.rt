@@ -1,8 +1,8 @@
-// The two files, each taken and held for this process alone.
+//! The two files, each taken and held for this process alone.
 ghost use Rattle.std.specs.Prelude.{◌↔◌, ◌≡◌, Err, None, IfSome, IsSome, IsTrue};
 ghost use Rattle.liq_files.specs.Asked.{Earlier};
 ghost use Rattle.liq_files.specs.Held.{IsHeld};
-ghost use Rattle.liq_files.specs.Opened.{AreTaken, IsOpened, IsTaken, OpensInTurn, OpensWell, SawNone};
+ghost use Rattle.liq_files.specs.Opened.{AreSynced, AreTaken, IsOpened, IsTaken, OpensInTurn, OpensWell, SawNone};
 ghost use Rattle.liq_files.specs.declared.calls.Refusal.TheVariants.{Missing};
 
 use crate::calls::{Name, Opening, Refusal, Stream};
@@ -73,13 +73,32 @@ fn both<S: System>(system: &mut S, alloc: Global) -> Option<(FileDisk, FileDisk)
         user,
         &[input, output, errors, found.id],
     )?;
-    if !system.sync_folder(Name::Left) {
-        return None;
-    }
-    if !system.sync_folder(Name::Right) {
+    if !synced(system) {
         return None;
     }
     Some((left, right))
+}
+
+/// Syncs the folders in which the two files really are: one sync, where neither name is a link and
+/// both so stand in the folder in which the program runs. Says whether it was done.
+fn synced<S: System>(system: &mut S) -> bool
+    ensures opens { S.tells → OpensWell (S.asked system.old) → OpensWell (S.asked system.new) }
+    ensures synced { S.tells → IsTrue result → AreSynced (S.asked system.old)
+        (S.asked system.new) }
+{
+    let Some(left) = system.see(Name::Left.text()) else {
+        return false;
+    };
+    let Some(right) = system.see(Name::Right.text()) else {
+        return false;
+    };
+    if !system.sync_folder(Name::Left) {
+        return false;
+    }
+    if left.is_link || right.is_link {
+        return system.sync_folder(Name::Right);
+    }
+    true
 }
 
 /// The disk over the file of this name, and which file it is. There is none where the file cannot
