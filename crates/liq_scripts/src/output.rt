@@ -1,6 +1,6 @@
 //! A history, written.
 
-ghost use Rattle.std.specs.Prelude.{◌≡◌, ◌==◌, [], map, OnOk, OnErr};
+ghost use Rattle.std.specs.Prelude.{ℕ, ◌≡◌, ◌==◌, ◌<◌, [], false, get_or, map, OnOk, OnErr};
 ghost use Rattle.std.specs.List.{flat_map, list_any};
 ghost use Rattle.liq_outside.specs.Faults.{HasCause};
 ghost use Rattle.liq_rules.specs.History.{Entry, own_entries};
@@ -72,8 +72,16 @@ fn send_replies<E: Shown, K: Sink>(
     ensures cause { HasCause (K.at out.old).faults (K.at out.new).faults result }
     ensures unshown { (K.at out.new).shown ≡ (K.at out.old).shown }
 {
+    let has_entries = have_entries(entries);
     for before in 0..SESSIONS {
-        send_session(entries, before + 1, outbox, out)?;
+        let session = before + 1;
+        send_session(
+            entries,
+            session,
+            has_entries[usize::from(session)],
+            outbox,
+            out,
+        )?;
     }
     Ok(())
 }
@@ -82,27 +90,34 @@ fn send_replies<E: Shown, K: Sink>(
 fn send_session<E: Shown, K: Sink>(
     entries: &[E],
     session: u8,
+    has_entries: bool,
     outbox: &mut Outbox,
     out: &mut K,
 ) -> Result<(), Failed>
+    requires known { has_entries ≡ list_any (λ e. (E.entry e).session == session) entries.now }
     ensures sends { Sends result outbox.old
         (session_text session (own_entries session (map E.entry entries.now))) outbox.new
         (K.at out.old).held (K.at out.new).held }
     ensures cause { HasCause (K.at out.old).faults (K.at out.new).faults result }
     ensures unshown { (K.at out.new).shown ≡ (K.at out.old).shown }
 {
-    if !has_entries(entries, session) {
+    if !has_entries {
         return Ok(());
     }
     outbox.send(Line::Session(session), out)?;
     send_each(entries, Part::ReplyTo(session), outbox, out)
 }
 
-/// Whether some entry is the session's.
-fn has_entries<E: Shown>(entries: &[E], session: u8) -> bool
-    ensures { result ≡ list_any (λ e. (E.entry e).session == session) entries.now }
+/// For each number of a session, whether some entry is that session's: one look at each entry.
+fn have_entries<E: Shown>(entries: &[E]) -> [bool; 256]
+    ensures { (session : ℕ) → session < 256 → get_or result session false
+        ≡ list_any (λ e. (E.entry e).session == session) entries.now }
 {
-    entries.iter().any(|entry| entry.session() == session)
+    let mut has_entries = [false; 256];
+    for entry in entries {
+        has_entries[usize::from(entry.session())] = true;
+    }
+    has_entries
 }
 
 /// Sends the line of each entry.

@@ -1,3 +1,4 @@
 mod Coming
+mod Joined
 mod Places
 mod Running

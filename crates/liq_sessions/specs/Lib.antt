@@ -1,3 +1,4 @@
 pub mod Generated
 pub mod Ran
 pub mod Sessions
+pub mod Waiting

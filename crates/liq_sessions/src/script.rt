@@ -1,8 +1,9 @@
-//! What a session asks.
+//! What a session asks: its requests, in their order, under its number.
 
 ghost use Rattle.std.specs.Prelude.{◌≡◌, [], ◌∷◌, ◌++◌, ◌↔◌, IsTrue, length, MatchOption, OnOk, OnErr};
 
-use liq_types::{NoMemory, Request};
+use crate::waiting::Waiting;
+use liq_types::{Command, NoMemory, Request};
 use std::alloc::Global;
 use std::marker::Model;
 
@@ -12,16 +13,21 @@ pub const REQUESTS_MOST: usize = 1_000_000;
 /// Requests in the order in which they are asked. Contracts see the list of them.
 #[derive(Drop)]
 pub struct Requests {
-    list: Vec<Request>,
+    waiting: Vec<Waiting>,
+    // Those among them, in their order.
+    commands: Vec<Command>,
 }
 
 impl Model for Requests {
-    ghost use Rattle.std.specs.Prelude.{List};
+    ghost use Rattle.std.specs.Prelude.{List, ◌≡◌, length};
     ghost use Rattle.liq_types.specs.declared.requests.Request.{Request};
+    ghost use Rattle.liq_sessions.specs.Waiting.{commands_among, joined};
 
     ghost Value = { List Request };
 
-    ghost view = { λ r. r.list.items };
+    ghost view = { λ r. joined r.waiting.items r.commands.items };
+
+    ghost invariant = { λ r. commands_among r.waiting.items ≡ length r.commands.items };
 }
 
 impl Requests {
@@ -30,7 +36,8 @@ impl Requests {
         ensures { result ≡ [] }
     {
         Requests {
-            list: Vec::new(alloc),
+            waiting: Vec::new(alloc),
+            commands: Vec::new(alloc),
         }
     }
 
@@ -39,73 +46,101 @@ impl Requests {
         ensures ok { OnOk result (self.new ≡ self.old ++ request ∷ []) }
         ensures err { OnErr result (self.new ≡ self.old) }
     {
-        match self.list.push(request) {
-            Ok(()) => Ok(()),
-            Err(_) => Err(NoMemory),
+        if self.waiting.try_reserve(1).is_err() {
+            return Err(NoMemory);
         }
+        match request {
+            Request::Ask(query) => self.waiting.push_reserved(Waiting::Ask(query)),
+            Request::Do(command) => {
+                if self.commands.push(command).is_err() {
+                    return Err(NoMemory);
+                }
+                self.waiting.push_reserved(Waiting::NextCommand);
+            }
+        }
+        Ok(())
     }
 
     /// How many there are.
     pub fn len(&self) -> usize
         ensures { result ≡ length self.now }
     {
-        self.list.len()
+        self.waiting.len()
     }
 
     /// Whether there is none.
     pub fn is_empty(&self) -> bool
         ensures { IsTrue result ↔ (self.now ≡ []) }
     {
-        self.list.is_empty()
-    }
-
-    /// The requests.
-    pub fn as_slice(&self) -> &[Request]
-        ensures { result.now ≡ self.now }
-    {
-        self.list.as_slice()
+        self.len() == 0
     }
 
     /// The requests, to be asked one after the other.
     pub(crate) fn asked(self) -> Asked
         ensures { result ≡ self }
     {
-        let Requests { mut list } = self;
-        list.reverse();
-        Asked { later: list }
+        let Requests {
+            mut waiting,
+            mut commands,
+        } = self;
+        waiting.reverse();
+        commands.reverse();
+        Asked {
+            later: waiting,
+            commands,
+        }
     }
 }
 
 /// Requests that are asked one after the other. Contracts see the list of those that are left.
 #[derive(Drop)]
 pub(crate) struct Asked {
-    // The next one is the last.
-    later: Vec<Request>,
+    // What is left, in reverse: of each of both the next one stands last.
+    later: Vec<Waiting>,
+    commands: Vec<Command>,
 }
 
 impl Model for Asked {
-    ghost use Rattle.std.specs.Prelude.{List, reverse};
+    ghost use Rattle.std.specs.Prelude.{List, ◌≡◌, length, reverse};
     ghost use Rattle.liq_types.specs.declared.requests.Request.{Request};
+    ghost use Rattle.liq_sessions.specs.Waiting.{commands_among, joined};
 
     ghost Value = { List Request };
 
-    ghost view = { λ a. reverse a.later.items };
+    ghost view = { λ a. joined (reverse a.later.items) (reverse a.commands.items) };
+
+    ghost invariant = { λ a. commands_among (reverse a.later.items)
+        ≡ length (reverse a.commands.items) };
 }
 
 impl Asked {
-    /// The next request, which is left no more. Each time half of the memory is free it is given
+    /// The next request, which is taken out. Each time half of the memory is free, it is given
     /// back.
     pub(crate) fn next(&mut self) -> Option<Request>
         ensures { MatchOption result ((self.old ≡ []) × (self.new ≡ [])) (λ request. self.old
             ≡ request ∷ self.new) }
     {
-        let request = self.later.pop()?;
-        let left = self.later.len();
-        if left <= self.later.capacity() / 2 {
-            self.later.shrink_to(left);
+        match take_last(&mut self.later)? {
+            Waiting::Ask(query) => Some(Request::Ask(query)),
+            Waiting::NextCommand => match take_last(&mut self.commands) {
+                Some(command) => Some(Request::Do(command)),
+                None => unreachable!(),
+            },
         }
-        Some(request)
     }
+}
+
+/// Takes the last one out of a list. Each time half of its memory is free it is given back.
+fn take_last<T: Copy>(list: &mut Vec<T>) -> Option<T>
+    ensures { MatchOption result ((list.old.items ≡ []) × (list.new.items ≡ []))
+        (λ last. list.old.items ≡ list.new.items ++ last ∷ []) }
+{
+    let last = list.pop()?;
+    let left = list.len();
+    if left <= list.capacity() / 2 {
+        list.shrink_to(left);
+    }
+    Some(last)
 }
 
 /// The requests of a session, from 1 to 8.

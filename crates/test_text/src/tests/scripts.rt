@@ -23,7 +23,7 @@ fn long_input(alloc: Global) -> Result<Vec<u8>, AllocError> {
 // How many requests the third session has.
 fn third(scripts: &[Script]) -> u64 {
     match scripts.get(2) {
-        Some(script) => script.requests.as_slice().len() as u64,
+        Some(script) => script.requests.len() as u64,
         None => 0,
     }
 }

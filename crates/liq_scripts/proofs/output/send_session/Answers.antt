@@ -10,7 +10,7 @@ use Rattle.liq_scripts.proofs.output.send_session.Goals as goal
 pub returns-then-not-has_entries-clause-sends : goal.returns-then-not-has_entries-clause-sends
 returns-then-not-has_entries-clause-sends g c =
     let before = (g.K.Sink.at c.args.out.now).held in
-    let none = own-none g.E.Shown.entry c.args.session c.args.entries.now (sym c.has_entries.ensures
+    let none = own-none g.E.Shown.entry c.args.session c.args.entries.now (sym c.requires.known
     ∙ c.if-not-has_entries.true) in
     subst (λ (own : List history.Entry). Sends (Ok tt) c.args.outbox.now (session_text c.args.session own)
     c.args.outbox.now before before) (sym none) (sends_nothing c.args.outbox.now before)
@@ -21,7 +21,7 @@ returns-in_err-send-clause-sends g c =
     let entry = g.E.Shown.entry in
     let entries = c.args.entries.now in
     let fault = c.in_err-send.field-0.0 in
-    let text = own-text entry c.args.session entries (sym c.has_entries.ensures ∙ c.if-not-has_entries.false) in
+    let text = own-text entry c.args.session entries (sym c.requires.known ∙ c.if-not-has_entries.false) in
     sends_fault c.from_residual.result fault c.args.outbox.now
     (session_part entry entries c.args.session) c.send.new.self (at c.args.out.now).held
     (at c.send.new.out).held c.from_residual.ensures.1
@@ -36,7 +36,7 @@ returns-clause-sends g c =
     let at = g.K.Sink.at in
     let entry = g.E.Shown.entry in
     let entries = c.args.entries.now in
-    let text = own-text entry c.args.session entries (sym c.has_entries.ensures ∙ c.if-not-has_entries.false) in
+    let text = own-text entry c.args.session entries (sym c.requires.known ∙ c.if-not-has_entries.false) in
     subst (λ (t : List ℕ). Sends c.send_each.result c.args.outbox.now t c.send_each.new.outbox (at c.args.out.now).held
     (at c.send_each.new.out).held) (sym text)
     (sends_more c.send_each.result c.args.outbox.now (heading c.args.session) c.send.new.self
