@@ -11,13 +11,11 @@ use Rattle.liq_types.specs.declared.requests.Command.{Command}
 use Rattle.liq_types.specs.declared.requests.Request.{Request}
 use Rattle.liq_types.specs.declared.requests.Request.TheVariants.{Do, Ask}
 use Rattle.liq_types.specs.declared.replies.Answer.{Answer}
-use Rattle.liq_types.specs.declared.replies.Done.{Done}
-use Rattle.liq_types.specs.declared.replies.Refusal.{Refusal}
 use Rattle.liq_types.specs.declared.replies.Reply.{Reply}
 use Rattle.liq_types.specs.declared.replies.Answer.TheVariants as answer
 use Rattle.liq_types.specs.State.{State}
 use Rattle.liq_core.specs.Core.{Core, StandsFor}
-use Rattle.liq_rules.specs.Step.{Allowed, Refused, Repeated, Ruling, is_allowed, ruling}
+use Rattle.liq_rules.specs.Step.{Allowed, Ruling, is_allowed, ruling}
 use Rattle.liq_journal.specs.Crash.{BeforeOrAfter, CreateLeaves, Stands}
 use Rattle.liq_journal.specs.Settled.{IsSettled, JournalOn}
 use Rattle.liq_journal.specs.Written.{Open, Written, found_on, is_rotate, start_of}
@@ -37,30 +35,24 @@ use Rattle.liq_store.proofs.Going.{going_by, rest_now, rest_only}
 
 -- ---- which calls are no rotation
 
-pub repeated_stays : (s : State) (c : Command) (kept : Done) → ruling s c ≡ Repeated kept → is_rotation s (Do c) ≡ false
-repeated_stays s c kept is = ap (λ (r : Ruling). is_rotate c.call && is_allowed r) is ∙ and-false (is_rotate c.call)
-
-pub refused_stays : (s : State) (c : Command) (refusal : Refusal) → ruling s c ≡ Refused refusal
+-- one on which another ruling is made
+pub ruled_stays : (s : State) (c : Command) (r : Ruling) → ruling s c ≡ r → is_allowed r ≡ false
     → is_rotation s (Do c) ≡ false
-refused_stays s c refusal is = ap (λ (r : Ruling). is_rotate c.call && is_allowed r) is ∙ and-false (is_rotate c.call)
+ruled_stays s c r is differs = ap (λ (x : Ruling). is_rotate c.call && is_allowed x) is
+    ∙ ap (λ (b : Bool). is_rotate c.call && b) differs ∙ and-false (is_rotate c.call)
 
 -- and one of another verb
 pub other_stays : (s : State) (c : Command) → is_rotate c.call ≡ false → is_rotation s (Do c) ≡ false
 other_stays s c stays = ap (λ (b : Bool). b && is_allowed (ruling s c)) stays
 
--- what comes again is not accepted
-pub repeated_not : (s : State) (request : Request) (c : Command) (kept : Done)
-    → request ≡ Do c → ruling s c ≡ Repeated kept → IsAccepted s request → ⊥
-repeated_not s request c kept is ruled accepted =
-    let no : Repeated kept ≡ Allowed = sym ruled ∙ subst (λ (q : Request). IsAccepted s q) is accepted
-    in absurd (cc (no))
-
--- nor is what is refused
-pub refused_not : (s : State) (request : Request) (c : Command) (refusal : Refusal)
-    → request ≡ Do c → ruling s c ≡ Refused refusal → IsAccepted s request → ⊥
-refused_not s request c refusal is ruled accepted =
-    let no : Refused refusal ≡ Allowed = sym ruled ∙ subst (λ (q : Request). IsAccepted s q) is accepted
-    in absurd (cc (no))
+-- where another ruling is made on a command, it is accepted in no state for which the store stands
+pub none_accepted : (core seen : Core) (request : Request) (c : Command) (r : Ruling) → core ≡ seen → request ≡ Do c
+    → ((s : State) → StandsFor core s → ruling s c ≡ r) → is_allowed r ≡ false → (s : State) → StandsFor seen s
+    → IsAccepted s request → ⊥
+none_accepted core seen request c r same is ruled differs s stands accepted =
+    let here : StandsFor core s = subst (λ (k : Core). StandsFor k s) (sym same) stands in
+    let allowed : r ≡ Allowed = sym (ruled s here) ∙ subst (λ (q : Request). IsAccepted s q) is accepted in
+    let both : false ≡ true = sym differs ∙ ap is_allowed allowed in absurd (cc (both))
 
 -- an accepted command of this verb is a rotation
 pub rotates_then : (s : State) (request : Request) (c : Command)

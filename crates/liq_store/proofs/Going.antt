@@ -11,7 +11,7 @@ use Rattle.liq_pairs.specs.declared.side.Side.{Side}
 use Rattle.liq_pairs.specs.declared.side.Side.TheVariants.{Left, Right}
 use Rattle.liq_pairs.specs.Kept.{IsSettledFor}
 use Rattle.liq_pairs.specs.Pair.{StandFor}
-use Rattle.liq_pairs.specs.Sides.{on}
+use Rattle.liq_pairs.specs.Sides.{beside, on}
 use Rattle.liq_store.specs.Keeping.{IsAtRest, IsGoing, IsInOrder, IsInOrderWith, IsKeptNear}
 use Rattle.liq_store.specs.Stored.{Stored}
 use Rattle.liq_store.specs.Within.{IsWithin, stored}
@@ -20,6 +20,10 @@ use Rattle.liq_core.proofs.SameContents.{stands_before}
 pub taken_is : {D : Type 0} (side : Side) (t b : D) → on side (on side t b) (on side b t) ≡ t
 taken_is Left t b = refl
 taken_is Right t b = refl
+
+pub beside_is : {D : Type 0} (side : Side) (t b : D) → beside side (on side t b) (on side b t) ≡ b
+beside_is Left t b = refl
+beside_is Right t b = refl
 
 pub told_by : {D : Type 0} (at : D → DiskAt) (side : Side) (t b : D) (P : List ℕ → List ℕ → Type 0)
     → ((held other : List ℕ) → (at t).seen ≡ Some held → (at b).seen ≡ Some other

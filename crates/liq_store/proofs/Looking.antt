@@ -14,13 +14,13 @@ use Rattle.liq_journal.specs.Written.{Open, Written, found_on, start_of}
 use Rattle.liq_pairs.specs.declared.side.Side.{Side}
 use Rattle.liq_pairs.specs.declared.side.Side.TheVariants.{Left, Right}
 use Rattle.liq_pairs.specs.Kept.{IsKept}
-use Rattle.liq_pairs.specs.Sides.{has_odd, on}
+use Rattle.liq_pairs.specs.Sides.{beside, has_odd, on}
 use Rattle.liq_pairs.proofs.Keeping.{settled_kept}
 use Rattle.liq_store.specs.Keeping.{IsAtRest, IsInOrder, IsKeptNear}
-use Rattle.liq_store.specs.Stored.{Stored, taken_disk}
+use Rattle.liq_store.specs.Stored.{Stored, disk_beside, taken_disk}
 use Rattle.liq_store.specs.Within.{HasRecords, IsWithin, stored}
 use Rattle.liq_store.proofs.Appending.{has_same}
-use Rattle.liq_store.proofs.Going.{Going, going_by, order_going, order_halted, rest_now, taken_is}
+use Rattle.liq_store.proofs.Going.{Going, beside_is, going_by, order_going, order_halted, rest_now, taken_is}
 
 settled_same : (o : Option (List ℕ)) (generation start count generation' start' count' : ℕ) → generation' ≡ generation
     → start' ≡ start → count' ≡ count → IfSome o (IsSettled generation start count)
@@ -146,3 +146,20 @@ looked_from {D} at side taken b new old left right same looked =
     let was : taken ≡ taken_disk old = sym (taken_is side taken b) ∙ (λ i. on (same i) (left i) (right i)) in
     subst (λ (d : D). Looked at d (on side (on side new b) (on side b new))) was
     (subst (λ (d : D). Looked at taken d) (sym (taken_is side new b)) looked)
+
+-- what callers see of a store of which only the journal's disk was looked at
+pub seen_looked : {D : Type 0} {changes : List ListChange} (side : Side) (taken new : JournalOn D) (b : D) (core : Core)
+    (stopped later : Option ℕ) (old : Stored D) → new ≡ record taken { disk = new.disk }
+    → stored side taken b core stopped changes ≡ old → stored side new b core later changes
+    ≡ record old { left = on side new.disk b; right = on side b new.disk; stopped = later }
+seen_looked {D} {changes} side taken new b core stopped later old same is =
+    let now = stored side new b core later changes in
+    subst (λ (o : Stored D). now ≡ record o { left = now.left; right = now.right; stopped = later }) is
+    (ap (λ (start : ℕ). record now { start = start }) (ap (λ (j : JournalOn D). j.start) same))
+
+-- the disk beside it stays
+pub beside_looked : {D : Type 0} {changes : List ListChange} (side : Side) (taken : JournalOn D) (b new : D) (core : Core)
+    (stopped : Option ℕ) (old : Stored D) → stored side taken b core stopped changes ≡ old
+    → beside side (on side new b) (on side b new) ≡ disk_beside old
+beside_looked {D} side taken b new core stopped old is =
+    beside_is side new b ∙ sym (beside_is side taken.disk b) ∙ ap (λ (o : Stored D). disk_beside o) is

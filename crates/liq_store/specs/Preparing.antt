@@ -1,11 +1,15 @@
 -- What comes of a command before anything is written.
-use Rattle.std.specs.Prelude.{◌≡◌, ◌<◌, ◌≤◌, ◌+◌, ℕ, false, length}
+use Rattle.std.specs.Prelude.{◌≡◌, ◌<◌, ◌≤◌, ◌+◌, ℕ, List, false, length}
 use Rattle.liq_types.specs.declared.amounts.TheConstants.{RECORDS_MOST}
 use Rattle.liq_types.specs.declared.requests.Command.{Command}
 use Rattle.liq_types.specs.declared.requests.Request.TheVariants.{Do}
 use Rattle.liq_types.specs.State.{State}
+use Rattle.liq_types.specs.Ranked.{Ranked}
+use Rattle.liq_guide.specs.Followed.{all_listed}
 use Rattle.liq_core.specs.Core.{Core}
 use Rattle.liq_core.specs.Plan.{HasRoom, IsPlan}
+use Rattle.liq_core.specs.Steps.{last_put}
+use Rattle.liq_guided.specs.Hints.{IsExact}
 use Rattle.liq_rules.specs.Step.{Refused, Repeated, ruling}
 use Rattle.liq_rules.specs.Verbs.{unhinted}
 use Rattle.liq_journal.specs.Written.{is_rotate}
@@ -33,3 +37,10 @@ IsReady c core _ = Unit {0}
 abbrev pub HasRoomBehind : (count capacity : ℕ) → Prepared → Type 0
 HasRoomBehind count capacity (Ready plan exact) = count + length plan.changes ≤ capacity
 HasRoomBehind count capacity _ = Unit {0}
+
+-- the guide says between whom the account stands that is put last, once the list has the changes of
+-- what is planned; and nothing, where none is put
+abbrev pub IsGuided : List Ranked → Prepared → Type 0
+IsGuided list (Ready plan exact) =
+    IsExact (all_listed list plan.changes) (last_put plan.changes) exact
+IsGuided list _ = Unit {0}

@@ -1,4 +1,4 @@
-// A command, before it is written and after.
+//! A command on its way: planned and given room before it is written, and made behind that.
 ghost use Rattle.std.specs.Prelude.{◌≡◌, vec_capacity, vec_len};
 ghost use Rattle.liq_types.specs.State.{State};
 ghost use Rattle.liq_types.specs.declared.replies.Reply.TheVariants.{Said};
@@ -6,7 +6,7 @@ ghost use Rattle.liq_types.specs.declared.requests.Request.TheVariants.{Do};
 ghost use Rattle.liq_core.specs.Core.{SameContent, StandsFor, state_of};
 ghost use Rattle.liq_core.specs.Plan.{HasRoom, IsPlannedOn};
 ghost use Rattle.liq_rules.specs.Step.{step};
-ghost use Rattle.liq_store.specs.Preparing.{HasRoomBehind, IsPrepared, IsReady};
+ghost use Rattle.liq_store.specs.Preparing.{HasRoomBehind, IsGuided, IsPrepared, IsReady};
 
 use liq_core::laws::protocols_stand;
 use liq_core::{PlanFault, Planned, Turn, unhinted};
@@ -36,8 +36,10 @@ pub fn prepare(protocol: &mut Guided, changes: &mut Vec<ListChange>, command: &C
     ensures prepared { (s : State) → StandsFor protocol.old s → IsPrepared s command.now result }
     ensures ready { IsReady command.now protocol.new result }
     ensures room { HasRoomBehind (vec_len changes.new) (vec_capacity changes.new) result }
+    ensures exact { IsGuided protocol.old.list result }
     ensures stands { StandsFor protocol.old (state_of protocol.old) }
 {
+    // odd: law called
     protocols_stand(protocol.protocol());
     let planned = match protocol.plan(&unhinted(command)) {
         Ok(Turn::New(planned)) => planned,

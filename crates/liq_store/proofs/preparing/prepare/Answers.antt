@@ -28,3 +28,10 @@ pub returns-in-Err-clause-prepared : goal.returns-in-Err-clause-prepared
 returns-in-Err-clause-prepared c s stands =
     let is = (rw c.in-Ok-New.field-0-is at c.in-Ok-New.ensures) s stands in
     inl (sym (c.unhinted.ensures.ruling s) ∙ planned_allowed s c.unhinted.result c.in-Ok-New.planned is)
+
+pub returns-in-Ok-reserve-clause-prepared : goal.returns-in-Ok-reserve-clause-prepared
+returns-in-Ok-reserve-clause-prepared c s stands =
+    let is = (rw c.in-Ok-New.field-0-is at c.in-Ok-New.ensures) s stands in (is.0 ∙ c.unhinted.ensures.same, is.1)
+
+pub returns-in-Ok-reserve-clause-exact : goal.returns-in-Ok-reserve-clause-exact
+returns-in-Ok-reserve-clause-exact c = c.in-Ok-reserve.ensures.exact

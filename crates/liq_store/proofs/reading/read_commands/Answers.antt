@@ -1,10 +1,12 @@
-use Rattle.std.proofs.Common.{◌≡◌, ◌∙◌, ◌+◌, ◌<◌, [], ◌∷◌, length, ap, sym, subst, arith, length-append, false}
+use Rattle.std.proofs.Common.{◌≡◌, ◌∙◌, ◌+◌, ◌<◌, ℕ, [], ◌∷◌, length, ap, sym, subst, arith, length-append, false}
 use Rattle.std.proofs.lemmas.List.Elements.{All-push}
 use Rattle.std.specs.List.{All}
 use Rattle.liq_types.specs.declared.requests.Command.{Command}
 use Rattle.liq_journal.specs.Settled.{JournalOn}
 use Rattle.liq_journal.specs.Written.{is_rotate}
 use Rattle.liq_journal.proofs.Looks.{looked_on}
+use Rattle.liq_records.specs.Reading.{CountsFault}
+use Rattle.liq_store.specs.Answering.{IsUnreadable}
 use Rattle.liq_store.proofs.Listing.{one_more}
 use Rattle.liq_records.proofs.Replaying.{journal_still}
 use Rattle.liq_store.proofs.reading.read_commands.Goals as goal
@@ -45,3 +47,23 @@ returns-in-Err-clause-readable g c held told has =
     (ap (λ j. j.start) c.loop-done.invariant.same) has.journal in
     c.in-Err.ensures.readable held has.written (c.loop-done.invariant.looked.same
     ∙ told) here (omega (arith, has.within, c.records-done-end.ensures))
+
+pub returns-in-Err-clause-same : goal.returns-in-Err-clause-same
+returns-in-Err-clause-same g c = c.read_command.ensures.same
+    ∙ ap (λ (j : JournalOn g.row.D.Denot). record j { disk = c.read_command.new.journal.disk })
+    c.loop-done.invariant.same
+
+pub returns-in-Err-push-clause-same : goal.returns-in-Err-push-clause-same
+returns-in-Err-push-clause-same g c = c.read_command.ensures.same
+    ∙ ap (λ (j : JournalOn g.row.D.Denot). record j { disk = c.read_command.new.journal.disk })
+    c.loop-done.invariant.same
+
+pub returns-in-Err-clause-damaged : goal.returns-in-Err-clause-damaged
+returns-in-Err-clause-damaged g c =
+    subst (λ (j : JournalOn g.row.D.Denot). IsUnreadable j.generation j.start j.count c.in-Err.why)
+    c.loop-done.invariant.same c.in-Err.ensures.damaged
+
+pub returns-in-Err-clause-cause : goal.returns-in-Err-clause-cause
+returns-in-Err-clause-cause g c =
+    subst (λ (n : ℕ). CountsFault c.in-Err.why n (g.D.Disk.at c.read_command.new.journal.disk).faults)
+    c.loop-done.invariant.still c.in-Err.ensures.cause

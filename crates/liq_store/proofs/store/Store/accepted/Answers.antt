@@ -6,7 +6,7 @@ use Rattle.liq_store.specs.Causes.{OneRose, counts_of}
 use Rattle.liq_store.specs.Stored.{Stored}
 use Rattle.liq_store.proofs.Appending.{some_isnt_none}
 use Rattle.liq_store.proofs.Counts.{taken_rose}
-use Rattle.liq_store.proofs.Looking.{all_read, halted_looked, looked_from, order_looked, within_looked}
+use Rattle.liq_store.proofs.Looking.{all_read, beside_looked, halted_looked, looked_from, order_looked, seen_looked, within_looked}
 use Rattle.liq_store.proofs.store.Store.accepted.Goals as goal
 
 pub invariant_of-self : goal.invariant_of-self
@@ -103,3 +103,39 @@ returns-in-Err-NoMemory-clause-looked g c = looked_from g.D.Disk.at c.self.insid
     c.self.inside.beside c.read_commands.new.journal.disk c.args.self.now (ap (λ (o : Stored g.row.D.Denot). o.left)
     c.self.view_is) (ap (λ (o : Stored g.row.D.Denot). o.right) c.self.view_is) (ap (λ (o : Stored g.row.D.Denot).
     o.side) c.self.view_is) c.read_commands.ensures.looked
+
+pub returns-in-Ok-clause-same : goal.returns-in-Ok-clause-same
+returns-in-Ok-clause-same g c = seen_looked c.self.inside.side c.self.inside.taken c.read_commands.new.journal
+    c.self.inside.beside c.self.inside.protocol c.self.inside.stopped c.self.inside.stopped c.args.self.now
+    c.read_commands.ensures.same c.self.view_is
+
+pub returns-in-Ok-clause-beside : goal.returns-in-Ok-clause-beside
+returns-in-Ok-clause-beside g c = beside_looked c.self.inside.side c.self.inside.taken c.self.inside.beside
+    c.read_commands.new.journal.disk c.self.inside.protocol c.self.inside.stopped c.args.self.now c.self.view_is
+
+pub returns-in-Err-DiskFault-clause-same : goal.returns-in-Err-DiskFault-clause-same
+returns-in-Err-DiskFault-clause-same g c = seen_looked c.self.inside.side c.self.inside.taken c.read_commands.new.journal
+    c.self.inside.beside c.self.inside.protocol c.self.inside.stopped (Some c.unwrap_or.result) c.args.self.now
+    c.read_commands.ensures.same c.self.view_is
+
+pub returns-in-Err-DiskFault-clause-beside : goal.returns-in-Err-DiskFault-clause-beside
+returns-in-Err-DiskFault-clause-beside g c = beside_looked c.self.inside.side c.self.inside.taken c.self.inside.beside
+    c.read_commands.new.journal.disk c.self.inside.protocol c.self.inside.stopped c.args.self.now c.self.view_is
+
+pub returns-in-Err-Damaged-clause-same : goal.returns-in-Err-Damaged-clause-same
+returns-in-Err-Damaged-clause-same g c = seen_looked c.self.inside.side c.self.inside.taken c.read_commands.new.journal
+    c.self.inside.beside c.self.inside.protocol c.self.inside.stopped c.self.inside.stopped c.args.self.now
+    c.read_commands.ensures.same c.self.view_is
+
+pub returns-in-Err-Damaged-clause-beside : goal.returns-in-Err-Damaged-clause-beside
+returns-in-Err-Damaged-clause-beside g c = beside_looked c.self.inside.side c.self.inside.taken c.self.inside.beside
+    c.read_commands.new.journal.disk c.self.inside.protocol c.self.inside.stopped c.args.self.now c.self.view_is
+
+pub returns-in-Err-NoMemory-clause-same : goal.returns-in-Err-NoMemory-clause-same
+returns-in-Err-NoMemory-clause-same g c = seen_looked c.self.inside.side c.self.inside.taken c.read_commands.new.journal
+    c.self.inside.beside c.self.inside.protocol c.self.inside.stopped c.self.inside.stopped c.args.self.now
+    c.read_commands.ensures.same c.self.view_is
+
+pub returns-in-Err-NoMemory-clause-beside : goal.returns-in-Err-NoMemory-clause-beside
+returns-in-Err-NoMemory-clause-beside g c = beside_looked c.self.inside.side c.self.inside.taken c.self.inside.beside
+    c.read_commands.new.journal.disk c.self.inside.protocol c.self.inside.stopped c.args.self.now c.self.view_is

@@ -1,16 +1,17 @@
-use Rattle.std.proofs.Common.{◌∙◌, ◌++◌, inl, ℕ, Option, Some, refl, sym, ap, ap₂, subst, arith}
+use Rattle.std.proofs.Common.{◌∙◌, ◌++◌, ◌+◌, inl, ℕ, length, Option, Some, refl, sym, ap, ap₂, subst, arith}
 use Rattle.liq_types.specs.declared.image.Image.{Image}
+use Rattle.liq_types.specs.declared.requests.Command.{Command}
 use Rattle.liq_outside.specs.Disk.{IsLater}
 use Rattle.liq_types.specs.declared.replies.Answer.TheVariants as answer
 use Rattle.liq_types.specs.declared.replies.Reply.TheVariants.{No, Said}
 use Rattle.liq_types.specs.State.{State}
-use Rattle.liq_core.specs.Core.{StandsFor, state_of}
+use Rattle.liq_core.specs.Core.{Core, StandsFor, state_of}
 use Rattle.liq_core.proofs.SameContents.{stands_after, stands_before}
 use Rattle.liq_rules.specs.Rules.{call_changes}
 use Rattle.liq_rules.specs.Step.{Allowed, Refused, Repeated, after}
 use Rattle.liq_guided.proofs.Steps.{counts_on, generation_stays}
 use Rattle.liq_journal.specs.Settled.{JournalOn}
-use Rattle.liq_journal.specs.Written.{is_odd}
+use Rattle.liq_journal.specs.Written.{is_odd, is_size}
 use Rattle.liq_journal.proofs.Testing.{not_rotate}
 use Rattle.liq_pairs.specs.declared.side.Side.{Side}
 use Rattle.liq_pairs.specs.Sides.{on, other}
@@ -23,7 +24,7 @@ use Rattle.liq_store.specs.Rotating.{is_rotation}
 use Rattle.liq_store.specs.Stored.{Stored, taken_disk}
 use Rattle.liq_store.specs.Within.{IsWithin, stored}
 use Rattle.liq_store.proofs.Appending.{all_has, appends, appends_on, has_same, kept_near, some_isnt_none, still_has, went_on}
-use Rattle.liq_store.proofs.Calling.{refused_not, refused_stays, repeated_not, repeated_stays, reply_stays, rotates_then, stays_on, taken_later}
+use Rattle.liq_store.proofs.Calling.{none_accepted, reply_stays, rotates_then, ruled_stays, stays_on, taken_later}
 use Rattle.liq_store.proofs.Counts.{beside_rose, stopped_on, taken_rose, taken_still, turned_still}
 use Rattle.liq_store.proofs.Going.{order_going, order_halted, order_same, within_same}
 use Rattle.liq_store.proofs.Rulings.{none_told, ruled, told_by_ruling}
@@ -77,8 +78,8 @@ returns-in-Again-clause-disks g c =
     c.self.inside.stopped c.self.inside.changes.items c.self.invariant c.args.self.now c.self.view_is
     c.prepare.new.protocol c.self.inside.stopped c.prepare.new.changes.items c.args.request.now _
     (λ s stands. reply_stays s c.args.request.now (Said c.in-Again.done) c.self.inside.side c.self.inside.taken.start
-    (ap (is_rotation s) c.in-Do.is ∙ repeated_stays s c.in-Do.command c.in-Again.done
-    (c.in-Again.ensures.prepared s stands)))
+    (ap (is_rotation s) c.in-Do.is ∙ ruled_stays s c.in-Do.command (Repeated c.in-Again.done)
+    (c.in-Again.ensures.prepared s stands) refl))
 
 pub returns-in-No-clause-disks : goal.returns-in-No-clause-disks
 returns-in-No-clause-disks g c =
@@ -86,8 +87,8 @@ returns-in-No-clause-disks g c =
     c.self.inside.stopped c.self.inside.changes.items c.self.invariant c.args.self.now c.self.view_is
     c.prepare.new.protocol c.self.inside.stopped c.prepare.new.changes.items c.args.request.now _
     (λ s stands. reply_stays s c.args.request.now (No c.in-No.refusal) c.self.inside.side c.self.inside.taken.start
-    (ap (is_rotation s) c.in-Do.is ∙ refused_stays s c.in-Do.command c.in-No.refusal
-    (c.in-No.ensures.prepared s stands)))
+    (ap (is_rotation s) c.in-Do.is ∙ ruled_stays s c.in-Do.command (Refused c.in-No.refusal)
+    (c.in-No.ensures.prepared s stands) refl))
 
 pub returns-in-NoMemory-clause-disks : goal.returns-in-NoMemory-clause-disks
 returns-in-NoMemory-clause-disks g c =
@@ -397,17 +398,15 @@ returns-clause-disks g c =
 
 pub returns-in-Again-clause-appended : goal.returns-in-Again-clause-appended
 returns-in-Again-clause-appended g c s stands accepted none =
-    let here : StandsFor c.self.inside.protocol s = subst (λ (o : Stored g.row.D.Denot). StandsFor o.core s)
-    (sym c.self.view_is) stands in
-    absurd (repeated_not s c.args.request.now c.in-Do.command c.in-Again.done c.in-Do.is
-    (c.in-Again.ensures.prepared s here) accepted)
+    absurd (none_accepted c.self.inside.protocol c.args.self.now.core c.args.request.now c.in-Do.command
+    (Repeated c.in-Again.done) (ap (λ (o : Stored g.row.D.Denot). o.core) c.self.view_is) c.in-Do.is
+    c.in-Again.ensures.prepared refl s stands accepted)
 
 pub returns-in-No-clause-appended : goal.returns-in-No-clause-appended
 returns-in-No-clause-appended g c s stands accepted none =
-    let here : StandsFor c.self.inside.protocol s = subst (λ (o : Stored g.row.D.Denot). StandsFor o.core s)
-    (sym c.self.view_is) stands in
-    absurd (refused_not s c.args.request.now c.in-Do.command c.in-No.refusal c.in-Do.is
-    (c.in-No.ensures.prepared s here) accepted)
+    absurd (none_accepted c.self.inside.protocol c.args.self.now.core c.args.request.now c.in-Do.command
+    (Refused c.in-No.refusal) (ap (λ (o : Stored g.row.D.Denot). o.core) c.self.view_is) c.in-Do.is
+    c.in-No.ensures.prepared refl s stands accepted)
 
 pub returns-in-Rotate-clause-appended : goal.returns-in-Rotate-clause-appended
 returns-in-Rotate-clause-appended g c s stands accepted none =
@@ -612,3 +611,25 @@ make-done-requires-2-clause-planned g c s stands =
 
 pub make-done-requires-2-clause-room : goal.make-done-requires-2-clause-room
 make-done-requires-2-clause-room g c = c.in-Ready.ensures.ready.1
+
+pub checkpoint_after-requires-clause-rotates : goal.checkpoint_after-requires-clause-rotates
+checkpoint_after-requires-clause-rotates g c =
+    ap (λ (k : Command). k.call) (c.in-Ready.ensures.ready.0 ∙ unhinted_rotation c.in-Do.command c.in-Rotate.is)
+    ∙ c.in-Rotate.is
+
+pub checkpoint_after-requires-clause-planned : goal.checkpoint_after-requires-clause-planned
+checkpoint_after-requires-clause-planned g c s stands =
+    (c.in-Ready.ensures.prepared s (stands_before c.self.inside.protocol c.prepare.new.protocol s c.prepare.ensures.same
+    (subst (λ (k : Core). StandsFor k s) c.protocol.ensures stands))).1
+
+pub turn-requires-clause-more : goal.turn-requires-clause-more
+turn-requires-clause-more g c =
+    let here = c.self.invariant.generation_is ∙ sym (ap (λ (i : Image). i.generation) c.prepare.ensures.same.image)
+    ∙ sym (ap (λ (k : Core). k.image.generation) c.protocol.ensures) in
+    omega (arith, here, c.checkpoint_after.ensures.generation)
+
+pub turn-requires-clause-size : goal.turn-requires-clause-size
+turn-requires-clause-size g c =
+    let here = c.self.invariant.generation_is ∙ sym (ap (λ (i : Image). i.generation) c.prepare.ensures.same.image)
+    ∙ sym (ap (λ (k : Core). k.image.generation) c.protocol.ensures) in
+    (λ i. is_size (here i + 1) (length (c.deref.ensures.value i))) ∙ c.in-Ok.ensures.size
