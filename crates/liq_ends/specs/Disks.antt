@@ -1,5 +1,5 @@
 -- What a run leaves on the disks.
-use Rattle.std.specs.Prelude.{ℕ, ◌≡◌, ◌≢◌, ◌⊎◌, [], List, Option, Some, Result, Ok, Err, true, false}
+use Rattle.std.specs.Prelude.{ℕ, ◌≡◌, ◌≢◌, ◌⊎◌, [], List, Option, Some, Ok, Err, true, false}
 use Rattle.liq_outside.specs.At.{DiskAt}
 use Rattle.liq_outside.specs.Disk.{LeavesOnly, LeftNow, Only}
 use Rattle.liq_types.specs.declared.requests.Command.{Command}
@@ -16,9 +16,9 @@ use Rattle.liq_pairs.specs.Past.{AtCommand, Fault, InOpening, NoFault}
 use Rattle.liq_pairs.specs.Unfinished.{IsRecovered}
 use Rattle.liq_store.specs.Leaving.{LeavesBoth}
 use Rattle.liq_store.specs.Standing.{OnlyShuts}
-use Rattle.liq_ends.specs.declared.halts.Halt.{Halt}
 use Rattle.liq_ends.specs.declared.halts.Halt.TheVariants.{DiskFault, Damaged, NoMemory}
 use Rattle.liq_ends.specs.Requests.{IsNext}
+use Rattle.liq_ends.specs.Statuses.{End}
 
 -- Nothing was answered, so that the opening may have failed; and where the source tells its bytes,
 -- nothing was read. `told` is what it told before, and `unread` what it still tells.
@@ -27,8 +27,8 @@ IsUnread told unread requests = (requests ≡ []) × (unread ≡ told)
 
 -- Where a run met a disk's fault: in the opening, before a line was read; or at the next line's
 -- command, which is accepted after these requests.
-abbrev pub IsFaultOfRun : State → Result (Unit {0}) Halt → Option (List ℕ) → Option (List ℕ)
-    → List Request → Fault → Type 0
+abbrev pub IsFaultOfRun : State → End → Option (List ℕ) → Option (List ℕ) → List Request → Fault
+    → Type 0
 IsFaultOfRun start (Err DiskFault) told unread requests fault =
     ((fault ≡ InOpening) × IsUnread told unread requests) ⊎ ((c : Command) × (fault ≡ AtCommand c)
     × IsNext told requests (Do c) × (ruling (run start requests).0 c ≡ Allowed))
@@ -36,7 +36,7 @@ IsFaultOfRun start _ told unread requests fault = fault ≡ NoFault
 
 -- where a word met one that only tells what is on the disks, or that opened no store: it leaves
 -- what an opening may leave
-abbrev pub IsFaultOfTelling : Result (Unit {0}) Halt → Fault → Type 0
+abbrev pub IsFaultOfTelling : End → Fault → Type 0
 IsFaultOfTelling (Err DiskFault) fault = fault ≡ InOpening
 IsFaultOfTelling _ fault = fault ≡ NoFault
 
@@ -67,27 +67,26 @@ module _ {D : Type 0} (at : D → DiskAt) where
 
   -- The disks of a run that began with l and r on them, for which they stood for the state `start`:
   -- they are kept for the state after the requests.
-  abbrev pub DisksHold : Result (Unit {0}) Halt → Option (List ℕ) → Option (List ℕ) → List ℕ
-      → List ℕ
-      → State → D → D → List Request → Type 0
+  abbrev pub DisksHold : End → Option (List ℕ) → Option (List ℕ) → List ℕ → List ℕ → State → D → D
+      → List Request → Type 0
   -- After a disk's fault they are kept for that state, or for it after the next line's command, if
   -- it is accepted there. Or the opening failed, and left what it may leave of disks that were
   -- kept.
   DisksHold (Err DiskFault) told unread l r start left right asked = OfBoth left right (λ a b.
-      let s = (run start asked).0 in (IsUnread told unread asked × (IsKept l r start
-      → IsRecovered l r start a b))
+      let s = (run start asked).0 in
+      (IsUnread told unread asked × (IsKept l r start → IsRecovered l r start a b))
       ⊎ (IsKept a b s ⊎ ((c : Command) × IsNext told asked (Do c) × (ruling s c ≡ Allowed)
       × IsKept a b (after s c))))
   -- Where memory may have been wanted for the opening they stand for that state, and stay kept.
   DisksHold (Err NoMemory) told unread l r start left right asked = OfBoth left right (λ a b.
-      let s = (run start asked).0 in StandFor a b s × ((IsUnread told unread asked
-      → IsKept l r start) → IsKept a b s))
+      let s = (run start asked).0 in
+      StandFor a b s × ((IsUnread told unread asked → IsKept l r start) → IsKept a b s))
   DisksHold _ told unread l r start left right asked =
       OfBoth left right (λ a b. IsKept a b (run start asked).0)
 
   -- The disks of a word that only tells what is on them: they stand for just the state for which l
   -- and r stood, and are kept for it.
-  abbrev pub DisksStay : Result (Unit {0}) Halt → List ℕ → List ℕ → State → D → D → Type 0
+  abbrev pub DisksStay : End → List ℕ → List ℕ → State → D → D → Type 0
   -- A disk's fault may be the opening's: then it left what it may leave of disks that were kept.
   -- `audit` may meet one behind the opening too, and nothing shows which it was.
   DisksStay (Err DiskFault) l r s left right = IsKept l r s → OfBoth left right (IsRecovered l r s)
@@ -98,10 +97,10 @@ module _ {D : Type 0} (at : D → DiskAt) where
 
   -- How a word ends over damaged disks: the first damage is told; or a disk met a fault, or there
   -- was no memory, before it was found. It stays, but where a disk met a fault.
-  abbrev pub EndsDamaged : Side → Damage → Result (Unit {0}) Halt → D → D → Type 0
+  abbrev pub EndsDamaged : Side → Damage → End → D → D → Type 0
   EndsDamaged side damage (Err DiskFault) left right = Unit {0}
-  EndsDamaged side damage (Err NoMemory) left right = OfBoth left right (λ a b. state_on a b
-      ≡ Err (side, damage))
+  EndsDamaged side damage (Err NoMemory) left right =
+      OfBoth left right (λ a b. state_on a b ≡ Err (side, damage))
   EndsDamaged side damage (Err (Damaged which number)) left right = (which ≡ side)
       × (number ≡ damage.index) × OfBoth left right (λ a b. state_on a b ≡ Err (side, damage))
   EndsDamaged side damage _ left right = ⊥
@@ -109,12 +108,12 @@ module _ {D : Type 0} (at : D → DiskAt) where
 -- What a word leaves of disks of which one is damaged, and on which l and r stood. Where nothing
 -- was pending on one of them, a stop at any moment leaves it as it was, or with some byte at the
 -- one place that an opening shuts; and where no disk met a fault that byte is a 0 at the end.
-pub record LeavesDamaged {D : Type 0} (at : D → DiskAt) (old_left old_right : D) (l r : List ℕ)
-    (side : Side)
-    (damage : Damage) (end : Result (Unit {0}) Halt) (left right : D) : Type 0 where
-  pub ends : EndsDamaged at side damage end left right
-  pub left_leaves : Only l (LeftNow at old_left) → LeavesOnly at old_left left (OpenLeaves true l)
-  pub right_leaves : Only r (LeftNow at old_right)
-      → LeavesOnly at old_right right (OpenLeaves false r)
-  pub shut : end ≢ Err DiskFault → OfBoth at left right (λ a b. OnlyShuts true l a
-      × OnlyShuts false r b)
+module _ {D : Type 0} (at : D → DiskAt) (old_left old_right : D) (l r : List ℕ) where
+  pub record LeavesDamaged
+      (side : Side) (damage : Damage) (end : End) (left right : D) : Type 0 where
+    pub ends : EndsDamaged at side damage end left right
+    pub left_leaves : Only l (LeftNow at old_left) → LeavesOnly at old_left left (OpenLeaves true l)
+    pub right_leaves : Only r (LeftNow at old_right)
+        → LeavesOnly at old_right right (OpenLeaves false r)
+    pub shut : end ≢ Err DiskFault
+        → OfBoth at left right (λ a b. OnlyShuts true l a × OnlyShuts false r b)

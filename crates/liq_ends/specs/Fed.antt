@@ -1,11 +1,11 @@
 -- How following goes on where a feed ended so.
-use Rattle.std.specs.Prelude.{Result, Ok, Err}
+use Rattle.std.specs.Prelude.{Ok, Err}
 use Rattle.liq_follower.specs.declared.answers.FedEnd.{FedEnd}
 use Rattle.liq_follower.specs.declared.answers.FedEnd.TheVariants as fed
-use Rattle.liq_ends.specs.declared.halts.Halt.{Halt}
 use Rattle.liq_ends.specs.declared.halts.Halt.TheVariants.{DamagedInput, NoMemory, Rotated}
+use Rattle.liq_ends.specs.Statuses.{End}
 
-abbrev pub end_of_feed : FedEnd → Result (Unit {0}) Halt
+abbrev pub end_of_feed : FedEnd → End
 end_of_feed fed.All = Ok tt
 end_of_feed fed.NoMemory = Err NoMemory
 end_of_feed (fed.Damaged index) = Err (DamagedInput index)

@@ -1,18 +1,18 @@
 -- How far a word has read.
-use Rattle.std.specs.Prelude.{ℕ, ◌≡◌, [], List, Option, Some, Result, Ok, Err}
+use Rattle.std.specs.Prelude.{ℕ, ◌≡◌, [], List, Option, Some, Ok, Err}
 use Rattle.std.specs.List.{AllZip}
 use Rattle.liq_types.specs.declared.amounts.TheConstants.{LINES_MOST}
 use Rattle.liq_lines.specs.declared.stops.Stop.TheVariants as stop
 use Rattle.liq_lines.specs.Lines.{lines_in}
 use Rattle.liq_lines.specs.Saying.{BeginsWith, StopsAfter}
-use Rattle.liq_ends.specs.declared.halts.Halt.{Halt}
 use Rattle.liq_ends.specs.declared.halts.Halt.TheVariants.{BadLine, ReadFault, Limit}
+use Rattle.liq_ends.specs.Statuses.{End}
 
 -- The lines of the bytes that were read say this, each what stands in its place; `left` is what the
 -- source still tells.
 module _ {X : Type 0} (Says : List ℕ → X → Type 0) (bytes : List ℕ) (left : Option (List ℕ))
     (said : List X) where
-  abbrev pub ReadsTo : Result (Unit {0}) Halt → Type 0
+  abbrev pub ReadsTo : End → Type 0
   -- they are all, and the source is at its end
   ReadsTo (Ok done) = AllZip Says (lines_in bytes) said × (left ≡ Some [])
   -- reading stopped behind them

@@ -1,13 +1,13 @@
 -- What waits where a word ends, written.
-use Rattle.std.specs.Prelude.{ℕ, ◌≡◌, List, Option, Result, Err}
+use Rattle.std.specs.Prelude.{ℕ, ◌≡◌, List, Option, Err}
 use Rattle.liq_lines.specs.Writing.{Writes, WritesPart}
-use Rattle.liq_ends.specs.declared.halts.Halt.{Halt}
 use Rattle.liq_ends.specs.declared.halts.Halt.TheVariants.{WriteFault}
+use Rattle.liq_ends.specs.Statuses.{End}
 
 -- It was written and the word ends so; or the sink met a fault at it, which is the end.
 pub data WritesRest
-    (end : Result (Unit {0}) Halt) (rest : List ℕ) (before after : Option (List ℕ))
-    (result : Result (Unit {0}) Halt) : Type 0 where
+    (end : End) (rest : List ℕ) (before after : Option (List ℕ))
+    (result : End) : Type 0 where
   whole : result ≡ end → Writes before rest after → WritesRest end rest before after result
   cut : result ≡ Err WriteFault → WritesPart before rest after
       → WritesRest end rest before after result

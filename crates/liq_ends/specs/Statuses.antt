@@ -5,6 +5,10 @@ use Rattle.liq_ends.specs.declared.halts.Halt.{Halt}
 use Rattle.liq_ends.specs.declared.halts.Halt.TheVariants.{BadLine, ReadFault, WriteFault}
 use Rattle.liq_ends.specs.declared.halts.Halt.TheVariants.{DiskFault, Damaged, DamagedInput, NoMemory, Limit, Rotated}
 
+-- how a word ends: all is done, or it stops
+abbrev pub End : Type 0
+End = Result (Unit {0}) Halt
+
 -- the status of a word that stops so, and its last line; a sink that met a fault is told nothing
 -- more
 abbrev pub ending : Halt → ℕ × List ℕ
@@ -19,7 +23,7 @@ ending NoMemory = (7, codes "no memory" ++ 10 ∷ [])
 ending (Limit number) = (8, codes "limit " ++ decimal number ++ 10 ∷ [])
 ending (Rotated generation) = (9, codes "rotated " ++ decimal generation ++ 10 ∷ [])
 
-abbrev pub status_of : Result (Unit {0}) Halt → ℕ
+abbrev pub status_of : End → ℕ
 status_of (Ok done) = 0
 status_of (Err halt) = (ending halt).0
 

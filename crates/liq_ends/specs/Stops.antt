@@ -1,5 +1,5 @@
 -- Where a word ends, and what it has written by then.
-use Rattle.std.specs.Prelude.{ℕ, ◌≡◌, ◌≢◌, ◌≤◌, ◌<◌, ◌+◌, ◌∷◌, [], ◌++◌, ◌⊎◌, List, length, Option, IfSome, Result, Ok, Err}
+use Rattle.std.specs.Prelude.{ℕ, ◌≡◌, ◌≢◌, ◌≤◌, ◌<◌, ◌+◌, ◌∷◌, [], ◌++◌, ◌⊎◌, List, length, Option, IfSome, Ok, Err}
 use Rattle.liq_outside.specs.At.{DiskAt}
 use Rattle.liq_outside.specs.declared.showing.Showing.{Showing}
 use Rattle.liq_types.specs.declared.amounts.TheConstants.{LINES_MOST}
@@ -22,6 +22,7 @@ use Rattle.liq_ends.specs.Requests.{IsNext, IsRequest}
 use Rattle.liq_ends.specs.Reading.{ReadsTo}
 use Rattle.liq_lines.specs.Writing.{Writes, WritesPart}
 use Rattle.liq_rules.specs.Memory.{TakesMemory}
+use Rattle.liq_ends.specs.Statuses.{End}
 
 -- Every depositor has its share after these requests from a state, whichever requests led from the
 -- opening, under either limit, to one that is the same in image and count of records: an account's
@@ -41,8 +42,7 @@ Adds said line fault before now = (part : List ℕ) × Writes before (said ++ pa
 
 -- A text is written, as far as the end says. Where the word stopped, this was said of it, and then
 -- the last line.
-abbrev pub TellsBehind : List ℕ → List ℕ → Result (Unit {0}) Halt → Type 0 → Option (List ℕ)
-    → Option (List ℕ) → Type 0
+abbrev pub TellsBehind : List ℕ → List ℕ → End → Type 0 → Option (List ℕ) → Option (List ℕ) → Type 0
 TellsBehind said text (Ok done) fault before now = Writes before text now
 -- the sink met a fault within it
 TellsBehind said text (Err WriteFault) fault before now = WritesPart before text now
@@ -52,20 +52,18 @@ TellsBehind said text (Err halt) fault before now = Adds said (last halt) fault 
 
 -- A word over damaged disks stops, and writes its last line alone.
 abbrev pub StopsDamaged : {D : Type 0} → (D → DiskAt) → D → D → List ℕ → List ℕ → Side → Damage
-    → Result (Unit {0}) Halt
-    → Type 0 → Option (List ℕ) → Option (List ℕ) → D → D → Type 0
-StopsDamaged at old_left old_right l r side damage end fault before now left right = (halt : Halt)
-    × (end ≡ Err halt)
+    → End → Type 0 → Option (List ℕ) → Option (List ℕ) → D → D → Type 0
+StopsDamaged at old_left old_right l r side damage end fault before now left right =
+    (halt : Halt) × (end ≡ Err halt)
     × LeavesDamaged at old_left old_right l r side damage (Err halt) left right
     × Adds [] (last halt) fault before now
 
 -- Why a run from a state ended behind these requests, whatever its source tells. Of a fault the
 -- counts tell the cause. `told` is what the source told before, and `unread` what it still tells.
-abbrev pub EndsAfter : State → Result (Unit {0}) Halt → Option (List ℕ) → Option (List ℕ)
-    → List Request → Type 0
+abbrev pub EndsAfter : State → End → Option (List ℕ) → Option (List ℕ) → List Request → Type 0
 -- the next line is no request, and it is one of those that one run answers
-EndsAfter start (Err (BadLine number)) told unread requests = (number ≡ length requests + 1)
-    × (number ≤ LINES_MOST)
+EndsAfter start (Err (BadLine number)) told unread requests =
+    (number ≡ length requests + 1) × (number ≤ LINES_MOST)
 -- a disk meets a fault in the opening, or at a line that one run answers
 EndsAfter start (Err DiskFault) told unread requests = length requests < LINES_MOST
 -- a run over damaged disks begins nowhere
@@ -78,8 +76,8 @@ EndsAfter start (Err NoMemory) told unread requests = IsUnread told unread reque
     ⊎ ((length requests < LINES_MOST) × ((request : Request) × IsNext told requests request
     × TakesMemory (run start requests).0 request))
 -- as many lines were answered as one run answers
-EndsAfter start (Err (Limit number)) told unread requests = (number ≡ LINES_MOST)
-    × (length requests ≡ LINES_MOST)
+EndsAfter start (Err (Limit number)) told unread requests =
+    (number ≡ LINES_MOST) × (length requests ≡ LINES_MOST)
 -- and it goes on in whatever generation
 EndsAfter start (Err (Rotated generation)) told unread requests = ⊥
 EndsAfter start _ told unread requests = Unit {0}
@@ -87,8 +85,8 @@ EndsAfter start _ told unread requests = Unit {0}
 -- What a run has written by its end: all replies, and the last line where it stopped. Where the
 -- sink met a fault at a reply, it is a front of the requests' lines that ends within the last of
 -- them.
-abbrev pub WritesUpTo : State → Result (Unit {0}) Halt → Type 0 → List Request
-    → Option (List ℕ) → Option (List ℕ) → Type 0
+abbrev pub WritesUpTo : State → End → Type 0 → List Request → Option (List ℕ) → Option (List ℕ)
+    → Type 0
 WritesUpTo start (Err WriteFault) fault requests before now = (part : List ℕ)
     × Writes before part now
     × ((earlier : List Request) × (request : Request) × (requests ≡ earlier ++ request ∷ [])
@@ -101,8 +99,7 @@ WritesUpTo start end fault requests before now =
 -- is what the source told, and `unread` what it still tells; `before` and `now` are what the sink
 -- held and holds, and `shown` and `shown_now` what it was shown by then.
 pub record EndsIn {D : Type 0} (at : D → DiskAt) (old_left old_right : D) (start : State)
-    (end : Result (Unit {0}) Halt) (told : Option (List ℕ)) (l r : List ℕ)
-    (unread : Option (List ℕ))
+    (end : End) (told : Option (List ℕ)) (l r : List ℕ) (unread : Option (List ℕ))
     (sink_fails : Type 0) (before now : Option (List ℕ))
     (shown shown_now : Option (List Showing)) (left right : D) : Type 0 where
   pub requests : List Request

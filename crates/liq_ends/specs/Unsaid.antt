@@ -1,11 +1,11 @@
 -- How a word that writes one text ends, before its last line.
-use Rattle.std.specs.Prelude.{ℕ, ◌≡◌, List, Option, Result, Ok, Err}
+use Rattle.std.specs.Prelude.{ℕ, ◌≡◌, List, Option, Ok, Err}
 use Rattle.liq_lines.specs.Writing.{Writes, WritesPart}
-use Rattle.liq_ends.specs.declared.halts.Halt.{Halt}
 use Rattle.liq_ends.specs.declared.halts.Halt.TheVariants.{WriteFault}
+use Rattle.liq_ends.specs.Statuses.{End}
 
 -- the text was written, or the sink met a fault within it, or nothing was written
-abbrev pub WritesAll : List ℕ → Result (Unit {0}) Halt → Option (List ℕ) → Option (List ℕ) → Type 0
+abbrev pub WritesAll : List ℕ → End → Option (List ℕ) → Option (List ℕ) → Type 0
 WritesAll text (Ok done) before now = Writes before text now
 WritesAll text (Err WriteFault) before now = WritesPart before text now
 WritesAll text (Err halt) before now = now ≡ before

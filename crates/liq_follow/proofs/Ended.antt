@@ -9,7 +9,11 @@ use Rattle.liq_ends.specs.declared.halts.Halt.{Halt}
 use Rattle.liq_ends.specs.declared.halts.Halt.TheVariants.{BadLine, ReadFault, WriteFault, DiskFault, Damaged, DamagedInput, NoMemory, Limit, Rotated}
 use Rattle.liq_ends.specs.Statuses.{status_of}
 use Rattle.liq_follow.specs.declared.feeding.TheConstants.{FED_MOST}
-use Rattle.liq_follow.specs.Followed.{FaultIn, FollowsTo, IsFirstFault, IsWhole}
+use Rattle.liq_follow.specs.Followed.{FaultIn, FollowsTo, IsWhole}
+
+-- they show no fault before the last one
+abbrev pub IsFirstFault : List ℕ → Type 0
+IsFirstFault bytes = (before : List ℕ) × (byte : ℕ) × (bytes ≡ before ++ byte ∷ []) × GoOn before
 
 -- ---- faults do not go on
 
@@ -19,7 +23,7 @@ damage_ends index bytes damaged goes = cc (damaged.1.1, goes.1.1)
 pub turning_ends : (generation : ℕ) (bytes : List ℕ) → AreTurnedTo generation bytes → GoOn bytes → ⊥
 turning_ends generation bytes turned goes = cc (turned.0, goes.1.0)
 
--- neither is the other
+-- bytes that are damaged are not of a later generation
 apart : (index generation : ℕ) (bytes : List ℕ) → AreDamagedAt index bytes → AreTurnedTo generation bytes → ⊥
 apart index generation bytes damaged turned = cc (damaged.0, turned.0)
 

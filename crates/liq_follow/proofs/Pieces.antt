@@ -7,10 +7,9 @@ use Rattle.liq_follower.specs.Fed.{AreOver, Completes, EndsWith, GoOn}
 use Rattle.liq_follower.specs.Following.{Followed, IsFed}
 use Rattle.liq_follower.specs.declared.answers.FedEnd.{FedEnd}
 use Rattle.liq_follower.specs.declared.answers.FedEnd.TheVariants as fed_end
-use Rattle.liq_follow.proofs.Ended.{damage_ends, turning_ends}
+use Rattle.liq_follow.proofs.Ended.{IsFirstFault, damage_ends, turning_ends}
 use Rattle.liq_ends.specs.Fed.{end_of_feed}
 use Rattle.liq_follow.specs.Feeding.{FedPiece}
-use Rattle.liq_follow.specs.Followed.{IsFirstFault}
 
 -- what one read took
 pub taken : (before after : Option (List ℕ)) (n : ℕ) (held : List ℕ) → after ≡ option_map (drop n) before

@@ -6,9 +6,10 @@ use Rattle.liq_follower.specs.Following.{Followed, IsFed}
 use Rattle.liq_ends.specs.declared.halts.Halt.{Halt}
 use Rattle.liq_follow.specs.declared.feeding.TheConstants.{FED_MOST}
 use Rattle.liq_follow.specs.Followed.{FollowsTo, StopsWithin}
+use Rattle.liq_ends.specs.Statuses.{End}
 
 -- A piece was fed: these are all bytes with those of the piece.
-abbrev pub FedPiece : Result (Unit {0}) Halt → List ℕ → Followed → Type 0
+abbrev pub FedPiece : End → List ℕ → Followed → Type 0
 FedPiece (Ok done) bytes follower = IsFed bytes follower × GoOn bytes
 FedPiece (Err halt) bytes follower = StopsWithin halt bytes
 
@@ -21,7 +22,7 @@ FedNext (Ok count) fed read left follower =
 FedNext (Err halt) fed read left follower = StopsWithin halt (fed ++ read)
 
 -- the whole input was fed, or feeding it stopped
-abbrev pub FedAll : Result (Unit {0}) Halt → List ℕ → Option (List ℕ) → Followed → Type 0
+abbrev pub FedAll : End → List ℕ → Option (List ℕ) → Followed → Type 0
 FedAll (Ok done) read left follower = (length read ≤ FED_MOST) × IsOver left × IsFed read follower
     × GoOn read
 FedAll (Err halt) read left follower = FollowsTo (Err halt) read left []

@@ -1,5 +1,5 @@
 -- Where the word `follow` ends, and what it tells.
-use Rattle.std.specs.Prelude.{ℕ, ◌≡◌, ◌⊎◌, ◌≤◌, ◌+◌, List, [], ◌∷◌, ◌++◌, length, take, Option, Result, Ok, Err}
+use Rattle.std.specs.Prelude.{ℕ, ◌≡◌, ◌⊎◌, ◌≤◌, ◌+◌, List, [], ◌∷◌, ◌++◌, length, take, Option, Ok, Err}
 use Rattle.liq_types.specs.State.{State}
 use Rattle.liq_lines.specs.Reading.{IsOver}
 use Rattle.liq_follower.specs.Fed.{AreDamagedAt, AreTurnedTo, Completes, GoOn, LeadTo}
@@ -8,6 +8,7 @@ use Rattle.liq_ends.specs.declared.halts.Halt.TheVariants.{DamagedInput, Limit, 
 use Rattle.liq_ends.specs.declared.halts.Halt.TheVariants.{ReadFault, Rotated, WriteFault}
 use Rattle.liq_tell.specs.State.{standing}
 use Rattle.liq_follow.specs.declared.feeding.TheConstants.{FED_MOST}
+use Rattle.liq_ends.specs.Statuses.{End}
 
 -- The input was read to its end. Its bytes are no more than are followed, and lead to a state of
 -- which this is told.
@@ -18,18 +19,15 @@ pub record IsWhole (read : List ℕ) (left : Option (List ℕ)) (text : List ℕ
   pub leads : LeadTo read state
   pub told : text ≡ standing state
 
--- they show no fault before the last one
-abbrev pub IsFirstFault : List ℕ → Type 0
-IsFirstFault bytes = (before : List ℕ) × (byte : ℕ) × (bytes ≡ before ++ byte ∷ []) × GoOn before
-
--- with the first fault that some bytes show, what stands up to there is so
+-- with the first fault that some bytes show, what stands up to there is so: they show none before
+-- its last byte
 abbrev pub FaultIn : List ℕ → (List ℕ → Type 0) → Type 0
-FaultIn bytes P = (front rest : List ℕ) × (bytes ≡ front ++ rest) × (IsFirstFault front × P front)
+FaultIn bytes P = (front rest : List ℕ) × (bytes ≡ front ++ rest) × (((before : List ℕ) × (byte : ℕ)
+    × (front ≡ before ++ byte ∷ []) × GoOn before) × P front)
 
 -- a byte completes a record of right digest and form, and no fault stands before it
 abbrev pub FindsNoMemory : List ℕ → Type 0
-FindsNoMemory bytes =
-    (front rest : List ℕ) × (byte : ℕ) × (bytes ≡ front ++ byte ∷ rest)
+FindsNoMemory bytes = (front rest : List ℕ) × (byte : ℕ) × (bytes ≡ front ++ byte ∷ rest)
     × GoOn front × Completes byte front
 
 -- why feeding stopped within the bytes that were read
@@ -44,7 +42,7 @@ StopsWithin _ read = ⊥
 
 -- Where following ends. `read` is what was read of the input, `left` what the source still tells,
 -- `text` what is told.
-abbrev pub FollowsTo : Result (Unit {0}) Halt → List ℕ → Option (List ℕ) → List ℕ → Type 0
+abbrev pub FollowsTo : End → List ℕ → Option (List ℕ) → List ℕ → Type 0
 FollowsTo (Ok done) read left text = IsWhole read left text
 FollowsTo (Err WriteFault) read left text = IsWhole read left text
 -- one byte more than are followed was read, and those show no fault

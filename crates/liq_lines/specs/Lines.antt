@@ -28,6 +28,6 @@ IsWholeLine size bytes =
 -- What was given of the line behind so many others: it has no line end, and is no longer than a
 -- line may be. Behind the last line that is answered there is none of it.
 pub record IsPartOfLine (before : ℕ) (part : List ℕ) : Type 0 where
-  pub within : IsWithinLine part
+  pub within : AllByRecursion (λ byte. byte ≢ 10) part
   pub short : length part ≤ LINE_BYTES
   pub none_behind : before ≡ LINES_MOST → part ≡ []

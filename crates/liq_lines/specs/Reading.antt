@@ -19,8 +19,7 @@ Reads before bytes after = before ≡ option_map (λ rest. bytes ++ rest) after
 
 -- at most so many bytes were read
 abbrev pub ReadsAtMost : ℕ → Option (List ℕ) → Option (List ℕ) → Type 0
-ReadsAtMost most before after =
-    (bytes : List ℕ) × (before ≡ option_map (λ rest. bytes ++ rest) after) × (length bytes ≤ most)
+ReadsAtMost most before after = (bytes : List ℕ) × Reads before bytes after × (length bytes ≤ most)
 
 -- the most that is taken of a source for so many lines: each with its line end, and what one read
 -- asks for
@@ -33,9 +32,9 @@ pub record ReadsFew (before : Option (List ℕ)) (n : ℕ) (reader : List ℕ) (
   pub few : ReadsAtMost (n * (LINE_BYTES + 1)) before (unread reader left)
   pub held : length reader ≤ READ_BYTES
 
--- nothing is unread
+-- nothing is unread, as far as that is told
 abbrev pub IsOver : Option (List ℕ) → Type 0
-IsOver unread = IfSome unread (λ bytes. bytes ≡ [])
+IsOver left = IfSome left (λ bytes. bytes ≡ [])
 
 -- a line was read, or what stood in its place
 abbrev pub ReadsLine :

@@ -37,13 +37,12 @@ use Rattle.liq_store.proofs.Past.{begins, cut, ends_kept, goes_on, opened_rests,
 use Rattle.liq_ends.specs.declared.halts.Halt.{Halt}
 use Rattle.liq_ends.specs.declared.halts.Halt.TheVariants.{BadLine, ReadFault, WriteFault, DiskFault, Damaged, DamagedInput, NoMemory, Limit, Rotated}
 use Rattle.liq_run.specs.Calls.{GoOn}
-use Rattle.liq_ends.specs.Answered.{IsKeptFailed}
 use Rattle.liq_ends.specs.Output.{lines}
 use Rattle.liq_ends.proofs.Opened.{some_of}
 use Rattle.liq_ends.proofs.Passing.{untouched_past}
 use Rattle.liq_run.specs.Passing.{Begun, BeginsNone, BeginsRun, IsOver, IsPastOf, IsShown, IsStoppedPastOf, PassesBy, Recovers}
 use Rattle.liq_run.proofs.Progressing.{asked-more}
-use Rattle.liq_run.proofs.Shown.{shown_again, shown_ended, shown_failed, shown_first, shown_on}
+use Rattle.liq_run.proofs.Shown.{IsKeptFailed, shown_again, shown_ended, shown_failed, shown_first, shown_on}
 
 -- one after another
 pub both : {P Q R : Type 0} → (Q ↔ P) → (R ↔ Q) → (R ↔ P)
@@ -246,7 +245,7 @@ module _ {D : Type 0} (at : D → DiskAt)
               → IsKept x y s ⊎ IsKeptFailed (AtCommand c) s x y
           failed s c x y allowed (inl kept) = inl kept
           failed s c x y allowed (inr kept) = inr
-              (allowed, subst (λ (t : State). IsKept x y t) (step_is_after s c allowed) kept)
+              (c, refl, allowed, subst (λ (t : State). IsKept x y t) (step_is_after s c allowed) kept)
 
     -- ---- at its end
 

@@ -7,17 +7,22 @@ use Rattle.liq_outside.specs.Showings.{AllNeighbours, LeavesBetween, shown_as}
 use Rattle.liq_types.specs.declared.requests.Command.{Command}
 use Rattle.liq_types.specs.declared.requests.Request.{Request}
 use Rattle.liq_types.specs.State.{State}
-use Rattle.liq_rules.specs.Step.{accepted, after, run, step}
+use Rattle.liq_rules.specs.Step.{Allowed, accepted, after, ruling, run, step}
 use Rattle.liq_rules.proofs.Runs.{run_accepted}
 use Rattle.liq_text.specs.Replies.{reply_line}
 use Rattle.liq_pairs.specs.Kept.{IsKept}
-use Rattle.liq_pairs.specs.Past.{Fault}
+use Rattle.liq_pairs.specs.Past.{AtCommand, Fault}
 use Rattle.liq_pairs.proofs.Past.{run_folds}
 use Rattle.liq_store.specs.Keeping.{IsKeptAround, LeavesPairs}
-use Rattle.liq_ends.specs.Answered.{HoldsAnswered, IsKeptFailed}
+use Rattle.liq_ends.specs.Answered.{HoldsAnswered}
 use Rattle.liq_ends.specs.Output.{lines}
 use Rattle.liq_run.specs.Passing.{Covers, HoldsFirst, IsShown, WasShown, last_of}
 use Rattle.liq_run.proofs.Progressing.{after-more, lines-more}
+
+-- kept for the state after the command at which a disk met a fault
+abbrev pub IsKeptFailed : Fault → State → List ℕ → List ℕ → Type 0
+IsKeptFailed fault s a b =
+    (c : Command) × (fault ≡ AtCommand c) × (ruling s c ≡ Allowed) × IsKept a b (after s c)
 
 -- ---- lists
 

@@ -1,8 +1,7 @@
 -- What follows from the top call's clause where nothing is wrong.
-use Rattle.std.proofs.Common.{◌≡◌, ◌≢◌, ◌≤◌, ℕ, zero, suc, List, [], ◌∷◌, ◌++◌, length, Option, Some, Ok, Err, Result, refl, sym, ap, subst, ◌∙◌, arith, inl, inr}
+use Rattle.std.proofs.Common.{◌≡◌, ◌≢◌, ◌≤◌, ℕ, zero, suc, List, [], ◌∷◌, ◌++◌, length, Option, Some, Ok, Err, refl, sym, ap, subst, ◌∙◌, arith, inl, inr}
 use Rattle.std.specs.Prelude.{◌⊎◌, ◌<◌, Contains, IfSome}
 use Rattle.std.specs.List.{AllZip}
-use Rattle.std.proofs.lemmas.Result.{MatchResult-at_ok}
 use Rattle.liq_outside.specs.At.{DiskAt, SinkAt, SourceAt}
 use Rattle.liq_outside.specs.Faults.{Rose}
 use Rattle.liq_types.specs.declared.amounts.TheConstants.{LINES_MOST}
@@ -27,7 +26,7 @@ use Rattle.liq_words.specs.Words.{Ask}
 use Rattle.liq_ends.specs.declared.halts.Halt.{Halt}
 use Rattle.liq_ends.specs.declared.halts.Halt.TheVariants.{BadLine, ReadFault, WriteFault, DiskFault, Damaged, DamagedInput, NoMemory, Limit, Rotated}
 use Rattle.liq_ends.specs.Reading.{ReadsTo}
-use Rattle.liq_ends.specs.Statuses.{IsDone, status_of}
+use Rattle.liq_ends.specs.Statuses.{End, IsDone, status_of}
 use Rattle.liq_ends.specs.Stops.{EndsAfter}
 use Rattle.liq_text.specs.Spelling.{Spells}
 use Rattle.liq_store.specs.Causes.{OneRose, counts_of}
@@ -39,9 +38,9 @@ use Rattle.liq_follow.specs.Followed.{FollowsTo}
 use Rattle.liq_follow.proofs.Ended.{damaged_so, long_so, turned_so, whole_so}
 use Rattle.liq_serve.specs.Calm.{AnswersFirst, IsComplete, RefusesLater}
 use Rattle.liq_ends.specs.Outside.{Outside}
-use Rattle.liq_serve.specs.Answered.{AnswersBeside, AnswersLines, IsOfNoInput, StopsUnopened}
-use Rattle.liq_serve.specs.Top.{Answers, Ends, OpensNone, ServesTo, Tells}
+use Rattle.liq_serve.specs.Top.{Answers, AnswersLines, Ends, OpensNone, ServesTo, StopsUnopened, Tells, TellsFound}
 use Rattle.liq_serve.proofs.ByStatus.{by_status}
+use Rattle.liq_serve.proofs.Found.{found_of}
 use Rattle.liq_serve.proofs.Served.{IsStopping}
 use Rattle.liq_serve.proofs.StatusLaws.{neither, run_done}
 use Rattle.liq_serve.proofs.Telling.{audit_done, load_done, rotated_done, state_done}
@@ -51,28 +50,27 @@ use Rattle.liq_serve.proofs.Telling.{audit_done, load_done, rotated_done, state_
 -- reading stopped
 module _ {X : Type 0} (Says : List ℕ → X → Type 0) where
   stopped_seven :
-      (end : Result (Unit {0}) Halt) (bytes : List ℕ) (left : Option (List ℕ)) (asked all : List X) → IsStopping end
+      (end : End) (bytes : List ℕ) (left : Option (List ℕ)) (asked all : List X) → IsStopping end
       → ReadsTo Says bytes left asked end → AllZip Says (lines_in bytes) all → length all ≤ LINES_MOST
       → status_of end ≢ 3 → status_of end ≡ 7
   stopped_seven end bytes left asked all (n, (zero, within, is)) h spelled few read =
       absurd (neither (λ e. cc) (λ e. cc)
       (stops_outside Says (stop.BadLine n) bytes left asked all spelled few
-      (subst (λ (e : Result (Unit {0}) Halt). ReadsTo Says bytes left asked e) (sym is) h)))
+      (subst (λ (e : End). ReadsTo Says bytes left asked e) (sym is) h)))
   stopped_seven end bytes left asked all (n, (suc zero, within, is)) h spelled few read =
       absurd (read (sym (ap status_of is)))
   stopped_seven end bytes left asked all (n, (suc (suc zero), within, is)) h spelled few read = sym (ap status_of is)
   stopped_seven end bytes left asked all (n, (suc (suc (suc zero)), within, is)) h spelled few read =
       absurd (neither (λ e. cc) (λ e. cc)
       (stops_outside Says stop.Limit bytes left asked all spelled few
-      (subst (λ (e : Result (Unit {0}) Halt). ReadsTo Says bytes left asked e) (sym is) h).1))
+      (subst (λ (e : End). ReadsTo Says bytes left asked e) (sym is) h).1))
   stopped_seven end bytes left asked all (n, (suc (suc (suc (suc k))), within, is)) h spelled few read =
       absurd (omega (arith, within))
 
-unopened_done : (n : ℕ) → Contains (5 ∷ 6 ∷ 7 ∷ []) n → n ≢ 5 → n ≢ 6 → IsDone n
-unopened_done n (zero, within, is) disk damage = absurd (disk (sym is))
-unopened_done n (suc zero, within, is) disk damage = absurd (damage (sym is))
-unopened_done n (suc (suc zero), within, is) disk damage = inr (sym is)
-unopened_done n (suc (suc (suc k)), within, is) disk damage = absurd (omega (arith, within))
+unopened_done : (n : ℕ) → Contains (5 ∷ 7 ∷ []) n → n ≢ 5 → IsDone n
+unopened_done n (zero, within, is) disk = absurd (disk (sym is))
+unopened_done n (suc zero, within, is) disk = inr (sym is)
+unopened_done n (suc (suc k), within, is) disk = absurd (omega (arith, within))
 
 whole_done : (n : ℕ) → Contains (0 ∷ 4 ∷ []) n → n ≢ 4 → IsDone n
 whole_done n (zero, within, is) sink = inl (sym is)
@@ -82,7 +80,7 @@ whole_done n (suc (suc k), within, is) sink = absurd (omega (arith, within))
 module _
     {S K D : Type 0} (source_at : S → SourceAt) (sink_at : K → SinkAt) (disk_at : D → DiskAt)
     (before after : Outside S K D) where
-  answers_done : (asked : List (ℕ × Request)) (history : List Entry) (fault : Fault) (end : Result (Unit {0}) Halt)
+  answers_done : (asked : List (ℕ × Request)) (history : List Entry) (fault : Fault) (end : End)
       → Answers source_at sink_at disk_at before after asked history fault end → status_of end ≢ 4 → status_of end ≢ 5
       → IsDone (status_of end)
   answers_done asked history fault (Ok done) a sink disk = inl refl
@@ -97,35 +95,35 @@ module _
   answers_done asked history fault (Err (DamagedInput number)) a sink disk = whole_done _ a.2 sink
 
   pub serve_done :
-      (end : Result (Unit {0}) Halt) → ServesTo source_at sink_at disk_at before after end
+      (end : End) → ServesTo source_at sink_at disk_at before after end
       → (bytes l r : List ℕ) (start : State) (all : List (ℕ × Request)) → (source_at before.source).left ≡ Some bytes
       → (disk_at before.left).seen ≡ Some l → (disk_at before.right).seen ≡ Some r
       → state_on l r ≡ Ok start → AllZip Asks (lines_in bytes) all → length all ≤ LINES_MOST → status_of end ≢ 3
       → status_of end ≢ 4 → status_of end ≢ 5
       → IsDone (status_of end)
   serve_done end serves bytes l r start all told told_l told_r is spelled few read sink disk = by serves.came where
-    by : ((serves.reading ≡ end) × (serves.history ≡ []) × (serves.fault ≡ NoFault) × (after.left ≡ before.left)
-        × (after.right ≡ before.right) × IsStopping end)
+    by : ((serves.reading ≡ end) × (serves.history ≡ []) × (serves.fault ≡ NoFault)
+        × StopsUnopened source_at sink_at disk_at before after end)
         ⊎ ((serves.reading ≡ Ok tt)
         × (OpensNone source_at sink_at disk_at before after serves.history serves.fault end
         ⊎ Answers source_at sink_at disk_at before after serves.asked serves.history serves.fault end))
         → IsDone (status_of end)
-    by (inl (stopped, none, no_fault, left, right, stopping)) =
+    by (inl (stopped, none, no_fault, (left, right, stopping))) =
         inr (stopped_seven Asks end bytes (source_at after.source).left serves.asked all stopping
-        (subst (λ (e : Result (Unit {0}) Halt). ReadsTo Asks bytes (source_at after.source).left serves.asked e) stopped
+        (subst (λ (e : End). ReadsTo Asks bytes (source_at after.source).left serves.asked e) stopped
         (serves.read bytes told)) spelled few read)
-    by (inr (whole, inl opens)) = unopened_done (status_of end) opens.2 disk
-        (MatchResult-at_ok _ _ start is (opens.3 l r told_l told_r)).0
+    by (inr (whole, inl opens)) = unopened_done (status_of end)
+        (found_of source_at sink_at disk_at before after end _ _ l r start told_l told_r is opens.2).0 disk
     by (inr (whole, inr answers)) = answers_done serves.asked serves.history serves.fault end answers sink disk
 
 -- ---- of what is followed
 
-done_by : (end : Result (Unit {0}) Halt) → (end ≡ Ok tt) ⊎ (end ≡ Err NoMemory) → IsDone (status_of end)
+done_by : (end : End) → (end ≡ Ok tt) ⊎ (end ≡ Err NoMemory) → IsDone (status_of end)
 done_by end (inl is) = inl (ap status_of is)
 done_by end (inr is) = inr (ap status_of is)
 
 -- what holds of an end holds of the one that it is
-stopped_by : (P : Result (Unit {0}) Halt → Type 0) (end wanted : Result (Unit {0}) Halt) → P end → (end ≡ wanted)
+stopped_by : (P : End → Type 0) (end wanted : End) → P end → (end ≡ wanted)
     ⊎ (end ≡ Err NoMemory) → ((status_of end ≡ status_of wanted) × P wanted) ⊎ (status_of end ≡ 7)
 stopped_by P end wanted holds (inl is) = inl (ap status_of is, subst P is holds)
 stopped_by P end wanted holds (inr is) = inr (ap status_of is)
@@ -133,7 +131,7 @@ stopped_by P end wanted holds (inr is) = inr (ap status_of is)
 -- ---- of lines that are answered
 
 -- of the first generation
-answers_beside_done : (s : State) (end : Result (Unit {0}) Halt) → s.generation ≡ 1 → IsAnswerOf s end
+answers_beside_done : (s : State) (end : End) → s.generation ≡ 1 → IsAnswerOf s end
     → status_of end ≢ 4 → status_of end ≢ 5 → IsDone (status_of end)
 answers_beside_done s (Ok done) first h sink disk = inl refl
 answers_beside_done s (Err WriteFault) first h sink disk = absurd (sink refl)
@@ -143,7 +141,7 @@ answers_beside_done s (Err (Rotated generation)) first h sink disk = absurd (ome
 answers_beside_done s (Err _) first h sink disk = absurd h
 
 -- of a later one
-answers_beside_rotated : (s : State) (end : Result (Unit {0}) Halt) → 1 < s.generation → IsAnswerOf s end
+answers_beside_rotated : (s : State) (end : End) → 1 < s.generation → IsAnswerOf s end
     → status_of end ≢ 5 → (status_of end ≡ 9) ⊎ (status_of end ≡ 7)
 answers_beside_rotated s (Ok done) later h disk = absurd (omega (arith, later, h))
 answers_beside_rotated s (Err WriteFault) later h disk = absurd (omega (arith, later, h))
@@ -158,28 +156,30 @@ module _
     {X : Type 0} (Says : List ℕ → X → Type 0) (text : ℕ → List Command → List X → List ℕ) where
   -- Where all lines were read well, they were answered beside the state, or there was no memory to read them.
   lines_came :
-      (end : Result (Unit {0}) Halt) (answered : AnswersLines source_at sink_at disk_at before after Says text end)
+      (end : End) (answered : AnswersLines source_at sink_at disk_at before after Says text end)
       → (bytes l r : List ℕ) (start : State) (all : List X) → (source_at before.source).left ≡ Some bytes
       → (disk_at before.left).seen ≡ Some l → (disk_at before.right).seen ≡ Some r
       → state_on l r ≡ Ok start → AllZip Says (lines_in bytes) all → length all ≤ LINES_MOST → status_of end ≢ 3
       → IsAnswerOf start end ⊎ (status_of end ≡ 7)
   lines_came end answered bytes l r start all told told_l told_r is spelled few read = by answered.came where
-    by : ((answered.reading ≡ end) × StopsUnopened source_at sink_at disk_at before after end)
-        ⊎ ((answered.reading ≡ Ok tt) × IsOfNoInput source_at sink_at disk_at before after end
-        × AnswersBeside source_at sink_at disk_at before after (λ limit commands. text limit commands answered.asked)
-        end) → IsAnswerOf start end ⊎ (status_of end ≡ 7)
-    by (inl (stopped, unopened)) =
-        inr (stopped_seven Says end bytes (source_at after.source).left answered.asked all unopened.3
-        (subst (λ (e : Result (Unit {0}) Halt). ReadsTo Says bytes (source_at after.source).left answered.asked e)
+    by : ((answered.reading ≡ end) × StopsUnopened source_at sink_at disk_at before after end
+        × Tells source_at sink_at disk_at before after [] [] end)
+        ⊎ ((answered.reading ≡ Ok tt) × TellsFound source_at sink_at disk_at before after end (Unit {0})
+        (λ s commands it. IsAnswerOf s end × (it ≡ text s.limit commands answered.asked)))
+        → IsAnswerOf start end ⊎ (status_of end ≡ 7)
+    by (inl (stopped, unopened, line)) =
+        inr (stopped_seven Says end bytes (source_at after.source).left answered.asked all unopened.2
+        (subst (λ (e : End). ReadsTo Says bytes (source_at after.source).left answered.asked e)
         stopped (answered.read bytes told)) spelled few read)
-    by (inr (whole, own, answers)) = inl (MatchResult-at_ok _ _ start is (answers l r told_l told_r)).0
+    by (inr (whole, answers)) =
+        inl (found_of source_at sink_at disk_at before after end _ _ l r start told_l told_r is answers).0.1.0
 
-lines_done : (s : State) (end : Result (Unit {0}) Halt) → IsAnswerOf s end ⊎ (status_of end ≡ 7) → s.generation ≡ 1
+lines_done : (s : State) (end : End) → IsAnswerOf s end ⊎ (status_of end ≡ 7) → s.generation ≡ 1
     → status_of end ≢ 4 → status_of end ≢ 5 → IsDone (status_of end)
 lines_done s end (inl h) first sink disk = answers_beside_done s end first h sink disk
 lines_done s end (inr seven) first sink disk = inr seven
 
-lines_rotated : (s : State) (end : Result (Unit {0}) Halt) → IsAnswerOf s end ⊎ (status_of end ≡ 7) → 1 < s.generation
+lines_rotated : (s : State) (end : End) → IsAnswerOf s end ⊎ (status_of end ≡ 7) → 1 < s.generation
     → status_of end ≢ 5 → (status_of end ≡ 9) ⊎ (status_of end ≡ 7)
 lines_rotated s end (inl h) later disk = answers_beside_rotated s end later h disk
 lines_rotated s end (inr seven) later disk = inr seven
@@ -204,7 +204,7 @@ module _
   -- lines of one kind that are answered
   module _
       {X : Type 0} (Says : List ℕ → X → Type 0) (text : ℕ → List Command → List X → List ℕ)
-      (end : Result (Unit {0}) Halt)
+      (end : End)
       (answered : AnswersLines source_at sink_at disk_at before after Says text end) (rises : Rises (status_of end))
     where
       lines_first : First Says (status_of end)
@@ -219,11 +219,11 @@ module _
           start asked told stood.left stood.right stood.is all few (λ is. well (rises.source is)))
           later (λ is. kept (rises.disk is))
 
-  abbrev Told : List ℕ → Result (Unit {0}) Halt → Type 0
+  abbrev Told : List ℕ → End → Type 0
   Told text end = Tells source_at sink_at disk_at before after [] text end
 
   -- what was followed of a source that told its bytes
-  record Follows (bytes : List ℕ) (end : Result (Unit {0}) Halt) : Type 0 where
+  record Follows (bytes : List ℕ) (end : End) : Type 0 where
     read : List ℕ
     reads : Reads (Some bytes) read (source_at after.source).left
     text : List ℕ
@@ -232,7 +232,7 @@ module _
 
   module _ (status : ℕ) (words : List (List ℕ)) (ends : Ends source_at sink_at disk_at before after status words)
       (asked : Ask words word.Follow) (bytes : List ℕ) (is : (source_at before.source).left ≡ Some bytes) where
-    abbrev followed : Result (Unit {0}) Halt
+    abbrev followed : End
     followed = (ends.ends word.Follow asked).end
 
     follows : Follows bytes followed
@@ -276,7 +276,8 @@ module _
       record {
         run = λ asked bytes l r start requests told stood all few well calm.
             let e = ends.ends word.Run asked in
-            let ran = MatchResult-at_ok _ _ start stood.is (e.leaves l r stood.left stood.right) in
+            let ran = found_of source_at sink_at disk_at before after e.end _ _ l r start stood.left stood.right
+            stood.is e.leaves.1 l r stood.left stood.right in
             let left = (source_at after.source).left in
             subst IsDone (sym e.status_is)
             (run_done start bytes left requests all few e.end
@@ -311,19 +312,22 @@ module _
             (subst Rises e.status_is rises));
         state = λ asked l r start stood calm.
             let e = ends.ends word.State asked in
-            let told = MatchResult-at_ok _ _ start stood.is (e.leaves.1 l r stood.left stood.right) in
-            subst IsDone (sym e.status_is) (state_done (status_of e.end) told.0
+            let told = found_of source_at sink_at disk_at before after e.end _ _ l r start stood.left stood.right
+            stood.is e.leaves.1 in
+            subst IsDone (sym e.status_is) (state_done (status_of e.end) told.0.1.0
             (λ is. calm.sink (each.sink_fault (e.status_is ∙ is)))
             (λ is. calm.disk (each.disk_fault (e.status_is ∙ is))));
         report = λ asked l r start stood calm.
             let e = ends.ends word.Report asked in
-            let told = MatchResult-at_ok _ _ start stood.is (e.leaves.1 l r stood.left stood.right) in
-            subst IsDone (sym e.status_is) (state_done (status_of e.end) told.0
+            let told = found_of source_at sink_at disk_at before after e.end _ _ l r start stood.left stood.right
+            stood.is e.leaves.1 in
+            subst IsDone (sym e.status_is) (state_done (status_of e.end) told.0.1.0
             (λ is. calm.sink (each.sink_fault (e.status_is ∙ is)))
             (λ is. calm.disk (each.disk_fault (e.status_is ∙ is))));
         audit = λ asked l r start stood first within calm.
             let e = ends.ends word.Audit asked in
-            let told = MatchResult-at_ok _ _ start stood.is (e.leaves.1 l r stood.left stood.right) in
+            let told = found_of source_at sink_at disk_at before after e.end _ _ l r start stood.left stood.right
+            stood.is e.leaves.1 in
             subst IsDone (sym e.status_is)
             (audit_done start (commands_on l r) e.end told.0.0 first told.0.1
             (λ number limit. no_limit start.limit (commands_on l r) start number (leads l r start stood.is first) within
@@ -332,7 +336,8 @@ module _
             ∙ is))));
         rotated = λ asked l r start stood later well.
             let e = ends.ends word.Audit asked in
-            let told = MatchResult-at_ok _ _ start stood.is (e.leaves.1 l r stood.left stood.right) in
+            let told = found_of source_at sink_at disk_at before after e.end _ _ l r start stood.left stood.right
+            stood.is e.leaves.1 in
             subst (λ (n : ℕ). (n ≡ 9) ⊎ (n ≡ 7)) (sym e.status_is)
             (rotated_done start (commands_on l r) e.end told.0.0 later told.0.1
             (λ is. well (each.disk_fault (e.status_is ∙ is))));

@@ -1,5 +1,5 @@
 -- Lines of one kind, read to their end or not.
-use Rattle.std.proofs.Common.{◌≡◌, ◌≢◌, ℕ, ◌≤◌, List, [], length, Option, Some, Ok, Err, Result, refl, sym, subst, ap, arith, inl, inr}
+use Rattle.std.proofs.Common.{◌≡◌, ℕ, ◌≤◌, List, [], length, Option, Some, Ok, Err, refl, sym, subst, ap, arith, inl, inr}
 use Rattle.std.specs.Prelude.{Vec}
 use Rattle.std.specs.Global.{Global}
 use Rattle.std.specs.List.{AllZip}
@@ -11,14 +11,14 @@ use Rattle.liq_lines.specs.declared.stops.Stop.{Stop}
 use Rattle.liq_lines.specs.declared.stops.Stop.TheVariants as stop
 use Rattle.liq_lines.specs.Lines.{lines_in}
 use Rattle.liq_store.specs.Causes.{Faults}
-use Rattle.liq_ends.specs.declared.halts.Halt.{Halt}
-use Rattle.liq_ends.specs.declared.halts.Halt.TheVariants.{BadLine, ReadFault}
 use Rattle.liq_ends.specs.Causes.{DiskCause, LastCause, ReadCause}
 use Rattle.liq_ends.specs.Output.{last}
+use Rattle.liq_ends.specs.Statuses.{End}
 use Rattle.liq_ends.specs.Stops.{Adds, TellsBehind}
+use Rattle.liq_tell.specs.Answers.{IsAnswerOf}
 use Rattle.liq_serve.specs.Finishing.{halt_at}
 use Rattle.liq_ends.specs.Outside.{Outside}
-use Rattle.liq_serve.specs.Answered.{AnswersBeside, AnswersLines}
+use Rattle.liq_serve.specs.Top.{AnswersLines, TellsFound}
 use Rattle.liq_serve.proofs.Served.{read_so, stopping}
 
 -- these lines were gathered
@@ -77,34 +77,30 @@ module _
         read = λ bytes is. read_so Says why_not bytes (source_at after.source).left read.said (read.read bytes is);
         came = inl (
           refl,
-          (
-            left,
-            right,
-            stop_told why_not _ (sink_at before.sink).held (sink_at after.sink).held told,
-            stopping why_not,
-          ),
+          (left, right, stopping why_not),
+          stop_told why_not _ (sink_at before.sink).held (sink_at after.sink).held told,
         );
       }
 
   -- ---- where all lines were read
 
   pub lines_whole :
-      (before after : Outside S K D) (items : Vec X Global) (end : Result (Unit {0}) Halt)
+      (before after : Outside S K D) (items : Vec X Global) (end : End)
       → lines.Gathers Says AreGathered (Ok items) (source_at before.source).left (source_at after.source).left
-      → end ≢ Err ReadFault → ((number : ℕ) → end ≢ Err (BadLine number))
-      → AnswersBeside source_at sink_at disk_at before after (λ limit commands. text limit commands items.items) end
+      → TellsFound source_at sink_at disk_at before after end (Unit {0}) (λ start commands it. IsAnswerOf start end
+      × (it ≡ text start.limit commands items.items))
       → AnswersLines source_at sink_at disk_at before after Says text end
-  lines_whole before after items end read no_source no_line answers =
+  lines_whole before after items end read answers =
       record {
         asked = items.items;
         few = omega (arith, read.few, ap length read.has);
         reading = Ok tt;
         read = λ bytes is. subst (λ (said : List X). AllZip Says (lines_in bytes) said
             × ((source_at after.source).left ≡ Some [])) (sym read.has) (read.read bytes is);
-        came = inr (refl, (no_source, no_line), answers);
+        came = inr (refl, answers);
       }
 
 -- a word that read nothing more keeps the source's count
-pub source_kept : (end : Result (Unit {0}) Halt) (before after : ℕ) → after ≡ before → ReadCause end after after
+pub source_kept : (end : End) (before after : ℕ) → after ≡ before → ReadCause end after after
     → ReadCause end before after
 source_kept end before after same c = subst (λ (n : ℕ). ReadCause end n after) same c

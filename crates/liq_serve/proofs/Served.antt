@@ -1,13 +1,13 @@
 -- Serving an input, as an end of the program.
 use Rattle.std.proofs.Common.{◌≡◌, ◌≢◌, ◌<◌, ℕ, zero, suc, List, [], ◌∷◌, map, length, append-nil, true, Option, Some, None, Ok, Err, Result, refl, sym, subst, ap, ◌∙◌, inl, inr, lit<, arith}
-use Rattle.std.specs.Prelude.{◌⊎◌, All, Contains, slice_index_or, IfOk, IsOkAnd, MatchResult}
+use Rattle.std.specs.Prelude.{◌⊎◌, All, Contains, slice_index_or, IfOk, IsOkAnd}
 use Rattle.std.specs.List.{AllZip}
 use Rattle.liq_outside.specs.At.{DiskAt, SinkAt, SourceAt}
 use Rattle.liq_outside.specs.declared.showing.Showing.{Showing}
 use Rattle.liq_outside.specs.Showings.{Notes}
 use Rattle.liq_outside.proofs.Moments.{weaker}
 use Rattle.liq_types.specs.declared.amounts.TheConstants.{LINES_MOST}
-use Rattle.liq_types.specs.State.{State}
+use Rattle.liq_types.specs.State.{State, opening}
 use Rattle.liq_types.specs.declared.requests.Command.{Command}
 use Rattle.liq_types.specs.declared.requests.Request.{Request}
 use Rattle.liq_types.specs.declared.requests.Request.TheVariants.{Do}
@@ -40,18 +40,18 @@ use Rattle.liq_store.specs.declared.answers.StoreWhy.{StoreWhy}
 use Rattle.liq_store.specs.declared.answers.StoreWhy.TheVariants as why
 use Rattle.liq_store.specs.Causes.{Faults}
 use Rattle.liq_store.specs.Keeping.{IsAtRest, IsKeptAround}
-use Rattle.liq_ends.specs.declared.halts.Halt.{Halt}
-use Rattle.liq_ends.specs.declared.halts.Halt.TheVariants.{BadLine, ReadFault, WriteFault, DiskFault, Damaged, DamagedInput, NoMemory, Limit, Rotated}
+use Rattle.liq_ends.specs.declared.halts.Halt.TheVariants.{BadLine, ReadFault, WriteFault, DiskFault, Damaged, NoMemory, Limit}
 use Rattle.liq_ends.specs.Causes.{DiskCause, ReadCause, WriteCause}
 use Rattle.liq_ends.specs.Disks.{DisksStay, EndsDamaged, IsFaultOfTelling, OfBoth}
 use Rattle.liq_ends.specs.Reading.{ReadsTo}
-use Rattle.liq_ends.specs.Statuses.{status_of}
+use Rattle.liq_ends.specs.Statuses.{End, status_of}
 use Rattle.liq_ends.specs.Unsaid.{WritesAll}
 use Rattle.liq_ends.proofs.Causes.{six}
 use Rattle.liq_ends.proofs.Damaged.{left_opened}
 use Rattle.liq_serve.specs.Finishing.{end_of, halt_at}
 use Rattle.liq_ends.specs.Outside.{Outside}
-use Rattle.liq_serve.specs.Top.{Answers, AreLeft, Keep, OpensNone}
+use Rattle.liq_serve.specs.Top.{Answers, AreLeft, Finds, Keep, OpensNone, StopsUnopened, Tells}
+use Rattle.liq_serve.proofs.Found.{Untold, finds_by, of_told, of_untold}
 
 -- ---- the counts
 
@@ -73,20 +73,6 @@ causes_kept (finish.NotOpened why.NoMemory) _ _ _ _ _ _ s k d = (s, k, d)
 causes_kept finish.NoMemory _ _ _ _ _ _ s k d = (s, k, d)
 causes_kept finish.DiskFault _ _ _ _ _ _ s k d = (s, k, d)
 causes_kept finish.WriteFault _ _ _ _ _ _ s k d = (s, k, d)
-
--- it goes on in whatever generation
-pub never_rotated : (how : Finish) (generation : ℕ) → end_of how ≢ Err (Rotated generation)
-never_rotated finish.All generation = λ e. cc
-never_rotated (finish.NotRead (stop.BadLine number)) generation = λ e. cc
-never_rotated (finish.NotRead stop.ReadFault) generation = λ e. cc
-never_rotated (finish.NotRead stop.NoMemory) generation = λ e. cc
-never_rotated (finish.NotRead stop.Limit) generation = λ e. cc
-never_rotated (finish.NotOpened why.DiskFault) generation = λ e. cc
-never_rotated (finish.NotOpened (why.Damaged side damage)) generation = λ e. cc
-never_rotated (finish.NotOpened why.NoMemory) generation = λ e. cc
-never_rotated finish.NoMemory generation = λ e. cc
-never_rotated finish.DiskFault generation = λ e. cc
-never_rotated finish.WriteFault generation = λ e. cc
 
 -- ---- what is written
 
@@ -141,11 +127,6 @@ none_left asked history whole = λ k d there. whole k d there ∙ sym (append-ni
 -- ---- disks that stood for a state, or were damaged
 
 -- what is found, by cases
-pub by_found : {T A B : Type 0} (found : Result T (A × B)) (P : T → Type 0) (Q : A × B → Type 0)
-    → ((x : T) → found ≡ Ok x → P x) → ((a : A) (b : B) → found ≡ Err (a, b) → Q (a, b)) → MatchResult found P Q
-by_found (Ok x) P Q good bad = good x refl
-by_found (Err (a, b)) P Q good bad = bad a b refl
-
 pub if_found : {T E : Type 0} (found : Result T E) (P : T → Type 0) → ((x : T) → found ≡ Ok x → P x) → IfOk found P
 if_found (Ok x) P good = good x refl
 if_found (Err e) P good = tt
@@ -166,7 +147,7 @@ read_so Says stop.NoMemory bytes left said h = h
 read_so Says stop.Limit bytes left said h = (refl, h)
 
 -- so it ends
-abbrev pub IsStopping : Result (Unit {0}) Halt → Type 0
+abbrev pub IsStopping : End → Type 0
 IsStopping end = (n : ℕ) × Contains (Err (BadLine n) ∷ Err ReadFault ∷ Err NoMemory ∷ Err (Limit LINES_MOST) ∷ []) end
 
 pub stopping : (why_not : Stop) → IsStopping (Err (halt_at why_not))
@@ -247,10 +228,10 @@ module _
   AreWhole = (l r : List ℕ) (side : Side) (damage : Damage) → (disk_at before.left).seen ≡ Some l
       → (disk_at before.right).seen ≡ Some r → state_on l r ≡ Err (side, damage) → ⊥
 
-  abbrev Unopened : Fault → Result (Unit {0}) Halt → Type 0
+  abbrev Unopened : Fault → End → Type 0
   Unopened fault end = OpensNone source_at sink_at disk_at before after history fault end
 
-  abbrev Answered : Fault → Result (Unit {0}) Halt → Type 0
+  abbrev Answered : Fault → End → Type 0
   Answered fault end = Answers source_at sink_at disk_at before after asked history fault end
 
   -- disks that are not damaged stood for a state
@@ -263,15 +244,15 @@ module _
       (λ side damage is. whole l r side damage told_l told_r is)
 
   -- It came to this end, and where a disk met a fault it is this one.
-  pub record Came (Meets : Fault → Type 0) (end : Result (Unit {0}) Halt) : Type 0 where
-    pub reading : Result (Unit {0}) Halt
+  pub record Came (Meets : Fault → Type 0) (end : End) : Type 0 where
+    pub reading : End
     pub read : (bytes : List ℕ) → (source_at before.source).left ≡ Some bytes
         → ReadsTo Asks bytes (source_at after.source).left asked reading
     pub fault : Fault
     pub met : (other : Fault) → Meets other → other ≡ fault
     pub so :
-        ((reading ≡ end) × (history ≡ []) × (fault ≡ NoFault) × (after.left ≡ before.left)
-        × (after.right ≡ before.right) × IsStopping end)
+        ((reading ≡ end) × (history ≡ []) × (fault ≡ NoFault)
+        × StopsUnopened source_at sink_at disk_at before after end)
         ⊎ ((reading ≡ Ok tt) × (Unopened fault end ⊎ Answered fault end))
 
   abbrev IsWholeRead : Type 0
@@ -279,7 +260,7 @@ module _
       → AllZip Asks (lines_in bytes) asked × ((source_at after.source).left ≡ Some [])
 
   -- all lines were read
-  came_whole : (end : Result (Unit {0}) Halt) (fault : Fault) → IsWholeRead → Unopened fault end ⊎ Answered fault end
+  came_whole : (end : End) (fault : Fault) → IsWholeRead → Unopened fault end ⊎ Answered fault end
       → Came (λ other. other ≡ fault) end
   came_whole end fault read so =
       record { reading = Ok tt; read = read; fault = fault; met = λ other is. is; so = inr (refl, so) }
@@ -316,47 +297,75 @@ module _
       → state_on l r ≡ Err (side, damage) → serving.EndsDamaged disk_at how side damage after.left after.right
   ends_damaged how a l r side damage told_l told_r is = (a.damaged l r side damage told_l told_r is).ends
 
+  -- what is found where no store was opened
+  abbrev Found : End → Type 0
+  Found end = Finds source_at sink_at disk_at before after end (Unit {0}) (λ start commands.
+      Contains (5 ∷ 7 ∷ []) (status_of end)
+      × OfBoth disk_at before.left before.right (λ l r. DisksStay disk_at end l r start after.left after.right))
+
+  -- it may be any state, where not both disks told their bytes
+  found_any : (end : End) → Contains (5 ∷ 7 ∷ []) (status_of end) → Untold disk_at before.left before.right → Found end
+  found_any end status none = inl (
+    opening,
+    [],
+    (status, of_untold disk_at before.left before.right none _),
+    of_untold disk_at before.left before.right none _,
+  )
+
   -- No store was opened. Of damaged disks a stop leaves what an opening does.
-  unopened_by : (end : Result (Unit {0}) Halt) (fault : Fault) (w : StoreWhy)
-      → (a : AnswersTo (finish.NotOpened w))
-      → IsFaultOfTelling end fault → Contains (5 ∷ 6 ∷ 7 ∷ []) (status_of end)
-      → ((number : ℕ) → end ≢ Err (DamagedInput number))
+  unopened_by : (end : End) (fault : Fault) (w : StoreWhy)
+      → (a : AnswersTo (finish.NotOpened w)) → IsFaultOfTelling end fault
+      → Tells source_at sink_at disk_at before after [] [] end
       → ((l r : List ℕ) (start : State) → (disk_at before.left).seen ≡ Some l → (disk_at before.right).seen ≡ Some r
-      → state_on l r ≡ Ok start → (status_of end ≢ 6) × DisksStay disk_at end l r start after.left after.right)
+      → state_on l r ≡ Ok start
+      → Contains (5 ∷ 7 ∷ []) (status_of end) × DisksStay disk_at end l r start after.left after.right)
       → ((l r : List ℕ) (side : Side) (damage : Damage) → (disk_at before.left).seen ≡ Some l
       → (disk_at before.right).seen ≡ Some r → state_on l r ≡ Err (side, damage)
       → EndsDamaged disk_at side damage end after.left after.right)
-      → (end ≢ Err DiskFault → w ≢ why.DiskFault) → Came (λ other. other ≡ fault) end
-  unopened_by end fault w a fault_is status no_input stay ends no_fault =
+      → (end ≢ Err DiskFault → w ≢ why.DiskFault) → (Untold disk_at before.left before.right → Found end)
+      → Came (λ other. other ≡ fault) end
+  unopened_by end fault w a fault_is told stay ends no_fault none =
       came_whole end fault a.read (inl (
         a.answers,
         fault_is,
-        status,
-        λ l r told_l told_r. by_found (state_on l r) _ _ (λ start is. stay l r start told_l told_r is)
-            (λ side damage is.
-            let leaves = a.damaged l r side damage told_l told_r is in
-            record {
-              ends = ends l r side damage told_l told_r is;
-              left_leaves = λ only. weaker disk_at before.left after.left (LeftLeaves l r) (OpenLeaves true l)
-                  (leaves.left_leaves only) (λ image there. left_opened l r image (side, damage) there is);
-              right_leaves = leaves.right_leaves;
-              shut = λ other. leaves.shut (λ e. no_fault other (cc e));
-            }),
-        no_input,
+        finds_by source_at sink_at disk_at before after end (Unit {0}) _
+            (λ l r start told_l told_r is.
+            let so = stay l r start told_l told_r is in (
+              so.0,
+              of_told disk_at before.left before.right
+                  (λ a b. DisksStay disk_at end a b start after.left after.right) l r told_l told_r so.1,
+            ))
+            (λ l r side damage told_l told_r is.
+            let leaves = a.damaged l r side damage told_l told_r is in (
+              tt,
+              (
+                told,
+                record {
+                  ends = ends l r side damage told_l told_r is;
+                  left_leaves = λ only. weaker disk_at before.left after.left (LeftLeaves l r) (OpenLeaves true l)
+                      (leaves.left_leaves only) (λ image there. left_opened l r image (side, damage) there is);
+                  right_leaves = leaves.right_leaves;
+                  shut = λ other. leaves.shut (λ e. no_fault other (cc e));
+                },
+              ),
+            ))
+            none,
       ))
 
   pub came_by : (how : Finish)
       (a : AnswersTo how)
       → ((why_not : Stop) → how ≡ finish.NotRead why_not → (after.left ≡ before.left) × (after.right ≡ before.right))
+      → (Untold disk_at before.left before.right → Untold disk_at after.left after.right)
+      → Tells source_at sink_at disk_at before after [] (served history) (end_of how)
       → Came (λ other. serving.IsFaultAt how a.halted other) (end_of how)
-  came_by finish.All a same = came_whole (Ok tt) NoFault a.read
+  came_by finish.All a same then written = came_whole (Ok tt) NoFault a.read
       (inr (
         refl,
         kept IsKept a.disks (ends_damaged finish.All a),
         (0, lit< tt, refl),
         none_left asked history a.answers,
       ))
-  came_by finish.WriteFault a same =
+  came_by finish.WriteFault a same then written =
       came_whole (Err WriteFault) NoFault a.read
       (inr (
         refl,
@@ -364,7 +373,7 @@ module _
         (1, lit< tt, refl),
         none_left asked history a.answers,
       ))
-  came_by finish.NoMemory a same =
+  came_by finish.NoMemory a same then written =
       came_whole (Err NoMemory) NoFault a.read
       (inr (
         refl,
@@ -372,28 +381,37 @@ module _
         lacking asked history
             a.answers,
       ))
-  came_by finish.DiskFault a same = halted_by a.halted a.answers a.disks
+  came_by finish.DiskFault a same then written = halted_by a.halted a.answers a.disks
       (ends_damaged finish.DiskFault a) a.read
-  came_by (finish.NotRead why_not) a same =
+  came_by (finish.NotRead why_not) a same then written =
       record {
         reading = Err (halt_at why_not);
         read = λ bytes told. read_so Asks why_not bytes (source_at after.source).left asked (a.read bytes told);
         fault = NoFault;
         met = λ other is. is;
-        so = inl (refl, a.answers, refl, (same why_not refl).0, (same why_not refl).1, stopping why_not);
+        so = inl (refl, a.answers, refl, ((same why_not refl).0, (same why_not refl).1, stopping why_not));
       }
-  came_by (finish.NotOpened why.DiskFault) a same =
-      unopened_by (Err DiskFault) InOpening why.DiskFault a refl (0, lit< tt, refl) (λ n e. cc)
-      (λ l r start told_l told_r is. ((λ e. omega (arith, e)), a.disks l r start told_l told_r is))
+  came_by (finish.NotOpened why.DiskFault) a same then written =
+      unopened_by (Err DiskFault) InOpening why.DiskFault a refl written
+      (λ l r start told_l told_r is. ((0, lit< tt, refl), a.disks l r start told_l told_r is))
       (λ l r side damage told_l told_r is. tt) (λ other. absurd (other refl))
-  came_by (finish.NotOpened why.NoMemory) a same =
-      unopened_by (Err NoMemory) NoFault why.NoMemory a refl (2, lit< tt, refl) (λ n e. cc)
-      (λ l r start told_l told_r is. ((λ e. omega (arith, e)), a.disks l r start told_l told_r is))
+      (found_any (Err DiskFault) (0, lit< tt, refl))
+  came_by (finish.NotOpened why.NoMemory) a same then written =
+      unopened_by (Err NoMemory) NoFault why.NoMemory a refl written
+      (λ l r start told_l told_r is. ((1, lit< tt, refl), a.disks l r start told_l told_r is))
       (ends_damaged (finish.NotOpened why.NoMemory) a) (λ other e. cc)
-  came_by (finish.NotOpened (why.Damaged which met)) a same =
-      unopened_by (Err (Damaged which met.index)) NoFault (why.Damaged which met) a refl
-      (1, lit< tt, six which met.index) (λ n e. cc)
+      (found_any (Err NoMemory) (1, lit< tt, refl))
+  came_by (finish.NotOpened (why.Damaged which met)) a same then written =
+      unopened_by (Err (Damaged which met.index)) NoFault (why.Damaged which met) a refl written
       (λ l r start told_l told_r is. absurd (a.disks l r start told_l told_r is))
       (λ l r side damage told_l told_r is.
       let h = ends_damaged (finish.NotOpened (why.Damaged which met)) a l r side damage told_l told_r is in
       (h.0, ap (λ (d : Damage). d.index) h.1, h.2)) (λ other e. cc)
+      (λ none. inr (
+        which,
+        met,
+        tt,
+        written,
+        (refl, refl, of_untold disk_at after.left after.right (then none) _),
+        of_untold disk_at before.left before.right none _,
+      ))

@@ -1,7 +1,6 @@
 -- Two runs, one after the other.
-use Rattle.std.proofs.Common.{◌≡◌, ◌≢◌, ℕ, List, [], ◌∷◌, Option, Some, is_some, Ok, Err, Result, refl, sym, ap, subst, ◌∙◌, inl, inr}
+use Rattle.std.proofs.Common.{◌≡◌, ◌≢◌, ℕ, List, [], ◌∷◌, Option, Some, is_some, Ok, Err, refl, sym, ap, subst, ◌∙◌, inl, inr}
 use Rattle.std.specs.Prelude.{◌⊎◌, IfSome, IsSome, fold}
-use Rattle.std.proofs.lemmas.Result.{MatchResult-at_ok}
 use Rattle.liq_outside.specs.At.{DiskAt, SinkAt, SourceAt}
 use Rattle.liq_outside.specs.Disk.{LeftNow, Only}
 use Rattle.liq_types.specs.declared.requests.Command.{Command}
@@ -19,21 +18,22 @@ use Rattle.liq_store.specs.Keeping.{IsAtRest}
 use Rattle.liq_store.specs.Leaving.{RestAtEnd}
 use Rattle.liq_words.specs.declared.words.Word.TheVariants as word
 use Rattle.liq_words.specs.Words.{Ask}
-use Rattle.liq_ends.specs.declared.halts.Halt.{Halt}
 use Rattle.liq_ends.specs.declared.halts.Halt.TheVariants.{BadLine, ReadFault, WriteFault, DiskFault, Damaged, DamagedInput, NoMemory, Limit, Rotated}
 use Rattle.liq_ends.specs.Disks.{DisksHold, IsFaultOfRun, IsUnread}
 use Rattle.liq_ends.specs.Requests.{IsNext}
 use Rattle.liq_ends.proofs.Opened.{kept_again, some_of, state_formed}
 use Rattle.liq_ends.specs.Outside.{Outside}
+use Rattle.liq_ends.specs.Statuses.{End}
 use Rattle.liq_serve.specs.Top.{Ends, RunsTo}
 use Rattle.liq_serve.specs.Twice.{AreBehind, BeginsBehind, FollowOn}
+use Rattle.liq_serve.proofs.Found.{found_of}
 
 module _ (told : Option (List ℕ)) (l r : List ℕ) (start : State) (requests : List Request) where
   abbrev here : State
   here = (run start requests).0
 
   -- kept for the state after the requests
-  kept_here : (end : Result (Unit {0}) Halt) (a b : List ℕ) → IsKept a b here
+  kept_here : (end : End) (a b : List ℕ) → IsKept a b here
       → BeginsBehind told l r start requests end a b
   kept_here end a b kept = ([], tt, kept)
 
@@ -53,7 +53,7 @@ module _ (told : Option (List ℕ)) (l r : List ℕ) (start : State) (requests :
 
   module _ {D : Type 0} (disk_at : D → DiskAt) (unread : Option (List ℕ)) (left right : D) where
     -- as they are read at the end
-    pub read_behind : (end : Result (Unit {0}) Halt) → IsKept l r start
+    pub read_behind : (end : End) → IsKept l r start
         → DisksHold disk_at end told unread l r start left right requests → (a b : List ℕ)
         → (disk_at left).seen ≡ Some a → (disk_at right).seen ≡ Some b
         → BeginsBehind told l r start requests end a b
@@ -86,7 +86,7 @@ module _ (told : Option (List ℕ)) (l r : List ℕ) (start : State) (requests :
         subst (λ (o : Option (List ℕ)). IfSome o (λ bytes. Only bytes (LeftNow disk_at disk))) told rests image left
 
     -- a fault is that of a disk
-    faulted : (end : Result (Unit {0}) Halt) (fault : Fault)
+    faulted : (end : End) (fault : Fault)
         → IsFaultOfRun start end told unread requests fault
         → fault ≢ NoFault → end ≡ Err DiskFault
     faulted (Err DiskFault) fault is some = refl
@@ -110,7 +110,7 @@ module _ (told : Option (List ℕ)) (l r : List ℕ) (start : State) (requests :
         subst (λ (e : Command). IsNext told requests (Do e)) same next
 
     -- it is met at the next line's command
-    next_of : (end : Result (Unit {0}) Halt) (c : Command)
+    next_of : (end : End) (c : Command)
         → IsFaultOfRun start end told unread requests (AtCommand c) → IsNext told requests (Do c)
     next_of (Err DiskFault) c is = next_at c is
     next_of (Ok done) c is = absurd cc
@@ -124,7 +124,7 @@ module _ (told : Option (List ℕ)) (l r : List ℕ) (start : State) (requests :
     next_of (Err (DamagedInput number)) c is = absurd cc
 
     -- or as a crash at the end leaves them
-    pub left_behind : (end : Result (Unit {0}) Halt) (x y a b : List ℕ) → (disk_at left).seen ≡ Some x
+    pub left_behind : (end : End) (x y a b : List ℕ) → (disk_at left).seen ≡ Some x
         → (disk_at right).seen ≡ Some y → IsKept l r start
         → DisksHold disk_at end told unread l r start left right requests
         → (fault : Fault) → IsFaultOfRun start end told unread requests fault
@@ -135,10 +135,10 @@ module _ (told : Option (List ℕ)) (l r : List ℕ) (start : State) (requests :
         (told_y ∙ ap Some (sym (only_one right y b told_y rests.1 at_b)))
     left_behind end x y a b told_x told_y were holds InOpening is rests at_a at_b =
         let so = rests a b at_a at_b in
-        subst (λ (e : Result (Unit {0}) Halt). BeginsBehind told l r start requests e a b)
+        subst (λ (e : End). BeginsBehind told l r start requests e a b)
         (sym (faulted end InOpening is (λ e. cc))) (recovered a b so.0 so.1)
     left_behind end x y a b told_x told_y were holds (AtCommand c) is rests at_a at_b =
-        subst (λ (e : Result (Unit {0}) Halt). BeginsBehind told l r start requests e a b)
+        subst (λ (e : End). BeginsBehind told l r start requests e a b)
         (sym (faulted end (AtCommand c) is (λ e. cc))) (by (rests a b at_a at_b)) where
           by : IsKept a b here ⊎ ((ruling here c ≡ Allowed) × IsKept a b (after here c))
               → BeginsBehind told l r start requests (Err DiskFault) a b
@@ -150,11 +150,11 @@ module _ (told : Option (List ℕ)) (l r : List ℕ) (start : State) (requests :
 module _
     {S K D : Type 0} (source_at : S → SourceAt) (sink_at : K → SinkAt) (disk_at : D → DiskAt)
     (before middle again later : Outside S K D) where
-  abbrev RunsFirst : Result (Unit {0}) Halt → List ℕ → List ℕ → State → Type 0
+  abbrev RunsFirst : End → List ℕ → List ℕ → State → Type 0
   RunsFirst end l r start = RunsTo source_at sink_at disk_at before middle end l r start
 
   -- what a run left begins the next one
-  pub runs_behind : (end : Result (Unit {0}) Halt) (l r a b : List ℕ) (start : State)
+  pub runs_behind : (end : End) (l r a b : List ℕ) (start : State)
       → (ran : RunsFirst end l r start)
       → IsSome (disk_at middle.left).seen → IsSome (disk_at middle.right).seen
       → IsKept l r start
@@ -187,7 +187,8 @@ module _
   follow_on status second_status words others one two asked asked_too l r a b start told_l told_r is were told_a
       told_b behind =
       let e = one.ends word.Run asked in
-      let ran = MatchResult-at_ok _ _ start is (e.leaves l r told_l told_r) in
+      let ran = found_of source_at sink_at disk_at before middle e.end _ _ l r start told_l told_r is e.leaves.1 l r
+      told_l told_r in
       let begins = runs_behind e.end l r a b start ran (e.causes.disks.left_telling.1 (ap is_some told_l))
       (e.causes.disks.right_telling.1 (ap is_some told_r)) were behind in
       let between = fold after (run start ran.requests).0 begins.0 in
@@ -195,7 +196,8 @@ module _
       let stands = begins.2.stands.is in
       let same = kept_again a b between t begins.2 stands in
       let f = two.ends word.Run asked_too in
-      let second = MatchResult-at_ok _ _ t stands (f.leaves a b told_a told_b) in
+      let second = found_of source_at sink_at disk_at again later f.end _ _ a b t told_a told_b stands f.leaves.1 a b
+      told_a told_b in
       let reached : Alike between t =
       record {
         image = same.0.image;

@@ -1,19 +1,17 @@
 -- How each word ends, put together to the clause of the top call.
-use Rattle.std.proofs.Common.{◌≡◌, ◌≢◌, ℕ, ◌≤◌, List, [], append-nil, Option, Some, None, Ok, Err, Result, refl, sym, subst, ◌∙◌, arith, lit<, inl, inr}
+use Rattle.std.proofs.Common.{◌≡◌, ◌≢◌, ℕ, ◌≤◌, List, [], ◌∷◌, append-nil, Option, Some, None, Ok, Err, Result, refl, sym, subst, ◌∙◌, arith, lit<, inl, inr}
 use Rattle.std.specs.Prelude.{◌⊎◌, ◌↔◌, Contains, IfOk, IfSome}
 use Rattle.std.proofs.lemmas.List.Elements.{All-nil}
 use Rattle.liq_outside.specs.At.{DiskAt, SinkAt, SourceAt}
 use Rattle.liq_outside.specs.declared.showing.Showing.{Showing}
 use Rattle.liq_outside.specs.Disk.{LeftBetween, LeftNow, Only}
 use Rattle.liq_outside.specs.Faults.{Rose}
-use Rattle.liq_types.specs.State.{State}
+use Rattle.liq_types.specs.State.{State, opening}
 use Rattle.liq_lines.specs.Lines.{lines_in}
 use Rattle.liq_text.specs.Spelling.{Spells}
 use Rattle.liq_lines.specs.Reading.{ReadsAtMost}
 use Rattle.liq_lines.proofs.Bytes.{reads_nothing}
-use Rattle.liq_journal.specs.declared.damage.Damage.{Damage}
-use Rattle.liq_pairs.specs.declared.side.Side.{Side}
-use Rattle.liq_pairs.specs.Pair.{state_on}
+use Rattle.liq_pairs.specs.Pair.{commands_on, state_on}
 use Rattle.liq_words.specs.declared.words.Word.{Word}
 use Rattle.liq_words.specs.declared.words.Word.TheVariants as word
 use Rattle.liq_arguments.specs.declared.reading.WordsFault.{WordsFault}
@@ -21,14 +19,13 @@ use Rattle.liq_arguments.specs.declared.reading.WordsFault.TheVariants as fault
 use Rattle.liq_words.specs.Words.{Ask}
 use Rattle.liq_pairs.specs.Past.{NoFault}
 use Rattle.liq_pairs.specs.Kept.{IsKept}
-use Rattle.liq_ends.specs.declared.halts.Halt.{Halt}
 use Rattle.liq_ends.specs.declared.halts.Halt.TheVariants.{BadLine, ReadFault, WriteFault, DiskFault, Damaged, DamagedInput, NoMemory, Limit, Rotated}
 use Rattle.liq_ends.specs.Causes.{DisksGoOn, HasCauses, LastCause, ReadCause}
-use Rattle.liq_ends.specs.Disks.{DisksStay, EndsDamaged, IsFaultOfTelling, LeavesDamaged, LeavesOfRun, OfDamage, OfState}
+use Rattle.liq_ends.specs.Disks.{DisksStay, IsFaultOfTelling, LeavesOfRun, OfBoth}
 use Rattle.liq_ends.specs.Output.{last, usage}
 use Rattle.liq_ends.specs.Reading.{ReadsTo}
-use Rattle.liq_ends.specs.Statuses.{status_of}
-use Rattle.liq_ends.specs.Stops.{Adds, StopsDamaged}
+use Rattle.liq_ends.specs.Statuses.{End, status_of}
+use Rattle.liq_ends.specs.Stops.{Adds}
 use Rattle.liq_ends.proofs.Causes.{six, unread_causes}
 use Rattle.liq_ends.proofs.Damaged.{untouched_damaged}
 use Rattle.liq_ends.proofs.Opened.{standing_still, state_formed, untouched}
@@ -39,13 +36,15 @@ use Rattle.liq_fees.specs.Lines as stakes
 use Rattle.liq_staking.specs.Staked.{staked_text}
 use Rattle.liq_rewards.specs.Lines as tags
 use Rattle.liq_rewarding.specs.Rewarded.{rewarded_text}
-use Rattle.liq_serve.specs.Answered.{AnswersLines}
+use Rattle.liq_tell.specs.Audit.{IsAuditOf}
+use Rattle.liq_tell.specs.Report.{reported}
+use Rattle.liq_tell.specs.State.{standing}
 use Rattle.liq_ends.specs.Answered.{KeepsAnswered}
 use Rattle.liq_ends.specs.Outside.{Outside}
 use Rattle.liq_follow.proofs.Beginning.{none_goes_on}
-use Rattle.liq_serve.specs.Top.{Ends, Leaves, OpensFirst, ServesTo, Tells, most_taken, statuses_of}
-use Rattle.liq_serve.proofs.Served.{by_found, if_found, neither}
-use Rattle.liq_serve.proofs.StatusLaws.{no_memory_known}
+use Rattle.liq_serve.specs.Top.{AnswersLines, Ends, Finds, Leaves, RunsTo, ServesTo, Tells, TellsFound, TellsState, most_taken}
+use Rattle.liq_serve.proofs.Found.{Untold, finds_by, of_told, of_untold}
+use Rattle.liq_serve.proofs.Served.{if_found, neither}
 use Rattle.liq_serve.proofs.Telling.{same_go_on}
 
 -- ---- the words ask for one thing
@@ -74,7 +73,7 @@ none_taken : (most : ℕ) (before : Option (List ℕ)) → ReadsAtMost most befo
 none_taken most before = ([], reads_nothing before, omega arith)
 
 -- no end of a word has the status of words that ask for nothing
-not_usage : (end : Result (Unit {0}) Halt) → status_of end ≡ 1 → ⊥
+not_usage : (end : End) → status_of end ≡ 1 → ⊥
 not_usage (Ok done) is = omega (arith, is)
 not_usage (Err (BadLine n)) is = omega (arith, is)
 not_usage (Err ReadFault) is = omega (arith, is)
@@ -91,12 +90,11 @@ module _
     (before after : Outside S K D) where
   -- a word that was read, and came to this end
   pub word_ends :
-      (words : List (List ℕ)) (read : Word) (end : Result (Unit {0}) Halt) → IsRead words read
-      → Leaves source_at sink_at disk_at before after read end
-      → Contains (statuses_of read) (status_of end) → HasCauses source_at sink_at disk_at before after end
+      (words : List (List ℕ)) (read : Word) (end : End) → IsRead words read
+      → Leaves source_at sink_at disk_at before after read end → HasCauses source_at sink_at disk_at before after end
       → ReadsAtMost (most_taken read) (source_at before.source).left (source_at after.source).left
       → Ends source_at sink_at disk_at before after (status_of end) words
-  word_ends words read end is leaves status causes few =
+  word_ends words read end is leaves causes few =
       record {
         understood = (λ e. absurd (not_usage end e), λ none. absurd (none read is.asks));
         usage = λ e. absurd (not_usage end e);
@@ -104,74 +102,22 @@ module _
           end = end;
           status_is = refl;
           causes = causes;
+          takes = subst (λ (w : Word). ReadsAtMost (most_taken w) (source_at before.source).left
+              (source_at after.source).left) (is.only other asked) few;
           leaves =
               subst (λ (w : Word). Leaves source_at sink_at disk_at before after w end) (is.only other asked) leaves;
         };
-        takes = λ other asked. subst (λ (w : Word). ReadsAtMost (most_taken w) (source_at before.source).left
-            (source_at after.source).left) (is.only other asked) few;
-        status_is = λ other asked. subst (λ (w : Word). Contains (statuses_of w) (status_of end)) (is.only other asked)
-            status;
       }
-
-  -- the last line of a word over damaged disks
-  pub last_told : (side : Side) (damage : Damage) (halt : Halt)
-      → EndsDamaged disk_at side damage (Err halt) after.left after.right
-      → Adds [] (last halt) (Rose (sink_at before.sink).faults (sink_at after.sink).faults)
-      (sink_at before.sink).held (sink_at after.sink).held
-      → Tells source_at sink_at disk_at before after [] [] (Err halt)
-  last_told side damage (BadLine n) ends told = absurd ends
-  last_told side damage ReadFault ends told = absurd ends
-  last_told side damage WriteFault ends told = absurd ends
-  last_told side damage DiskFault ends told = told
-  last_told side damage (Damaged which number) ends told = told
-  last_told side damage NoMemory ends told = told
-  last_told side damage (Limit number) ends told = absurd ends
-  last_told side damage (Rotated generation) ends told = absurd ends
-  last_told side damage (DamagedInput number) ends told = absurd ends
-
-  -- over damaged disks it stopped, and wrote its last line alone
-  abbrev TellsDamage : Result (Unit {0}) Halt → List ℕ → List ℕ → Side → Damage → Type 0
-  TellsDamage end l r side damage =
-      StopsDamaged disk_at before.left before.right l r side damage end
-      (Rose (sink_at before.sink).faults (sink_at after.sink).faults)
-      (sink_at before.sink).held (sink_at after.sink).held after.left after.right
-
-  -- a word that opens the disks before it reads
-  pub opens_first :
-      (end : Result (Unit {0}) Halt) (P : List ℕ → List ℕ → State → Type 0)
-      → OfState disk_at before.left before.right P
-      → OfDamage disk_at before.left before.right (λ l r side damage.
-      (after.source ≡ before.source) × TellsDamage end l r side damage)
-      → OpensFirst source_at sink_at disk_at before after end P
-  opens_first end P stood damaged l r told_l told_r =
-      by_found (state_on l r) _ _ (λ start is. stood l r told_l told_r start is) (λ side damage is.
-      let found = damaged l r told_l told_r side damage is in
-      let so = found.1 in
-      let ends = subst (λ (e : Result (Unit {0}) Halt). LeavesDamaged disk_at before.left before.right l r side damage e
-      after.left after.right × Tells source_at sink_at disk_at before after [] [] e)
-      (sym so.1) (so.2, last_told side damage so.0 so.2.ends so.3) in
-      (found.0, ends.0, ends.1))
 
   -- a word that reads nothing, and tells of the disks
   pub telling_ends :
-      (words : List (List ℕ)) (read : Word) (end : Result (Unit {0}) Halt) (P : List ℕ → List ℕ → State → Type 0)
-      → IsRead words read
-      → ((after.source ≡ before.source) × OpensFirst source_at sink_at disk_at before after end P
-      → Leaves source_at sink_at disk_at before after read end)
-      → after.source ≡ before.source → OfState disk_at before.left before.right P
-      → OfDamage disk_at before.left before.right (TellsDamage end)
-      → Contains (statuses_of read) (status_of end) → end ≢ Err ReadFault
+      (words : List (List ℕ)) (read : Word) (end : End) → IsRead words read
+      → Leaves source_at sink_at disk_at before after read end → after.source ≡ before.source → end ≢ Err ReadFault
       → LastCause end (sink_at before.sink).faults (sink_at after.sink).faults
       → DisksGoOn disk_at before.left before.right end after.left after.right
       → Ends source_at sink_at disk_at before after (status_of end) words
-  telling_ends words read end P is leaves same told damaged status no_source sink disks =
-      word_ends words read end is
-      (leaves (
-        same,
-        opens_first end P told (λ l r told_l told_r side damage found.
-            (same, damaged l r told_l told_r side damage found)),
-      ))
-      status
+  telling_ends words read end is leaves same no_source sink disks =
+      word_ends words read end is leaves
       (record {
         source = subst (λ (s : S). ReadCause end (source_at before.source).faults (source_at s).faults) (sym same)
             (unread_causes end (source_at before.source).faults no_source);
@@ -242,10 +188,9 @@ module _
         reading = Err NoMemory;
         read = λ bytes told. (lines_in bytes, ([], tt, refl));
         fault = NoFault;
-        came = inl (refl, refl, refl, refl, refl, (0, (2, lit< tt, refl)));
+        came = inl (refl, refl, refl, (refl, refl, (0, (2, lit< tt, refl))));
         written = written;
         safe = λ at. absurd (neither 7 (λ e. omega (arith, e)) (λ e. omega (arith, e)) at);
-        rests = λ at. absurd (neither 7 (λ e. omega (arith, e)) (λ e. omega (arith, e)) at);
         lawful = λ l r told_l told_r. if_found (state_on l r) _ (λ start is. (
           record { replies = refl; indices = λ session. refl },
           all_shares start [] (state_formed l r start is),
@@ -263,7 +208,7 @@ module _
         few = omega arith;
         reading = Err NoMemory;
         read = λ bytes told. (lines_in bytes, ([], tt, refl));
-        came = inl (refl, (refl, refl, written, (0, (2, lit< tt, refl))));
+        came = inl (refl, (refl, refl, (0, (2, lit< tt, refl))), written);
       }
 
   -- the disks stay for the state for which they stood, whatever a stop leaves of them
@@ -273,56 +218,91 @@ module _
       × LeavesOfRun disk_at before.left before.right (IsFaultOfTelling (Err NoMemory)) l r start []
       before.left before.right
 
-  -- a word that opens the disks before it reads
-  opens_nothing :
-      (P : List ℕ → List ℕ → State → Type 0) → Writes (last NoMemory)
-      → ((l r : List ℕ) (start : State) → state_on l r ≡ Ok start → Stays l r start → P l r start)
-      → (after.source ≡ before.source) × OpensFirst source_at sink_at disk_at before after (Err NoMemory) P
-  opens_nothing P written stood = (
+  -- what is found: the state for which the disks stood; or, where not both told their bytes, any, as the opening
+  finds_nothing :
+      (Q : Type 0) (P : State → List Command → Type 0) → Q → Writes (last NoMemory)
+      → ((l r : List ℕ) (start : State) → (disk_at before.left).seen ≡ Some l → (disk_at before.right).seen ≡ Some r
+      → state_on l r ≡ Ok start → Stays l r start → P start (commands_on l r))
+      → (Untold disk_at before.left before.right → P opening [])
+      → Finds source_at sink_at disk_at before after (Err NoMemory) Q P
+  finds_nothing Q P q written stood any =
+      finds_by source_at sink_at disk_at before after (Err NoMemory) Q P
+      (λ l r start told_l told_r is. stood l r start told_l told_r is (
+        untouched disk_at before.left before.right l r start told_l told_r is,
+        untouched_past disk_at stays before.left before.right l r start _ refl told_l told_r,
+      ))
+      (λ l r side damage told_l told_r is.
+      (q, (written, untouched_damaged disk_at before.left before.right l r side damage told_l told_r is)))
+      (λ none. inl (opening, [], any none, of_untold disk_at before.left before.right none _))
+
+  -- whatever text it was to tell
+  tells_nothing :
+      (P : State → List Command → List ℕ → Type 0) → Writes (last NoMemory)
+      → ((start : State) (commands : List Command) → (text : List ℕ) × P start commands text)
+      → TellsFound source_at sink_at disk_at before after (Err NoMemory) (Unit {0}) P
+  tells_nothing P written any =
+      finds_nothing (Unit {0})
+      (λ start commands. ((text : List ℕ) × P start commands text
+      × Tells source_at sink_at disk_at before after [] text (Err NoMemory))
+      × OfBoth disk_at before.left before.right (λ l r. Stays l r start))
+      tt written
+      (λ l r start told_l told_r is stay.
+      let one = any start (commands_on l r) in (
+        (one.0, one.1, written),
+        of_told disk_at before.left before.right (λ a b. Stays a b start) l r told_l told_r stay,
+      ))
+      (λ none.
+      let one = any opening [] in ((one.0, one.1, written), of_untold disk_at before.left before.right none _))
+
+  -- or of a state alone
+  state_nothing :
+      (text : State → List ℕ) → Writes (last NoMemory)
+      → TellsState source_at sink_at disk_at before after text (Err NoMemory)
+  state_nothing text written = (
     refl,
-    λ l r told_l told_r. by_found (state_on l r) _ _
-        (λ start is. stood l r start is (
-          untouched disk_at before.left before.right l r start told_l told_r is,
-          untouched_past disk_at stays before.left before.right l r start _ refl told_l told_r,
-        ))
-        (λ side damage is. (
-          refl,
-          untouched_damaged disk_at before.left before.right l r side damage told_l told_r is,
-          written,
-        )),
+    tells_nothing (λ s commands it. Contains (0 ∷ 4 ∷ 5 ∷ 7 ∷ []) (status_of (Err NoMemory)) × (it ≡ text s)) written
+        (λ s commands. (text s, ((3, lit< tt, refl), refl))),
   )
 
   -- whatever the words ask for
   nothing_done : Writes (last NoMemory) → (sink_at now).shown ≡ (sink_at before.sink).shown → (read : Word)
       → Leaves source_at sink_at disk_at before after read (Err NoMemory)
-  nothing_done written unshown word.Run =
-      (opens_nothing _ written
-      (λ l r start is stay. record {
-        requests = [];
-        few = omega arith;
-        why = inl (refl, refl);
-        read = no_line (source_at before.source).left;
-        written = written;
-        cut = λ is. absurd cc;
-        disks = standing_still disk_at before.left before.right l r (source_at before.source).left
-            (source_at before.source).left start refl is stay.0;
-        fault = NoFault;
-        fault_is = refl;
-        past = stay.1;
-        answered = λ was earlier held_now all told_was told_earlier told_now told_all.
-            let same : all ≡ earlier = cc (told_all, told_earlier, unshown) in
-            stands_still disk_at before.left before.right l r start was held_now earlier all same;
-        shares = all_shares start [] (state_formed l r start is);
-      })).1
+  nothing_done written unshown word.Run = (
+    (6, lit< tt, refl),
+    finds_nothing _
+        (λ start commands. OfBoth disk_at before.left before.right (λ l r.
+        RunsTo source_at sink_at disk_at before after (Err NoMemory) l r start))
+        refl written
+        (λ l r start told_l told_r is stay. of_told disk_at before.left before.right
+        (λ a b. RunsTo source_at sink_at disk_at before after (Err NoMemory) a b start) l r told_l told_r
+        (record {
+          requests = [];
+          few = omega arith;
+          why = inl (refl, refl);
+          read = no_line (source_at before.source).left;
+          written = written;
+          cut = λ is. absurd cc;
+          disks = standing_still disk_at before.left before.right l r (source_at before.source).left
+              (source_at before.source).left start refl is stay.0;
+          fault = NoFault;
+          fault_is = refl;
+          past = stay.1;
+          answered = λ was earlier held_now all told_was told_earlier told_now told_all.
+              let same : all ≡ earlier = cc (told_all, told_earlier, unshown) in
+              stands_still disk_at before.left before.right l r start was held_now earlier all same;
+          shares = all_shares start [] (state_formed l r start is);
+        }))
+        (λ none. of_untold disk_at before.left before.right none _),
+  )
   nothing_done written unshown word.Serve = serves_nothing written
   nothing_done written unshown word.Staking = lines_nothing stakes.Spells staked_text written
   nothing_done written unshown word.Rewards = lines_nothing tags.Spells rewarded_text written
-  nothing_done written unshown word.State = opens_nothing _ written
-      (λ l r start is stay. ((3, lit< tt, refl), written, stay.0, stay.1))
-  nothing_done written unshown word.Report = opens_nothing _ written
-      (λ l r start is stay. ((3, lit< tt, refl), written, stay.0, stay.1))
-  nothing_done written unshown word.Audit = opens_nothing _ written
-      (λ l r start is stay. (([], tt, written), stay.0, stay.1))
+  nothing_done written unshown word.State = state_nothing standing written
+  nothing_done written unshown word.Report = state_nothing reported written
+  nothing_done written unshown word.Audit = (
+    refl,
+    tells_nothing (λ s commands text. IsAuditOf s commands (Err NoMemory) text) written (λ s commands. ([], tt)),
+  )
   nothing_done written unshown word.Follow =
       (refl, ([], reads_nothing (source_at before.source).left, ([], (omega arith, inl none_goes_on), written)))
   nothing_done written unshown (word.Gen seed count) = (refl, (2, lit< tt, refl), written)
@@ -356,10 +336,9 @@ module _
               end = Err NoMemory;
               status_is = none.0;
               causes = no_causes fewer;
+              takes = none_taken (most_taken word) (source_at before.source).left;
               leaves = nothing_done none.1 none.2 word;
             };
-        takes = λ one asked. none_taken (most_taken one) (source_at before.source).left;
-        status_is = λ one asked. subst (Contains (statuses_of one)) (sym (wordless one asked).0) (no_memory_known one);
       }
 
   pub unread_ends :

@@ -1,11 +1,25 @@
--- What an exit status says by itself, whatever the words ask for. It follows from the top call's
--- clause (`laws`).
-use Rattle.std.specs.Prelude.{ℕ, ◌≡◌, ◌≢◌, ◌≤◌, ◌↔◌, IsSome}
+-- What an exit status says by itself, whatever the words ask for, and to which statuses each word
+-- may come. It follows from the top call's clause (`laws`).
+use Rattle.std.specs.Prelude.{ℕ, ◌≡◌, ◌≢◌, ◌≤◌, ◌↔◌, List, [], ◌∷◌, IsSome}
 use Rattle.liq_outside.specs.At.{DiskAt, SinkAt, SourceAt}
 use Rattle.liq_outside.specs.Disk.{GoesOn}
 use Rattle.liq_outside.specs.Faults.{Rose}
 use Rattle.liq_store.specs.Causes.{Faults, OneRose, counts_of}
+use Rattle.liq_words.specs.declared.words.Word.{Word}
+use Rattle.liq_words.specs.declared.words.Word.TheVariants as word
 use Rattle.liq_ends.specs.Outside.{Outside}
+
+-- the exit statuses to which a word may come
+abbrev pub statuses_of : Word → List ℕ
+statuses_of word.Run = 0 ∷ 2 ∷ 3 ∷ 4 ∷ 5 ∷ 6 ∷ 7 ∷ 8 ∷ []
+statuses_of word.Serve = 0 ∷ 2 ∷ 3 ∷ 4 ∷ 5 ∷ 6 ∷ 7 ∷ 8 ∷ []
+statuses_of word.Staking = 0 ∷ 2 ∷ 3 ∷ 4 ∷ 5 ∷ 6 ∷ 7 ∷ 8 ∷ 9 ∷ []
+statuses_of word.Rewards = 0 ∷ 2 ∷ 3 ∷ 4 ∷ 5 ∷ 6 ∷ 7 ∷ 8 ∷ 9 ∷ []
+statuses_of word.State = 0 ∷ 4 ∷ 5 ∷ 6 ∷ 7 ∷ []
+statuses_of word.Report = 0 ∷ 4 ∷ 5 ∷ 6 ∷ 7 ∷ []
+statuses_of word.Audit = 0 ∷ 4 ∷ 5 ∷ 6 ∷ 7 ∷ 8 ∷ 9 ∷ []
+statuses_of word.Follow = 0 ∷ 3 ∷ 4 ∷ 6 ∷ 7 ∷ 8 ∷ 9 ∷ []
+statuses_of (word.Gen seed count) = 0 ∷ 4 ∷ 7 ∷ []
 
 -- The arguments are those of `Ends`.
 module _

@@ -1,5 +1,5 @@
 -- How serving an input ends, as an end of the program.
-use Rattle.std.specs.Prelude.{Result, Ok, Err}
+use Rattle.std.specs.Prelude.{Ok, Err}
 use Rattle.liq_types.specs.declared.amounts.TheConstants.{LINES_MOST}
 use Rattle.liq_lines.specs.declared.stops.Stop.{Stop}
 use Rattle.liq_lines.specs.declared.stops.Stop.TheVariants as stop
@@ -8,6 +8,7 @@ use Rattle.liq_serving.specs.declared.input.Finish.TheVariants as finish
 use Rattle.liq_ends.specs.declared.halts.Halt.{Halt}
 use Rattle.liq_ends.specs.declared.halts.Halt.TheVariants.{BadLine, ReadFault, WriteFault, DiskFault, NoMemory, Limit}
 use Rattle.liq_ends.specs.Unopened.{halt_of}
+use Rattle.liq_ends.specs.Statuses.{End}
 
 -- why a word stops whose input was not read to its end
 abbrev pub halt_at : Stop → Halt
@@ -16,7 +17,7 @@ halt_at stop.ReadFault = ReadFault
 halt_at stop.NoMemory = NoMemory
 halt_at stop.Limit = Limit LINES_MOST
 
-abbrev pub end_of : Finish → Result (Unit {0}) Halt
+abbrev pub end_of : Finish → End
 end_of finish.All = Ok tt
 end_of (finish.NotRead why) = Err (halt_at why)
 end_of (finish.NotOpened why) = Err (halt_of why)

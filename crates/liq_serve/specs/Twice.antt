@@ -1,5 +1,10 @@
--- Two runs, one after the other. What is said here follows from the top call's clause (`laws`).
-use Rattle.std.specs.Prelude.{ℕ, ◌≡◌, ◌⊎◌, List, [], ◌∷◌, Option, Some, Result, Ok, Err, fold}
+-- Two calls of `run`, one after the other, over disks that were kept before the first: the second
+-- loses nothing that the first acknowledged (`FollowOn`). It begins with the state after the
+-- requests that the first answered, or, where a disk met a fault, after one command more at most
+-- (`AreMore`). It finds what is read of the first one's disks or, if nothing was pending before the
+-- first, what a crash at its end may leave (`AreBehind`). All this follows from the top call's
+-- clause, `Ends`, of either call (`laws::runs_follow_on`).
+use Rattle.std.specs.Prelude.{ℕ, ◌≡◌, ◌⊎◌, List, [], ◌∷◌, Option, Some, Ok, Err, fold}
 use Rattle.liq_outside.specs.At.{DiskAt, SinkAt, SourceAt}
 use Rattle.liq_outside.specs.Disk.{LeftNow, Only}
 use Rattle.liq_types.specs.declared.requests.Command.{Command}
@@ -12,10 +17,9 @@ use Rattle.liq_rules.specs.Step.{Allowed, ruling, run}
 use Rattle.liq_pairs.specs.Kept.{IsKept}
 use Rattle.liq_pairs.specs.Pair.{state_on}
 use Rattle.liq_pairs.specs.Unfinished.{HoldsUnfinished}
-use Rattle.liq_ends.specs.declared.halts.Halt.{Halt}
 use Rattle.liq_ends.specs.declared.halts.Halt.TheVariants.{DiskFault}
 use Rattle.liq_ends.specs.Requests.{IsNext}
-use Rattle.liq_ends.specs.Statuses.{status_of}
+use Rattle.liq_ends.specs.Statuses.{End, status_of}
 use Rattle.liq_ends.specs.Outside.{Outside}
 use Rattle.liq_serve.specs.Top.{RunsTo}
 
@@ -23,7 +27,7 @@ use Rattle.liq_serve.specs.Top.{RunsTo}
 -- one command more. It is accepted there, and the next line's where the source told its bytes; or,
 -- where nothing was answered, it is the one that they held unfinished before.
 abbrev pub AreMore :
-    Option (List ℕ) → List ℕ → List ℕ → State → List Request → Result (Unit {0}) Halt
+    Option (List ℕ) → List ℕ → List ℕ → State → List Request → End
     → List Command → Type 0
 AreMore told l r start requests end [] = Unit {0}
 AreMore told l r start requests end (c ∷ []) = (end ≡ Err DiskFault)
@@ -34,7 +38,7 @@ AreMore told l r start requests end (c ∷ more) = ⊥
 -- Two disks of this content are kept for the state after the requests and after these: so the next
 -- run begins there, and what was acknowledged is in it.
 abbrev pub BeginsBehind :
-    Option (List ℕ) → List ℕ → List ℕ → State → List Request → Result (Unit {0}) Halt → List ℕ
+    Option (List ℕ) → List ℕ → List ℕ → State → List Request → End → List ℕ
     → List ℕ → Type 0
 BeginsBehind told l r start requests end a b =
     (more : List Command) × AreMore told l r start requests end more
@@ -56,7 +60,7 @@ module _
   pub record FollowOn
       (before middle again after : Outside S K D) (status later : ℕ) (l r a b : List ℕ)
       (start : State) : Type 0 where
-    pub end : Result (Unit {0}) Halt
+    pub end : End
     pub status_is : status ≡ status_of end
     pub first : RunsTo source_at sink_at disk_at before middle end l r start
     pub more : List Command
@@ -65,7 +69,7 @@ module _
     pub is : state_on a b ≡ Ok state
     pub kept : IsKept a b state
     pub begins : IsSameState (fold rule.after (run start first.requests).0 more) state
-    pub ending : Result (Unit {0}) Halt
+    pub ending : End
     pub later_is : later ≡ status_of ending
     pub second : RunsTo source_at sink_at disk_at again after ending a b state
     pub ends :

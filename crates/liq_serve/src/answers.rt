@@ -9,7 +9,7 @@ ghost use Rattle.liq_ends.specs.Causes.{DisksGoOn, HasCauses, LastCause};
 ghost use Rattle.liq_ends.specs.Output.{last};
 ghost use Rattle.liq_ends.specs.Stops.{Adds};
 ghost use Rattle.liq_tell.specs.Answers.{AreFew, asked_text};
-ghost use Rattle.liq_serve.specs.Answered.{AnswersLines};
+ghost use Rattle.liq_serve.specs.Top.{AnswersLines};
 ghost use Rattle.liq_serve.specs.Finishing.{halt_at};
 
 use crate::serve::halt_at;

@@ -1,13 +1,13 @@
 //! Laws of the top call. The functions here do nothing: they are the place where the facts of their
 //! contracts are proved.
 
-ghost use Rattle.std.specs.Prelude.{◌≡◌, List, ℕ, Ok, Some};
+ghost use Rattle.std.specs.Prelude.{◌≡◌, Contains, List, ℕ, Ok, Some};
 ghost use Rattle.liq_types.specs.State.{State};
 ghost use Rattle.liq_pairs.specs.Kept.{IsKept};
 ghost use Rattle.liq_pairs.specs.Pair.{state_on};
 ghost use Rattle.liq_words.specs.declared.words.Word.{Word};
 ghost use Rattle.liq_words.specs.Words.{Ask};
-ghost use Rattle.liq_serve.specs.ByStatus.{ByStatus};
+ghost use Rattle.liq_serve.specs.ByStatus.{ByStatus, statuses_of};
 ghost use Rattle.liq_serve.specs.Calm.{IsComplete};
 ghost use Rattle.liq_ends.specs.Outside.{Outside};
 ghost use Rattle.liq_serve.specs.Top.{Ends};
@@ -25,6 +25,13 @@ pub fn statuses_have_causes<S: Source, K: Sink, D: Disk>()
         → ByStatus S.at K.at D.at before after status }
 {}
 
+/// Each word comes to one of its own statuses. It follows from the clause of the top call.
+pub fn words_have_their_statuses<S: Source, K: Sink, D: Disk>()
+    ensures { (before after : Outside S K D) (status : ℕ) (words : List (List ℕ)) (one : Word)
+        → Ends S.at K.at D.at before after status words
+        → Ask words one → Contains (statuses_of one) status }
+{}
+
 /// Where nothing is wrong with lines, streams and disks a word is done, unless there was no memory;
 /// and what is wrong with a journal that is followed is told. It follows from the clause of the top
 /// call.
@@ -33,6 +40,7 @@ pub fn calm_ends_are_done<S: Source, K: Sink, D: Disk>()
         → Ends S.at K.at D.at before after status words
         → IsComplete S.at K.at D.at before after status words }
 {
+    // odd: law called
     commands_lead_to_the_state();
     journals_keep_their_limit();
     faults_stay();

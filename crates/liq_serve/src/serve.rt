@@ -1,9 +1,8 @@
 //! The word `serve`: what the lines of all sessions ask is answered at once.
 
-ghost use Rattle.std.specs.Prelude.{◌≡◌, ◌≢◌, ℕ, Err};
+ghost use Rattle.std.specs.Prelude.{◌≡◌};
 ghost use Rattle.liq_types.specs.declared.amounts.TheConstants.{LINES_MOST};
 ghost use Rattle.liq_lines.specs.Reading.{taken_most, ReadsAtMost};
-ghost use Rattle.liq_ends.specs.declared.halts.Halt.{Halt};
 ghost use Rattle.liq_ends.specs.Causes.{HasCauses};
 ghost use Rattle.liq_serve.specs.Finishing.{end_of, halt_at};
 ghost use Rattle.liq_serve.specs.Top.{ServesTo};
@@ -38,8 +37,6 @@ pub fn serve_on<S: Source, K: Sink, D: Disk + Send, G: Gate + Sync, R: Threads +
         (record { source = input.old; sink = out.old; left = left; right = right })
         (record { source = input.new; sink = out.new; left = result.left; right = result.right })
         result.end }
-    // It goes on in whatever generation.
-    ensures goes_on { (generation : ℕ) → result.end ≢ Err (Halt.Rotated generation) }
 {
     let Finished {
         left,

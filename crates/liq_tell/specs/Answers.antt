@@ -1,14 +1,14 @@
 -- What the words `staking` and `rewards` tell: lines are answered beside commands.
-use Rattle.std.specs.Prelude.{ℕ, ◌≡◌, ◌<◌, ◌≤◌, List, length, Result, Ok, Err}
+use Rattle.std.specs.Prelude.{ℕ, ◌≡◌, ◌<◌, ◌≤◌, List, length, Ok, Err}
 use Rattle.liq_types.specs.declared.requests.Command.{Command}
 use Rattle.liq_types.specs.State.{State}
 use Rattle.liq_fees.specs.declared.changes.TheConstants.{CHANGES_MOST}
 use Rattle.liq_staking.specs.Staked.{staked_text}
 use Rattle.liq_rewarding.specs.Rewarded.{rewarded_text}
-use Rattle.liq_ends.specs.declared.halts.Halt.{Halt}
 use Rattle.liq_ends.specs.declared.halts.Halt.TheVariants.{DiskFault, NoMemory, Rotated, WriteFault}
 use Rattle.liq_tell.specs.declared.answers.Asked.{Asked}
 use Rattle.liq_tell.specs.declared.answers.Asked.TheVariants.{Stakes, Tags}
+use Rattle.liq_ends.specs.Statuses.{End}
 
 -- the text for the lines, beside these commands from the opening under a limit on
 abbrev pub asked_text : Asked → ℕ → List Command → List ℕ
@@ -23,7 +23,7 @@ AreFew (Tags lines) = Unit {0}
 -- Lines are answered beside the commands that lead to this state, and that ends so: all is told of
 -- a state of the first generation, unless the sink meets a fault; of a later generation's state
 -- nothing is.
-abbrev pub IsAnswerOf : State → Result (Unit {0}) Halt → Type 0
+abbrev pub IsAnswerOf : State → End → Type 0
 IsAnswerOf s (Ok done) = s.generation ≡ 1
 IsAnswerOf s (Err WriteFault) = s.generation ≡ 1
 IsAnswerOf s (Err (Rotated generation)) = (1 < s.generation) × (generation ≡ s.generation)

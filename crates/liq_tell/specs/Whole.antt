@@ -14,6 +14,7 @@ use Rattle.liq_ends.specs.Causes.{DiskCause}
 use Rattle.liq_ends.specs.declared.halts.Halt.{Halt}
 use Rattle.liq_ends.specs.declared.halts.Halt.TheVariants.{DiskFault, NoMemory, Rotated}
 use Rattle.liq_tell.specs.declared.journal.Whole.{Whole}
+use Rattle.liq_tell.specs.Told.{FindsNone}
 
 -- Where the disk that a store took tells its journal, and the commands of a first generation lead
 -- from the opening to the state for which the store stands, this holds of that state and of the
@@ -43,3 +44,9 @@ FindsWhole s commands (Err (Rotated generation)) = (1 < s.generation) × (genera
 FindsWhole s commands (Err DiskFault) = Unit {0}
 FindsWhole s commands (Err NoMemory) = Unit {0}
 FindsWhole s commands (Err _) = ⊥
+
+-- why all commands are not found: the journal is of a later generation than the first; or it came
+-- to no state
+abbrev pub StopsWhole : Halt → Type 0
+StopsWhole (Rotated generation) = 1 < generation
+StopsWhole halt = FindsNone (Err halt)

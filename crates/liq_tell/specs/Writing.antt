@@ -11,15 +11,15 @@ use Rattle.liq_review.specs.Shown.{is_within}
 use Rattle.liq_lines.specs.Writing.{Writes, WritesPart}
 use Rattle.liq_review.specs.declared.fault.ReviewFault.{ReviewFault}
 use Rattle.liq_review.specs.declared.fault.ReviewFault.TheVariants as review
-use Rattle.liq_ends.specs.declared.halts.Halt.{Halt}
 use Rattle.liq_ends.specs.declared.halts.Halt.TheVariants.{WriteFault, DiskFault, NoMemory, Limit, Rotated}
 use Rattle.liq_tell.specs.declared.answers.Asked.{Asked}
 use Rattle.liq_tell.specs.Answers.{asked_text}
+use Rattle.liq_ends.specs.Statuses.{End}
 
 -- The text was written, or the sink met a fault within it. Or nothing was: a limit is passed, there
 -- was no memory, or a disk met a fault.
 abbrev pub WritesText :
-    Result (List ℕ) ReviewFault → Result (Unit {0}) Halt → Option (List ℕ) → Option (List ℕ)
+    Result (List ℕ) ReviewFault → End → Option (List ℕ) → Option (List ℕ)
     → Type 0
 WritesText told (Ok done) before now = (text : List ℕ) × (told ≡ Ok text) × Writes before text now
 WritesText told (Err WriteFault) before now = (text : List ℕ) × (told ≡ Ok text)
@@ -39,7 +39,7 @@ AuditAlong limit s commands =
     All (EnclosesShare made) rows × (count_by is_within rows ≡ length rows)
 
 -- so it is of a review that was told
-abbrev pub AuditHolds : Result (Unit {0}) Halt → State → List Command → Type 0
+abbrev pub AuditHolds : End → State → List Command → Type 0
 AuditHolds (Ok done) s commands = AuditAlong s.limit s commands
 AuditHolds (Err halt) s commands = Unit {0}
 
@@ -47,7 +47,7 @@ AuditHolds (Err halt) s commands = Unit {0}
 -- generation than the first, and nothing was written. Where a disk met a fault, or there was no
 -- memory, nothing shows which it is.
 abbrev pub WritesAudit :
-    State → List Command → Result (Unit {0}) Halt → Option (List ℕ) → Option (List ℕ) → Type 0
+    State → List Command → End → Option (List ℕ) → Option (List ℕ) → Type 0
 WritesAudit s commands (Err (Rotated generation)) before now =
     (now ≡ before) × (1 < s.generation) × (generation ≡ s.generation)
 WritesAudit s commands (Err NoMemory) before now = now ≡ before
@@ -60,7 +60,7 @@ WritesAudit s commands end before now =
 -- generation than the first, and nothing was written. Where a disk met a fault, or there was no
 -- memory, nothing shows which it is.
 abbrev pub WritesAnswers :
-    State → List Command → Asked → Result (Unit {0}) Halt → Option (List ℕ) → Option (List ℕ)
+    State → List Command → Asked → End → Option (List ℕ) → Option (List ℕ)
     → Type 0
 WritesAnswers s commands asked (Err (Rotated generation)) before now =
     (now ≡ before) × (1 < s.generation) × (generation ≡ s.generation)

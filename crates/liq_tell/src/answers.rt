@@ -9,7 +9,9 @@ ghost use Rattle.liq_journal.specs.declared.damage.Damage.{Damage};
 ghost use Rattle.liq_journal.specs.Written.{is_rotate};
 ghost use Rattle.liq_pairs.specs.Replay.{replay};
 ghost use Rattle.liq_ends.specs.Causes.{WriteCause};
+ghost use Rattle.liq_tell.specs.declared.telling.Told.TheVariants as which;
 ghost use Rattle.liq_tell.specs.Answers.{AreFew, asked_text};
+ghost use Rattle.liq_tell.specs.Told.{WritesSome};
 ghost use Rattle.liq_tell.specs.Whole.{OfJournal, OnlyLooks};
 ghost use Rattle.liq_tell.specs.Writing.{WritesAnswers, WritesText};
 
@@ -47,6 +49,8 @@ pub fn write_answers<K: Sink, D: Disk>(
     requires few { AreFew asked.now }
     ensures written { OfJournal D.at store.old (λ s commands.
         WritesAnswers s commands asked.now result (K.at out.old).held (K.at out.new).held) }
+    ensures some { WritesSome (which.Answers asked.now) result (K.at out.old).held
+        (K.at out.new).held }
     ensures no_source { result ≢ Err Halt.ReadFault }
     ensures no_line { (number : ℕ) → result ≢ Err (Halt.BadLine number) }
     ensures sink { WriteCause result (K.at out.old).faults (K.at out.new).faults }
@@ -71,6 +75,8 @@ fn write_answered<K: Sink>(
     requires few { AreFew asked.now }
     ensures written { (s : State) → replay 1 (opening_with limit) commands.now ≡ Ok s
         → WritesText (Ok (asked_text asked.now limit commands.now)) result (K.at out.old).held
+        (K.at out.new).held }
+    ensures some { WritesSome (which.Answers asked.now) result (K.at out.old).held
         (K.at out.new).held }
     ensures no_disk { result ≢ Err Halt.DiskFault }
     ensures no_source { result ≢ Err Halt.ReadFault }

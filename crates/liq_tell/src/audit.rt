@@ -8,7 +8,9 @@ ghost use Rattle.liq_journal.specs.Written.{is_rotate};
 ghost use Rattle.liq_pairs.specs.Replay.{replay};
 ghost use Rattle.liq_review.specs.Reviewed.{reviewed};
 ghost use Rattle.liq_ends.specs.Causes.{WriteCause};
+ghost use Rattle.liq_tell.specs.declared.telling.Told.TheVariants as which;
 ghost use Rattle.liq_tell.specs.Reviewing.{halt_on};
+ghost use Rattle.liq_tell.specs.Told.{WritesSome};
 ghost use Rattle.liq_tell.specs.Whole.{OfJournal, OnlyLooks};
 ghost use Rattle.liq_tell.specs.Writing.{AuditHolds, WritesAudit, WritesText};
 
@@ -30,6 +32,7 @@ pub fn write_audit<K: Sink, D: Disk>(
     requires going { store.old.stopped ≡ None }
     ensures written { OfJournal D.at store.old (λ s commands.
         WritesAudit s commands result (K.at out.old).held (K.at out.new).held) }
+    ensures some { WritesSome which.Audit result (K.at out.old).held (K.at out.new).held }
     ensures no_source { result ≢ Err Halt.ReadFault }
     ensures no_line { (number : ℕ) → result ≢ Err (Halt.BadLine number) }
     ensures sink { WriteCause result (K.at out.old).faults (K.at out.new).faults }
@@ -54,6 +57,7 @@ fn write_review<K: Sink>(
         → replay 1 (opening_with limit) commands.now ≡ Ok s
         → WritesText (reviewed limit commands.now) result (K.at out.old).held (K.at out.new).held
         × AuditHolds result s commands.now }
+    ensures some { WritesSome which.Audit result (K.at out.old).held (K.at out.new).held }
     ensures no_disk { result ≢ Err Halt.DiskFault }
     ensures no_source { result ≢ Err Halt.ReadFault }
     ensures no_line { (number : ℕ) → result ≢ Err (Halt.BadLine number) }

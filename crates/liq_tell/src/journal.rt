@@ -7,7 +7,8 @@ ghost use Rattle.liq_journal.specs.Written.{Open, Written, found_on, is_rotate};
 ghost use Rattle.liq_pairs.specs.declared.side.Side.{Side};
 ghost use Rattle.liq_pairs.specs.Sides.{has_odd};
 ghost use Rattle.liq_store.specs.Stored.{taken_disk};
-ghost use Rattle.liq_tell.specs.Whole.{FindsWhole, OfJournal, OnlyLooks};
+ghost use Rattle.liq_tell.specs.Told.{FindsNone};
+ghost use Rattle.liq_tell.specs.Whole.{FindsWhole, OfJournal, OnlyLooks, StopsWhole};
 
 use liq_core::Protocol;
 use liq_core::laws::protocols_are_sound_states;
@@ -34,6 +35,7 @@ pub(crate) fn whole_journal<D: Disk>(store: &mut Store<D>) -> Result<Whole, Halt
     ensures limit { IfOk result (λ whole. IsLimit whole.limit) }
     ensures no_rotation { IfOk result
         (λ whole. All (λ (c : Command). is_rotate c.call ≡ false) whole.commands.items) }
+    ensures stops { IfErr result StopsWhole }
     ensures no_source { result ≢ Err Halt.ReadFault }
     ensures no_line { (number : ℕ) → result ≢ Err (Halt.BadLine number) }
     ensures no_sink { result ≢ Err Halt.WriteFault }
@@ -58,6 +60,7 @@ fn limit_of(protocol: &Protocol) -> u64
     ensures known { result ≡ protocol.now.image.limit }
     ensures one_of_two { IsLimit result }
 {
+    // odd: law called
     protocols_are_sound_states(protocol);
     protocol.limit()
 }
@@ -71,6 +74,7 @@ fn kept_commands<D: Disk>(store: &mut Store<D>, side: Side) -> Result<Vec<Comman
         → IfOk result (λ commands. commands.items ≡ w.commands) }
     ensures no_rotation { IfOk result
         (λ commands. All (λ (c : Command). is_rotate c.call ≡ false) commands.items) }
+    ensures none { IfErr result (λ halt. FindsNone (Err halt)) }
     // Where the disk tells its bytes no record is unreadable.
     ensures fault { IsSome (D.at (taken_disk store.old)).seen
         → IfErr result (λ halt. (halt ≡ Halt.NoMemory) ⊎ (halt ≡ Halt.DiskFault)) }

@@ -7,13 +7,14 @@ ghost use Rattle.liq_pairs.specs.Pair.{commands_on};
 ghost use Rattle.liq_ends.specs.Causes.{DisksGoOn, LastCause, WriteCause};
 ghost use Rattle.liq_ends.specs.Disks.{DisksStay, IsFaultOfTelling, LeavesDamaged, LeavesOfRun, OfDamage, OfState};
 ghost use Rattle.liq_ends.specs.Stops.{StopsDamaged};
-ghost use Rattle.liq_tell.specs.Told.{EndsTelling, HasFewLines, MayEnd, WritesTold};
+ghost use Rattle.liq_tell.specs.Told.{EndsSome, EndsTelling, HasFewLines, MayEnd, WritesSome, WritesTold};
 ghost use Rattle.liq_tell.specs.Whole.{OfJournal, OnlyLooks};
 
 use crate::answers::{Asked, write_answers};
 use crate::audit::write_audit;
 use crate::report::write_report;
 use crate::state::write_standing;
+use liq_core::laws::protocols_stand;
 use liq_ends::{Ending, Halt, tell_last, unopened};
 use liq_outside::{Disk, Sink};
 use liq_pairs::laws::{commands_lead_to_the_state, journals_keep_their_limit};
@@ -61,6 +62,9 @@ pub fn tell_on<K: Sink, D: Disk>(
         (λ l r side damage. StopsDamaged D.at left right l r side damage result.end
         (Rose (K.at out.old).faults (K.at out.new).faults) (K.at out.old).held (K.at out.new).held
         result.left result.right) }
+    // Whatever the disks tell, it is told of some state and of some commands, or nothing is.
+    ensures some { EndsSome what result.end (Rose (K.at out.old).faults (K.at out.new).faults)
+        (K.at out.old).held (K.at out.new).held }
     ensures ends { MayEnd what result.end }
     ensures sink { LastCause result.end (K.at out.old).faults (K.at out.new).faults }
     ensures disks { DisksGoOn D.at left right result.end result.left result.right }
@@ -80,10 +84,12 @@ fn tell<K: Sink, D: Disk>(alloc: Global, what: Told, out: &mut K, left: D, right
         (IsFaultOfTelling result.end) l r start [] result.left result.right) }
     ensures damaged { OfDamage D.at left right (λ l r side damage. (out.new ≡ out.old)
         × LeavesDamaged D.at left right l r side damage result.end result.left result.right) }
+    ensures some { WritesSome what result.end (K.at out.old).held (K.at out.new).held }
     ensures ends { MayEnd what result.end }
     ensures sink { WriteCause result.end (K.at out.old).faults (K.at out.new).faults }
     ensures disks { DisksGoOn D.at left right result.end result.left result.right }
 {
+    // odd: law called
     commands_lead_to_the_state();
     journals_keep_their_limit();
     let mut store = match Store::open(alloc, left, right) {
@@ -106,10 +112,13 @@ fn write_told<K: Sink, D: Disk>(
     requires few { HasFewLines what.now }
     ensures written { OfJournal D.at store.old (λ s commands.
         WritesTold what.now s commands result (K.at out.old).held (K.at out.new).held) }
+    ensures some { WritesSome what.now result (K.at out.old).held (K.at out.new).held }
     ensures ends { MayEnd what.now result }
     ensures sink { WriteCause result (K.at out.old).faults (K.at out.new).faults }
     ensures disks { OnlyLooks D.at store.old store.new result }
 {
+    // odd: law called
+    protocols_stand(store.protocol());
     match what {
         Told::State => write_standing(alloc, store.protocol(), out),
         Told::Report => write_report(alloc, store.protocol(), out),

@@ -1,17 +1,15 @@
-use Rattle.std.proofs.Common.{[], ℕ, List, Result, refl, sym, subst, ap, arith, length}
-use Rattle.liq_pairs.specs.Pair.{commands_on, state_on}
+use Rattle.std.proofs.Common.{◌≡◌, ℕ, List, refl, sym, subst, ap, arith, length}
+use Rattle.liq_types.specs.State.{State}
+use Rattle.liq_types.specs.declared.requests.Command.{Command}
 use Rattle.liq_ends.specs.declared.ending.Ending.{Ending}
-use Rattle.liq_ends.specs.declared.halts.Halt.{Halt}
 use Rattle.liq_ends.specs.Causes.{ReadCause}
-use Rattle.liq_ends.specs.Disks.{LeavesDamaged}
-use Rattle.liq_ends.specs.Stops.{TellsBehind}
-use Rattle.liq_outside.specs.Faults.{Rose}
 use Rattle.liq_ends.proofs.Causes.{unread_causes}
 use Rattle.liq_ends.specs.Outside.{Outside}
-use Rattle.liq_serve.specs.Answered.{AnswersLines}
-use Rattle.liq_serve.proofs.Served.{by_found}
+use Rattle.liq_tell.specs.Answers.{IsAnswerOf, asked_text}
+use Rattle.liq_tell.specs.declared.telling.Told.TheVariants.{Answers}
+use Rattle.liq_serve.specs.Top.{AnswersLines}
+use Rattle.liq_serve.proofs.Found.{tells_found}
 use Rattle.liq_serve.proofs.Gathered.{lines_stopped, lines_whole, stop_source, source_kept}
-use Rattle.liq_serve.proofs.Words.{last_told}
 use Rattle.liq_serve.proofs.answers.answer_on.Goals as goal
 
 pub tell_on-requires : goal.tell_on-requires
@@ -27,22 +25,15 @@ returns-in-Ok-clause-answered g c =
     record { source = c.args.input.now; sink = c.args.out.now; left = c.args.left; right = c.args.right } in
     let after : Outside g.row.S.Denot g.row.K.Denot g.row.D.Denot =
     record { source = c.gather.new.input; sink = ran.new.out; left = ran.result.left; right = ran.result.right } in
-    let was = sink_at c.args.out.now in
-    let now = sink_at ran.new.out in
+    let asked = c.asked.result in
     lines_whole g.S.Source.at sink_at disk_at g.F.Form.says g.F.Asking.text before after c.in-Ok.lines ran.result.end
-    c.in-Ok.ensures.read ran.ensures.ends.no_source ran.ensures.ends.no_line
-    (λ l r told_l told_r. by_found (state_on l r) _ _
-    (λ start is.
-    let so = ran.ensures.told l r told_l told_r start is in
-    let text = subst (λ (t : List ℕ). TellsBehind [] t ran.result.end (Rose was.faults now.faults) was.held now.held)
-    (c.asked.ensures.text start.limit (commands_on l r)) so.0.1 in
-    (so.0.0, text, so.1, ran.ensures.past l r told_l told_r start is))
-    (λ side damage is.
-    let found = ran.ensures.damaged l r told_l told_r side damage is in
-    let told = last_told g.S.Source.at sink_at disk_at before after side damage found.0 found.2.ends found.3 in
-    subst (λ (e : Result (Unit {0}) Halt). LeavesDamaged disk_at c.args.left c.args.right l r side damage e
-    ran.result.left ran.result.right × TellsBehind [] [] e (Rose was.faults now.faults) was.held now.held)
-    (sym found.1) (found.2, told)))
+    c.in-Ok.ensures.read
+    (tells_found g.S.Source.at sink_at disk_at before after (Answers asked) ran.result.end ran.ensures.told
+    ran.ensures.past ran.ensures.damaged ran.ensures.some ran.ensures.disks
+    (λ (s : State) (commands : List Command) (it : List ℕ). IsAnswerOf s ran.result.end
+    × (it ≡ g.F.Asking.text s.limit commands c.in-Ok.lines.items))
+    (λ s commands h.
+    (asked_text asked s.limit commands, (h.0, c.asked.ensures.text s.limit commands), h.1)))
 
 pub returns-in-Err-clause-answered : goal.returns-in-Err-clause-answered
 returns-in-Err-clause-answered g c =

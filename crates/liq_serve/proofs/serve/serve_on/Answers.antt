@@ -1,14 +1,15 @@
-use Rattle.std.proofs.Common.{◌∷◌, [], Result, subst}
+use Rattle.std.proofs.Common.{◌∷◌, [], subst}
 use Rattle.std.specs.Prelude.{Contains}
-use Rattle.liq_ends.specs.declared.halts.Halt.{Halt}
-use Rattle.liq_ends.specs.Statuses.{status_of}
+use Rattle.liq_ends.specs.Statuses.{End, status_of}
 use Rattle.liq_rules.specs.History.{requests_of}
 use Rattle.liq_serve.specs.Finishing.{end_of}
+use Rattle.liq_serve.specs.Top.{Tells}
 use Rattle.liq_ends.specs.Outside.{Outside}
 use Rattle.liq_ends.proofs.Causes.{write_no_fewer}
 use Rattle.liq_pairs.specs.Pair.{state_on}
 use Rattle.liq_scripts.specs.Output.{served as text_of}
-use Rattle.liq_serve.proofs.Served.{all_served, came_by, causes_kept, if_found, never_rotated, rests_by, safe_by}
+use Rattle.liq_serve.proofs.Found.{untold_then}
+use Rattle.liq_serve.proofs.Served.{all_served, came_by, causes_kept, if_found, rests_by, safe_by}
 use Rattle.liq_ends.proofs.Opened.{state_formed}
 use Rattle.liq_ends.proofs.Shares.{all_shares}
 use Rattle.liq_serve.proofs.serve.serve_on.Goals as goal
@@ -31,8 +32,13 @@ returns-clause-served g c =
     record { source = c.args.input.now; sink = start; left = c.args.left; right = c.args.right } in
     let after : Outside g.row.S.Denot g.row.K.Denot g.row.D.Denot =
     record { source = ran.new.input; sink = c.tell_last.new.out; left = ran.result.left; right = ran.result.right } in
+    let written = c.tell_last.ensures.told (text_of served.history) (sink_at start).held (sink_at start).faults fewer
+    (rw is (all_served sink_at served.history start middle how served.written)) in
     let came = came_by g.S.Source.at sink_at disk_at before after served.asked served.history how answered
-    ran.ensures.unread in
+    ran.ensures.unread
+    (untold_then disk_at c.args.left c.args.right ran.result.left ran.result.right ran.ensures.left_telling.0
+    ran.ensures.right_telling.0)
+    (subst (λ (e : End). Tells g.S.Source.at sink_at disk_at before after [] (text_of served.history) e) is written) in
     record {
       asked = served.asked;
       history = served.history;
@@ -43,15 +49,13 @@ returns-clause-served g c =
       read = came.read;
       fault = came.fault;
       came = rw is came.so;
-      written = c.tell_last.ensures.told (text_of served.history) (sink_at start).held (sink_at start).faults fewer
-          (rw is (all_served sink_at served.history start middle how served.written));
+      written = written;
       safe = λ status.
-          let so = safe_by disk_at sink_at ran.result.left ran.result.right start middle c.tell_last.new.out
-          c.tell_last.ensures.unshown how ran.ensures.shown in
-          so (subst (λ (e : Result (Unit {0}) Halt). Contains (0 ∷ 4 ∷ []) (status_of e)) is status);
-      rests = λ status.
-          let so = rests_by disk_at ran.result.left ran.result.right how ran.ensures.rests in
-          so (subst (λ (e : Result (Unit {0}) Halt). Contains (0 ∷ 4 ∷ []) (status_of e)) is status);
+          let all = subst (λ (e : End). Contains (0 ∷ 4 ∷ []) (status_of e)) is status in
+          let rests = rests_by disk_at ran.result.left ran.result.right how ran.ensures.rests all in
+          let noted = safe_by disk_at sink_at ran.result.left ran.result.right start middle c.tell_last.new.out
+          c.tell_last.ensures.unshown how ran.ensures.shown all in
+          (rests.0, rests.1, noted);
       past = λ l r told_l told_r. if_found (state_on l r) _ (λ start found only_l only_r kept.
           let so = answered.past l r start told_l told_r only_l only_r found kept in
           record { fault = so.fault; fault_is = came.met so.fault so.fault_is; images = so.images; rests = so.rests });
@@ -77,7 +81,3 @@ returns-clause-causes g c =
         right_telling = ran.ensures.right_telling;
       };
     }
-
-pub returns-clause-goes_on : goal.returns-clause-goes_on
-returns-clause-goes_on g c generation = rw c.end_of-end.ensures
-    (never_rotated c.serve_input-left.result.finish generation)

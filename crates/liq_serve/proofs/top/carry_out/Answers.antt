@@ -1,13 +1,20 @@
-use Rattle.std.proofs.Common.{refl, subst, inl, inr}
+use Rattle.std.proofs.Common.{ℕ, List, refl, subst}
+use Rattle.liq_types.specs.State.{State}
+use Rattle.liq_types.specs.declared.requests.Command.{Command}
 use Rattle.liq_words.specs.declared.words.Word.{Word}
 use Rattle.liq_words.specs.declared.words.Word.TheVariants as word
 use Rattle.liq_words.specs.Words.{IsInRange}
 use Rattle.liq_ends.specs.Outside.{Outside}
-use Rattle.liq_serve.proofs.Ran.{runs_to}
-use Rattle.liq_serve.proofs.Words.{IsRead, opens_first, telling_ends, word_ends}
+use Rattle.liq_tell.specs.Audit.{IsAuditOf}
+use Rattle.liq_tell.specs.Report.{reported}
+use Rattle.liq_tell.specs.State.{standing}
+use Rattle.liq_tell.specs.declared.telling.Told.TheVariants as which
+use Rattle.liq_serve.proofs.Found.{tells_found, tells_state}
+use Rattle.liq_serve.proofs.Ran.{run_found}
+use Rattle.liq_serve.proofs.Words.{IsRead, telling_ends, word_ends}
 use Rattle.liq_serve.proofs.top.carry_out.Goals as goal
 use Rattle.liq_lines.proofs.Readings.{takes_none}
-use Rattle.liq_serve.proofs.StatusLaws.{audit_known, follow_known, goes_on_known, answers_known, state_known}
+use Rattle.liq_serve.proofs.StatusLaws.{goes_on_known}
 use Rattle.liq_serve.proofs.Telling.{disks_unasked, disks_unfollowed, same_go_on, source_unasked, taken_followed}
 
 pub returns-in-Run : goal.returns-in-Run
@@ -18,12 +25,12 @@ returns-in-Run g c words asks only =
     let after : Outside g.row.S.Denot g.row.K.Denot g.row.D.Denot =
     record { source = ran.new.input; sink = ran.new.out; left = ran.result.left; right = ran.result.right } in
     let read = subst (λ (w : Word). IsRead words w) c.in-Run.is (record { asks = asks; only = only }) in
-    word_ends g.S.Source.at g.K.Sink.at g.D.Disk.at before after words word.Run ran.result.end read
-    (opens_first g.S.Source.at g.K.Sink.at g.D.Disk.at before after ran.result.end _
-    (λ l r told_l told_r start is. runs_to g.S.Source.at g.K.Sink.at g.D.Disk.at before after start
-    ran.result.end l r (ran.ensures.run l r told_l told_r start is))
-    ran.ensures.damaged)
-    (goes_on_known ran.result.end ran.ensures.goes_on) ran.ensures.causes ran.ensures.few
+    word_ends g.S.Source.at g.K.Sink.at g.D.Disk.at before after words word.Run ran.result.end read (
+      goes_on_known ran.result.end ran.ensures.goes_on,
+      run_found g.S.Source.at g.K.Sink.at g.D.Disk.at before after
+          ran.result.end ran.ensures.run ran.ensures.damaged,
+    )
+    ran.ensures.causes ran.ensures.few
 
 pub returns-in-Staking : goal.returns-in-Staking
 returns-in-Staking g c words asks only =
@@ -34,7 +41,7 @@ returns-in-Staking g c words asks only =
     record { source = ran.new.input; sink = ran.new.out; left = ran.result.left; right = ran.result.right } in
     let read = subst (λ (w : Word). IsRead words w) c.in-Staking.is (record { asks = asks; only = only }) in
     word_ends g.S.Source.at g.K.Sink.at g.D.Disk.at before after words word.Staking ran.result.end read
-    ran.ensures.answered (answers_known ran.result.end) ran.ensures.causes ran.ensures.takes
+    ran.ensures.answered ran.ensures.causes ran.ensures.takes
 
 pub returns-in-Rewards : goal.returns-in-Rewards
 returns-in-Rewards g c words asks only =
@@ -45,7 +52,7 @@ returns-in-Rewards g c words asks only =
     record { source = ran.new.input; sink = ran.new.out; left = ran.result.left; right = ran.result.right } in
     let read = subst (λ (w : Word). IsRead words w) c.in-Rewards.is (record { asks = asks; only = only }) in
     word_ends g.S.Source.at g.K.Sink.at g.D.Disk.at before after words word.Rewards ran.result.end read
-    ran.ensures.answered (answers_known ran.result.end) ran.ensures.causes ran.ensures.takes
+    ran.ensures.answered ran.ensures.causes ran.ensures.takes
 
 pub returns-in-State : goal.returns-in-State
 returns-in-State g c words asks only =
@@ -55,11 +62,10 @@ returns-in-State g c words asks only =
     let after : Outside g.row.S.Denot g.row.K.Denot g.row.D.Denot =
     record { source = c.args.input.now; sink = ran.new.out; left = ran.result.left; right = ran.result.right } in
     let read = subst (λ (w : Word). IsRead words w) c.in-State.is (record { asks = asks; only = only }) in
-    telling_ends g.S.Source.at g.K.Sink.at g.D.Disk.at before after words word.State ran.result.end _ read
-    (λ leaves. leaves) refl (λ l r told_l told_r start is. let so = ran.ensures.told l r told_l told_r start is in
-    (so.0.0, so.0.1, so.1, ran.ensures.past l r told_l told_r start is)) ran.ensures.damaged
-    (state_known ran.result.end ran.ensures.ends.no_source ran.ensures.ends.no_line
-    (ran.ensures.ends.no_limit (inl refl))) ran.ensures.ends.no_source ran.ensures.sink ran.ensures.disks
+    telling_ends g.S.Source.at g.K.Sink.at g.D.Disk.at before after words word.State ran.result.end read
+    (tells_state g.S.Source.at g.K.Sink.at g.D.Disk.at before after which.State ran.result.end ran.ensures.told
+    ran.ensures.past ran.ensures.damaged ran.ensures.some ran.ensures.disks standing refl (λ s commands h. h))
+    refl ran.ensures.ends.no_source ran.ensures.sink ran.ensures.disks
 
 pub returns-in-Report : goal.returns-in-Report
 returns-in-Report g c words asks only =
@@ -69,11 +75,10 @@ returns-in-Report g c words asks only =
     let after : Outside g.row.S.Denot g.row.K.Denot g.row.D.Denot =
     record { source = c.args.input.now; sink = ran.new.out; left = ran.result.left; right = ran.result.right } in
     let read = subst (λ (w : Word). IsRead words w) c.in-Report.is (record { asks = asks; only = only }) in
-    telling_ends g.S.Source.at g.K.Sink.at g.D.Disk.at before after words word.Report ran.result.end _ read
-    (λ leaves. leaves) refl (λ l r told_l told_r start is. let so = ran.ensures.told l r told_l told_r start is in
-    (so.0.0, so.0.1, so.1, ran.ensures.past l r told_l told_r start is)) ran.ensures.damaged
-    (state_known ran.result.end ran.ensures.ends.no_source ran.ensures.ends.no_line
-    (ran.ensures.ends.no_limit (inr refl))) ran.ensures.ends.no_source ran.ensures.sink ran.ensures.disks
+    telling_ends g.S.Source.at g.K.Sink.at g.D.Disk.at before after words word.Report ran.result.end read
+    (tells_state g.S.Source.at g.K.Sink.at g.D.Disk.at before after which.Report ran.result.end ran.ensures.told
+    ran.ensures.past ran.ensures.damaged ran.ensures.some ran.ensures.disks reported refl (λ s commands h. h))
+    refl ran.ensures.ends.no_source ran.ensures.sink ran.ensures.disks
 
 pub returns-in-Audit : goal.returns-in-Audit
 returns-in-Audit g c words asks only =
@@ -83,11 +88,14 @@ returns-in-Audit g c words asks only =
     let after : Outside g.row.S.Denot g.row.K.Denot g.row.D.Denot =
     record { source = c.args.input.now; sink = ran.new.out; left = ran.result.left; right = ran.result.right } in
     let read = subst (λ (w : Word). IsRead words w) c.in-Audit.is (record { asks = asks; only = only }) in
-    telling_ends g.S.Source.at g.K.Sink.at g.D.Disk.at before after words word.Audit ran.result.end _ read
-    (λ leaves. leaves) refl (λ l r told_l told_r start is. let so = ran.ensures.told l r told_l told_r start is in
-    (so.0, so.1, ran.ensures.past l r told_l told_r start is)) ran.ensures.damaged
-    (audit_known ran.result.end ran.ensures.ends.no_source ran.ensures.ends.no_line) ran.ensures.ends.no_source
-    ran.ensures.sink ran.ensures.disks
+    telling_ends g.S.Source.at g.K.Sink.at g.D.Disk.at before after words word.Audit ran.result.end read (
+      refl,
+      tells_found g.S.Source.at g.K.Sink.at g.D.Disk.at before after which.Audit ran.result.end ran.ensures.told
+          ran.ensures.past ran.ensures.damaged ran.ensures.some ran.ensures.disks
+          (λ (s : State) (commands : List Command) (text : List ℕ). IsAuditOf s commands ran.result.end text)
+          (λ s commands h. h),
+    )
+    refl ran.ensures.ends.no_source ran.ensures.sink ran.ensures.disks
 
 pub returns-in-Follow : goal.returns-in-Follow
 returns-in-Follow g c words asks only =
@@ -101,7 +109,6 @@ returns-in-Follow g c words asks only =
     let left = (g.S.Source.at ran.new.input).left in
     word_ends g.S.Source.at g.K.Sink.at g.D.Disk.at before after words word.Follow ran.result read
     (refl, so)
-    (follow_known ran.result so.0 left so.2.0 so.2.1)
     (record {
       source = ran.ensures.source;
       sink = ran.ensures.sink;
@@ -121,7 +128,6 @@ returns-in-Gen g c words asks only =
     word_ends g.S.Source.at g.K.Sink.at g.D.Disk.at before after words (word.Gen c.in-Gen.seed c.in-Gen.count)
     ran.result read
     (refl, ran.ensures.ends, ran.ensures.told)
-    ran.ensures.ends
     (record {
       source = source_unasked ran.result _ ran.ensures.ends;
       sink = ran.ensures.sink;

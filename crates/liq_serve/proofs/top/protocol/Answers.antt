@@ -5,7 +5,6 @@ use Rattle.liq_words.specs.declared.words.Word.TheVariants.{Serve}
 use Rattle.liq_ends.specs.Outside.{Outside}
 use Rattle.liq_serve.specs.Top.{Ends}
 use Rattle.liq_serve.specs.declared.top.Ended.{Ended}
-use Rattle.liq_serve.proofs.StatusLaws.{goes_on_known}
 use Rattle.liq_serve.proofs.Words.{is_read, word_ends}
 use Rattle.liq_serve.proofs.top.protocol.Goals as goal
 
@@ -21,4 +20,4 @@ returns-then-is_serve g c =
     (record { source = ran.new.input; sink = ran.new.out; left = e.left; right = e.right }) e.status words)
     (sym c.with_status.ensures)
     (word_ends g.S.Source.at g.K.Sink.at g.D.Disk.at before _ words Serve ran.result.end read
-    ran.ensures.served (goes_on_known ran.result.end ran.ensures.goes_on) ran.ensures.causes ran.ensures.takes)
+    ran.ensures.served ran.ensures.causes ran.ensures.takes)

@@ -1,9 +1,13 @@
-use Rattle.std.proofs.Common.{◌≡◌, ℕ, List, Ok, ap, subst, ◌∙◌}
+use Rattle.std.proofs.Common.{rules, ◌≡◌, ℕ, List, Ok, ap, subst, ◌∙◌, Err, sym}
 use Rattle.liq_types.specs.declared.requests.Command.{Command}
 use Rattle.liq_types.specs.State.{opening_with}
 use Rattle.liq_pairs.specs.Replay.{replay}
 use Rattle.liq_tell.specs.Answers.{asked_text}
+use Rattle.liq_ends.specs.Statuses.{End}
+use Rattle.liq_tell.specs.declared.telling.Told.TheVariants as which
+use Rattle.liq_tell.specs.Told.{WritesSome}
 use Rattle.liq_tell.specs.Writing.{WritesAnswers, WritesText}
+use Rattle.liq_tell.proofs.SomeTold.{answers_stop}
 use Rattle.liq_tell.proofs.TextsTold.{answers_written}
 use Rattle.liq_tell.proofs.answers.write_answers.Goals as goal
 
@@ -22,3 +26,11 @@ returns-clause-written g c held w s told found stands from_one leads =
     whole.1 (c.write_answered.ensures.written s led) in
     subst (λ (commands : List Command). WritesAnswers s commands asked end before now) are
     (answers_written s c.deref.result.now asked end before now whole.0 wrote)
+
+pub returns-in_err-whole-clause-some : goal.returns-in_err-whole-clause-some
+returns-in_err-whole-clause-some g c =
+    let held = (g.K.Sink.at c.args.out.now).held in
+    let halt = c.in_err-whole.field-0.0 in
+    let same : c.from_residual.result ≡ Err halt = search rules in
+    subst (λ (end : End). WritesSome (which.Answers c.args.asked.now) end held held) (sym same)
+    (answers_stop c.args.asked.now halt held c.in_err-whole.ensures.stops)

@@ -1,9 +1,13 @@
-use Rattle.std.proofs.Common.{◌≡◌, ℕ, List, Ok, ap, subst, sym, ◌∙◌}
+use Rattle.std.proofs.Common.{rules, ◌≡◌, ℕ, List, Ok, ap, subst, Err, sym, ◌∙◌}
 use Rattle.liq_types.specs.declared.requests.Command.{Command}
 use Rattle.liq_types.specs.State.{opening_with}
 use Rattle.liq_pairs.specs.Replay.{replay}
 use Rattle.liq_review.specs.Reviewed.{reviewed}
+use Rattle.liq_ends.specs.Statuses.{End}
+use Rattle.liq_tell.specs.declared.telling.Told.TheVariants as which
+use Rattle.liq_tell.specs.Told.{WritesSome}
 use Rattle.liq_tell.specs.Writing.{WritesAudit, WritesText}
+use Rattle.liq_tell.proofs.SomeTold.{audit_stops}
 use Rattle.liq_tell.proofs.TextsTold.{audit_reviewed}
 use Rattle.liq_tell.proofs.audit.write_audit.Goals as goal
 
@@ -22,3 +26,11 @@ returns-clause-written g c held w s told found stands from_one leads =
     wrote.0 in
     subst (λ (commands : List Command). WritesAudit s commands end before now) are
     (audit_reviewed s c.deref.result.now end before now whole.0 reviewed_so wrote.1)
+
+pub returns-in_err-whole-clause-some : goal.returns-in_err-whole-clause-some
+returns-in_err-whole-clause-some g c =
+    let held = (g.K.Sink.at c.args.out.now).held in
+    let halt = c.in_err-whole.field-0.0 in
+    let same : c.from_residual.result ≡ Err halt = search rules in
+    subst (λ (end : End). WritesSome which.Audit end held held) (sym same)
+    (audit_stops halt held c.in_err-whole.ensures.stops)

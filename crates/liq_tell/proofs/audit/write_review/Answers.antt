@@ -2,11 +2,14 @@ use Rattle.std.proofs.Common.{ℕ, Ok, Err, Result, ap, sym, subst, ◌∙◌}
 use Rattle.liq_review.specs.Reviewed.{reviewed}
 use Rattle.liq_ends.specs.declared.halts.Halt.{Halt}
 use Rattle.liq_ends.specs.declared.halts.Halt.TheVariants.{DiskFault, ReadFault}
+use Rattle.liq_tell.specs.declared.telling.Told.TheVariants as which
+use Rattle.liq_tell.specs.Told.{WritesSome}
 use Rattle.liq_tell.specs.Writing.{AuditAlong, AuditHolds}
 use Rattle.liq_ends.specs.Causes.{WriteCause}
 use Rattle.liq_tell.specs.Writing.{WritesText}
 use Rattle.liq_tell.proofs.Audited.{audit_holds, no_cause, no_fault, not_reviewed}
 use Rattle.liq_ends.proofs.Shown.{by_sink}
+use Rattle.liq_tell.proofs.SomeTold.{review_some, unreviewed_some}
 use Rattle.liq_tell.proofs.TextsTold.{text_written}
 use Rattle.liq_tell.proofs.audit.write_review.Goals as goal
 
@@ -44,3 +47,15 @@ returns-in-Err-clause-sink g c =
     let count = (g.K.Sink.at c.args.out.now).faults in
     subst (λ (halt : Halt). let end : Result (Unit {0}) Halt = Err halt
     in WriteCause end count count) (sym c.halt_on.ensures) (no_cause c.args.side c.in-Err.fault count)
+
+pub returns-in-Ok-clause-some : goal.returns-in-Ok-clause-some
+returns-in-Ok-clause-some g c =
+    review_some c.args.limit c.args.commands.now c.requires.no_rotation c.write_text.result _ _
+    (λ index code refused. absurd (cc (c.in-Ok.ensures.text, refused))) (returns-in-Ok-clause-written g c)
+
+pub returns-in-Err-clause-some : goal.returns-in-Err-clause-some
+returns-in-Err-clause-some g c =
+    let held = (g.K.Sink.at c.args.out.now).held in
+    subst (λ (halt : Halt). WritesSome which.Audit (Err halt) held held) (sym c.halt_on.ensures)
+    (unreviewed_some c.args.limit c.args.commands.now c.requires.no_rotation c.args.side c.in-Err.fault held
+    c.in-Err.ensures.fault)

@@ -1,4 +1,4 @@
-use Rattle.std.proofs.Common.{rules, ◌≡◌, refl, Ok, ℕ, List, [], Option, sym, subst, ap, ◌∙◌}
+use Rattle.std.proofs.Common.{rules, ◌≡◌, inr, refl, Ok, ℕ, List, [], Option, sym, subst, ap, ◌∙◌}
 use Rattle.std.specs.Prelude.{◌↔◌, IsSome}
 use Rattle.liq_types.specs.declared.requests.Command.{Command}
 use Rattle.liq_types.specs.State.{opening_with}
@@ -16,9 +16,10 @@ use Rattle.liq_ends.proofs.Causes.{unopened_cause}
 use Rattle.liq_ends.proofs.Damaged.{unopened_damaged}
 use Rattle.liq_ends.proofs.Opened.{is_some_of, opened_at, opened_still}
 use Rattle.liq_ends.proofs.Passing.{looked_past, unopened_past}
-use Rattle.liq_tell.specs.Told.{WritesTold}
+use Rattle.liq_tell.specs.Told.{WritesSome, WritesTold}
 use Rattle.liq_tell.proofs.Audited.{stand_too, taken_tells, tells_still}
 use Rattle.liq_tell.proofs.Generations.{opened_from_one}
+use Rattle.liq_tell.proofs.SomeTold.{unopened_none}
 use Rattle.liq_tell.proofs.Standing.{not_told, disks_stay}
 use Rattle.liq_tell.proofs.telling.tell.Goals as goal
 
@@ -158,3 +159,12 @@ returns-clause-disks g c =
           (sym c.close-left.ensures.right)
           (tells_still disk_at c.args.right opened.right closed.right c.in-Ok.ensures.right_telling looked.right.same);
     }
+
+pub returns-in-Err-clause-some : goal.returns-in-Err-clause-some
+returns-in-Err-clause-some g c =
+    let held = (g.K.Sink.at c.args.out.now).held in
+    subst (λ (e : Ending g.row.D.Denot). WritesSome c.args.what e.end held held) (sym c.unopened.ensures)
+    (inr (unopened_none c.in-Err.fault.why, refl))
+
+pub returns-clause-some : goal.returns-clause-some
+returns-clause-some g c = c.write_told-end.ensures.some

@@ -2,6 +2,7 @@ use Rattle.liq_outside.specs.Faults.{Rose}
 use Rattle.liq_pairs.specs.Pair.{commands_on}
 use Rattle.liq_ends.proofs.Causes.{write_no_fewer}
 use Rattle.liq_tell.proofs.DamagedTold.{damaged_told}
+use Rattle.liq_tell.proofs.SomeTold.{some_told}
 use Rattle.liq_tell.proofs.TextsTold.{all_told}
 use Rattle.liq_tell.proofs.telling.tell_on.Goals as goal
 
@@ -25,3 +26,13 @@ returns-clause-damaged g c l r told_l told_r side damage is =
     damaged_told g.D.Disk.at c.args.left c.args.right l r g.K.Sink.at
     c.args.out.now ran.new.out c.tell_last.new.out side damage ran.result.end ran.result.left ran.result.right found.0
     found.1 c.tell_last.ensures.last
+
+pub returns-clause-some : goal.returns-clause-some
+returns-clause-some g c =
+    let at = g.K.Sink.at in
+    let out = c.args.out.now in
+    let ran = c.tell-ending in
+    some_told c.args.what ran.result.end (Rose (at out).faults (at c.tell_last.new.out).faults) (at out).held
+    (at ran.new.out).held (at c.tell_last.new.out).held ran.ensures.some
+    (λ text wrote. c.tell_last.ensures.told text (at out).held (at out).faults
+    (write_no_fewer ran.result.end _ _ ran.ensures.sink) wrote)
