@@ -45,8 +45,7 @@ class Pages(unittest.TestCase):
         self.assertEqual(theirs, {each.__name__: each.fields for each in OF_RULES.values()})
 
     def test_codes_are_those_of_the_code(self) -> None:
-        files = [TOP / "crates/liq_text/src/replies.rt", *sorted(TOP.glob("crates/liq_replies/src/*.rt"))]
-        written = "".join(path.read_text() for path in files)
+        written = (TOP / "crates/liq_types/src/codes.rt").read_text()
         arms = re.findall(r"Refusal::(\w+)[^=]*=> \(\s*\[\s*(\d+)", written)
         theirs = {(name, int(code)) for name, code in arms}
         self.assertEqual(theirs, {(each.__name__, code) for code, each in OF_RULES.items()})
