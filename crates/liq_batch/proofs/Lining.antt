@@ -12,9 +12,9 @@ use Rattle.liq_types.specs.State.{State}
 use Rattle.liq_core.specs.Core.{StandsFor}
 use Rattle.liq_market.specs.Content.{Content}
 use Rattle.liq_market.specs.Touching.{touched_after}
-use Rattle.liq_rules.specs.Step.{step, run}
-use Rattle.liq_rules.proofs.Runs.{run_state, run_replies}
-use Rattle.liq_lines.specs.Lines.{ended, IsWithinLine}
+use Rattle.liq_rule_step.specs.Step.{step, run}
+use Rattle.liq_rule_step.proofs.Runs.{run_state, run_replies}
+use Rattle.liq_text_lines.specs.Lines.{ended, IsWithinLine}
 use Rattle.liq_text.specs.Spelling.{Spells}
 use Rattle.liq_text.specs.Replies.{reply_line}
 use Rattle.liq_batch.specs.declared.lines.LineFault.{LineFault}

@@ -3,8 +3,8 @@ use Rattle.std.proofs.Common.{◌≡◌, ℕ, suc, List, [], ◌∷◌, ◌++◌
 use Rattle.std.proofs.lemmas.List.{length-map, map-append}
 use Rattle.liq_types.specs.declared.requests.Request.{Request}
 use Rattle.liq_types.specs.State.{State}
-use Rattle.liq_rules.specs.Step.{run, step}
-use Rattle.liq_rules.proofs.Runs.{run_state, run_replies}
+use Rattle.liq_rule_step.specs.Step.{run, step}
+use Rattle.liq_rule_step.proofs.Runs.{run_state, run_replies}
 use Rattle.liq_market.specs.Touching.{touched_after}
 use Rattle.liq_batch.specs.Batch.{asking, doing, previewing, touched_after_all}
 use Rattle.liq_batch.specs.Numbering.{numbered, numbered_all, numbering}

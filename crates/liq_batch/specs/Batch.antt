@@ -10,9 +10,9 @@ use Rattle.liq_types.specs.declared.requests.Request.{Request}
 use Rattle.liq_types.specs.declared.requests.Request.TheVariants.{Do, Ask}
 use Rattle.liq_types.specs.State.{State}
 use Rattle.liq_core.specs.Core.{StandsFor}
-use Rattle.liq_rules.specs.Step.{run, step}
-use Rattle.liq_rules.specs.Lists.{PlansList}
-use Rattle.liq_rules.specs.Memory.{TakesMemory}
+use Rattle.liq_rule_step.specs.Step.{run, step}
+use Rattle.liq_rule_step.specs.Lists.{PlansList}
+use Rattle.liq_rule_step.specs.Memory.{TakesMemory}
 use Rattle.liq_wire.specs.Fields.{command_of}
 use Rattle.liq_replies96.specs.declared.reply.Reply96.{Reply96}
 use Rattle.liq_replies96.specs.Replies.{reply96, bad96, no_memory96}

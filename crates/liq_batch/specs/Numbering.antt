@@ -4,8 +4,8 @@ use Rattle.liq_types.specs.declared.replies.Reply.{Reply}
 use Rattle.liq_types.specs.declared.requests.Request.{Request}
 use Rattle.liq_types.specs.declared.requests.Request.TheVariants.{Do, Ask}
 use Rattle.liq_types.specs.State.{State}
-use Rattle.liq_rules.specs.Step.{step, run, next_number}
-use Rattle.liq_rules.specs.Memory.{TakesMemory}
+use Rattle.liq_rule_step.specs.Step.{step, run, next_number}
+use Rattle.liq_rule_step.specs.Memory.{TakesMemory}
 use Rattle.liq_replies96.specs.declared.reply.Reply96.{Reply96}
 use Rattle.liq_market.specs.Content.{Content}
 use Rattle.liq_batch.specs.declared.batch.Batch.{Batch}

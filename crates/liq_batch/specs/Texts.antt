@@ -5,9 +5,9 @@ use Rattle.std.specs.List.{AllZip, flat_map}
 use Rattle.liq_types.specs.declared.requests.Request.{Request}
 use Rattle.liq_types.specs.State.{State}
 use Rattle.liq_core.specs.Core.{StandsFor}
-use Rattle.liq_rules.specs.Step.{step, run}
-use Rattle.liq_rules.specs.Memory.{TakesMemory}
-use Rattle.liq_lines.specs.Lines.{ended, IsWithinLine}
+use Rattle.liq_rule_step.specs.Step.{step, run}
+use Rattle.liq_rule_step.specs.Memory.{TakesMemory}
+use Rattle.liq_text_lines.specs.Lines.{ended, IsWithinLine}
 use Rattle.liq_text.specs.Spelling.{Spells}
 use Rattle.liq_text.specs.Replies.{reply_line}
 use Rattle.liq_market.specs.Content.{Content}

@@ -6,9 +6,9 @@ ghost use Rattle.liq_types.specs.State.{State};
 ghost use Rattle.liq_core.specs.Core.{StandsFor};
 ghost use Rattle.liq_batch.specs.Texts.{AnsweredText, AnswersLine};
 
-use liq_lines::{LINE_END, line_end_in};
 use liq_market::Market;
 use liq_text::{read_line, write_reply};
+use liq_text_lines::{LINE_END, line_end_in};
 use liq_types::NoMemory;
 use liq_types::amounts::REPLY_BYTES;
 use std::alloc::Global;

@@ -7,10 +7,10 @@ use Rattle.liq_types.specs.declared.events.ListChange.{ListChange}
 use Rattle.liq_types.specs.Ranked.{IsAscending}
 use Rattle.liq_types.specs.State.{State}
 use Rattle.liq_types.specs.Views.{View, all_followed}
-use Rattle.liq_changes.proofs.Following.{view_again, view_ascends}
-use Rattle.liq_rules.specs.History.{Entry, state_after}
-use Rattle.liq_rules.specs.View.{view_of, view_after}
-use Rattle.liq_version.specs.Versions.{Numbered, empty_version}
+use Rattle.liq_list_changes.proofs.Following.{view_again, view_ascends}
+use Rattle.liq_rule_step.specs.History.{Entry, state_after}
+use Rattle.liq_rule_step.specs.View.{view_of, view_after}
+use Rattle.liq_list_version.specs.Versions.{Numbered, empty_version}
 use Rattle.liq_views.specs.Batches.{Given, version_after, with_batch, last_from}
 use Rattle.liq_book.specs.Opened.{IsVersionOf}
 use Rattle.liq_book.specs.Publishing.{AreViews}

@@ -16,13 +16,13 @@ use Rattle.liq_types.specs.declared.requests.Request.{Request}
 use Rattle.liq_types.specs.declared.requests.Request.TheVariants.{Ask, Do}
 use Rattle.liq_types.specs.State.{State}
 use Rattle.liq_core.specs.Core.{StandsFor}
-use Rattle.liq_rules.specs.History as history
-use Rattle.liq_rules.specs.History.{own_entries, requests_of, state_after}
-use Rattle.liq_rules.proofs.Histories.{legal-empty, legal-snoc, state-snoc}
-use Rattle.liq_pairs.specs.Past.{AtCommand}
-use Rattle.liq_pairs.proofs.Keeping.{settled_kept}
+use Rattle.liq_rule_step.specs.History as history
+use Rattle.liq_rule_step.specs.History.{own_entries, requests_of, state_after}
+use Rattle.liq_rule_step.proofs.Histories.{legal-empty, legal-snoc, state-snoc}
+use Rattle.liq_disk_pair.specs.Past.{AtCommand}
+use Rattle.liq_disk_pair.proofs.Keeping.{settled_kept}
 use Rattle.liq_store.specs.Keeping.{IsInOrder, IsInOrderWith}
-use Rattle.liq_rules.specs.Memory.{IsAccepted}
+use Rattle.liq_rule_step.specs.Memory.{IsAccepted}
 use Rattle.liq_store.specs.Stored.{Stored}
 use Rattle.liq_store.proofs.Past.{goes_on, stops, stops_kept, waits}
 use Rattle.liq_types.specs.declared.entries.Entry.{Entry}
@@ -31,7 +31,7 @@ use Rattle.liq_book.specs.declared.items.Halt.{Halt}
 use Rattle.liq_book.specs.declared.items.TheConstants.{ENTRIES_MOST}
 use Rattle.liq_book.specs.Booked.{IsBook, KeepsDisks}
 use Rattle.liq_book.specs.Entered.{Enters, IsTestedFirst}
-use Rattle.liq_rules.specs.Recorded.{recorded}
+use Rattle.liq_rule_step.specs.Recorded.{recorded}
 use Rattle.liq_book.specs.Origin.{GoesOnFrom, IsAtOrigin}
 use Rattle.liq_book.specs.Past.{KeepsPast, since_origin}
 use Rattle.liq_book.proofs.Pasts.{begins_past, forgets_past, requests_more}

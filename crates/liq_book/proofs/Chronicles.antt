@@ -5,15 +5,15 @@ use Rattle.std.proofs.lemmas.List.{append-nil}
 use Rattle.std.proofs.lemmas.List.Elements.{filter-append}
 use Rattle.std.proofs.lemmas.Bool.Decides.{nat_tests}
 use Rattle.liq_types.specs.declared.requests.Request.{Request}
-use Rattle.liq_rules.specs.History as history
-use Rattle.liq_rules.specs.History.{own_entries}
+use Rattle.liq_rule_step.specs.History as history
+use Rattle.liq_rule_step.specs.History.{own_entries}
 use Rattle.liq_lock.specs.History.{Behind, NoneOf}
 use Rattle.liq_lock.proofs.Histories.{one_in}
 use Rattle.liq_types.specs.declared.entries.Entry.{Entry}
 use Rattle.liq_book.specs.declared.items.Halt.{Halt}
 use Rattle.liq_book.specs.declared.items.Item.{Item}
 use Rattle.liq_book.specs.declared.items.Item.TheVariants as item
-use Rattle.liq_rules.specs.Recorded.{recorded}
+use Rattle.liq_rule_step.specs.Recorded.{recorded}
 use Rattle.liq_book.specs.Items.{chronicle, entries_of, faulted_in, or_else, session_of}
 
 pub entries_of-append : (xs ys : List Item) → entries_of (xs ++ ys) ≡ entries_of xs ++ entries_of ys

@@ -8,8 +8,8 @@ use Rattle.liq_types.specs.declared.replies.Answer.TheVariants as answer
 use Rattle.liq_types.specs.declared.replies.Reply.{Reply}
 use Rattle.liq_types.specs.declared.requests.Request.{Request}
 use Rattle.liq_types.specs.State.{State}
-use Rattle.liq_rules.specs.History as history
-use Rattle.liq_rules.specs.History.{own_entries}
+use Rattle.liq_rule_step.specs.History as history
+use Rattle.liq_rule_step.specs.History.{own_entries}
 use Rattle.liq_lock.specs.History.{Behind, GoesOn, NoneOf}
 use Rattle.liq_lock.proofs.Histories.{in_one, nothing_in_nil}
 use Rattle.liq_types.specs.declared.entries.Entry.{Entry}
@@ -19,7 +19,7 @@ use Rattle.liq_book.specs.declared.items.Item.TheVariants as item
 use Rattle.liq_book.specs.Answered.{Answered, IsLimited}
 use Rattle.liq_book.specs.Booked.{Booked}
 use Rattle.liq_book.specs.Entered.{Enters, IsTestedFirst}
-use Rattle.liq_rules.specs.Recorded.{recorded}
+use Rattle.liq_rule_step.specs.Recorded.{recorded}
 use Rattle.liq_book.specs.Items.{calls_of, chronicle, entries_of, faulted_in, session_of}
 use Rattle.liq_book.proofs.Chronicles.{entries_of-append, entries_of-chronicle, faulted_behind, faulted_in-append, faulted_on, own_behind, own_entries-append, own_on, same_session}
 

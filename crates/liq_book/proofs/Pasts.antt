@@ -9,13 +9,13 @@ use Rattle.liq_types.specs.declared.events.ListChange.{ListChange}
 use Rattle.liq_types.specs.declared.requests.Request.{Request}
 use Rattle.liq_types.specs.State.{State}
 use Rattle.liq_core.specs.Core.{StandsFor}
-use Rattle.liq_rules.specs.History as history
-use Rattle.liq_rules.specs.History.{requests_of}
-use Rattle.liq_rules.specs.Recorded.{recorded}
-use Rattle.liq_pairs.specs.declared.side.Side.{Side}
-use Rattle.liq_pairs.specs.declared.side.Side.TheVariants.{Left, Right}
-use Rattle.liq_pairs.specs.Past.{NoFault}
-use Rattle.liq_pairs.specs.Sides.{on}
+use Rattle.liq_rule_step.specs.History as history
+use Rattle.liq_rule_step.specs.History.{requests_of}
+use Rattle.liq_rule_step.specs.Recorded.{recorded}
+use Rattle.liq_disk_pair.specs.declared.side.Side.{Side}
+use Rattle.liq_disk_pair.specs.declared.side.Side.TheVariants.{Left, Right}
+use Rattle.liq_disk_pair.specs.Past.{NoFault}
+use Rattle.liq_disk_pair.specs.Sides.{on}
 use Rattle.liq_store.specs.Keeping.{IsInOrder, IsInOrderWith}
 use Rattle.liq_store.specs.Stored.{Stored}
 use Rattle.liq_store.proofs.Past.{begins_at}

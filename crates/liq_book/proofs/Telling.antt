@@ -17,15 +17,15 @@ use Rattle.liq_types.specs.State.{State, opening}
 use Rattle.liq_types.specs.WellFormed.{IsWellFormed, TablesAscend}
 use Rattle.liq_stability.specs.Position.{deposit_row}
 use Rattle.liq_troves.specs.StakeSums.{trove_row}
-use Rattle.liq_rules.specs.History as history
-use Rattle.liq_rules.specs.History.{state_after}
-use Rattle.liq_rules.specs.Image.{image}
-use Rattle.liq_rules.specs.Recorded.{recorded}
-use Rattle.liq_rules.specs.Rules.{call_changes}
-use Rattle.liq_rules.specs.Step.{Ruling, Refused, Repeated, Allowed, after_ruling, ruling, step}
-use Rattle.liq_rules.specs.View.{all_followed, view_of}
-use Rattle.liq_rules.proofs.Following.{after_follows}
-use Rattle.liq_rules.proofs.Histories.{state-snoc}
+use Rattle.liq_rule_step.specs.History as history
+use Rattle.liq_rule_step.specs.History.{state_after}
+use Rattle.liq_rule_step.specs.Image.{image}
+use Rattle.liq_rule_step.specs.Recorded.{recorded}
+use Rattle.liq_rule_step.specs.Rules.{call_changes}
+use Rattle.liq_rule_step.specs.Step.{Ruling, Refused, Repeated, Allowed, after_ruling, ruling, step}
+use Rattle.liq_rule_step.specs.View.{all_followed, view_of}
+use Rattle.liq_rule_step.proofs.Following.{after_follows}
+use Rattle.liq_rule_step.proofs.Histories.{state-snoc}
 use Rattle.liq_core.specs.Core.{Core, StandsFor}
 use Rattle.liq_store.specs.Stored.{Stored}
 use Rattle.liq_store.specs.Telling.{told, told_by, told_of}

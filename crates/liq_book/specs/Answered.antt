@@ -4,8 +4,8 @@ use Rattle.liq_types.specs.declared.replies.Answer.{Answer}
 use Rattle.liq_types.specs.declared.replies.Answer.TheVariants as answer
 use Rattle.liq_types.specs.declared.requests.Request.{Request}
 use Rattle.liq_types.specs.State.{State}
-use Rattle.liq_rules.specs.History.{state_after}
-use Rattle.liq_rules.specs.Step.{step}
+use Rattle.liq_rule_step.specs.History.{state_after}
+use Rattle.liq_rule_step.specs.Step.{step}
 use Rattle.liq_lock.specs.History.{Behind, NoneOf}
 use Rattle.liq_book.specs.declared.items.Halt.{Halt}
 use Rattle.liq_book.specs.declared.items.Item.{Item}

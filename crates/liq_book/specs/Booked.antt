@@ -5,16 +5,16 @@ use Rattle.liq_outside.specs.At.{DiskAt}
 use Rattle.liq_outside.specs.Disk.{LeftNow}
 use Rattle.liq_types.specs.State.{State}
 use Rattle.liq_core.specs.Core.{StandsFor}
-use Rattle.liq_rules.specs.History.{IsLegal, requests_of, state_after}
-use Rattle.liq_rules.specs.Memory.{IsAccepted}
-use Rattle.liq_pairs.specs.Kept.{IsKept}
+use Rattle.liq_rule_step.specs.History.{IsLegal, requests_of, state_after}
+use Rattle.liq_rule_step.specs.Memory.{IsAccepted}
+use Rattle.liq_disk_pair.specs.Kept.{IsKept}
 use Rattle.liq_store.specs.Causes.{Faults, OneRose}
 use Rattle.liq_store.specs.Keeping.{IsKeptAround}
 use Rattle.liq_store.specs.Stored.{Stored}
 use Rattle.liq_types.specs.declared.entries.Entry.{Entry}
 use Rattle.liq_book.specs.declared.items.Halt.{Halt}
 use Rattle.liq_book.specs.declared.items.TheConstants.{ENTRIES_MOST}
-use Rattle.liq_rules.specs.Recorded.{recorded}
+use Rattle.liq_rule_step.specs.Recorded.{recorded}
 use Rattle.liq_book.specs.Origin.{GoesOnFrom, faults_at}
 use Rattle.liq_book.specs.Past.{KeepsPast}
 

@@ -5,7 +5,7 @@ use Rattle.liq_types.specs.declared.replies.Answer.{Answer}
 use Rattle.liq_types.specs.declared.replies.Answer.TheVariants as answer
 use Rattle.liq_types.specs.declared.requests.Request.{Request}
 use Rattle.liq_types.specs.State.{State}
-use Rattle.liq_rules.specs.Step.{step}
+use Rattle.liq_rule_step.specs.Step.{step}
 use Rattle.liq_types.specs.declared.entries.Entry.{Entry}
 use Rattle.liq_book.specs.declared.items.TheConstants.{ENTRIES_MOST}
 use Rattle.liq_book.specs.Booked.{Booked, state_of_book}

@@ -5,9 +5,9 @@ use mathlib.Core.Option.{some}
 use lib.ListN.{get_elem?}
 use Rattle.liq_types.specs.declared.events.ListChange.{ListChange}
 use Rattle.liq_types.specs.State.{State}
-use Rattle.liq_rules.specs.History as history
-use Rattle.liq_rules.specs.View.{view_after}
-use Rattle.liq_version.specs.Versions.{Numbered}
+use Rattle.liq_rule_step.specs.History as history
+use Rattle.liq_rule_step.specs.View.{view_after}
+use Rattle.liq_list_version.specs.Versions.{Numbered}
 use Rattle.liq_views.specs.declared.publisher.Publisher.{Publisher}
 use Rattle.liq_views.specs.declared.rule.Sight.{Sight}
 use Rattle.liq_views.specs.declared.shelf.Shelf.{Shelf}

@@ -3,7 +3,7 @@ use Rattle.std.specs.Prelude.{ℕ, ◌≡◌, ◌≤◌, ◌↔◌, List, None, 
 use Rattle.liq_types.specs.State.{State, opening}
 use Rattle.liq_outside.specs.At.{DiskAt}
 use Rattle.liq_core.specs.Core.{StandsFor}
-use Rattle.liq_rules.specs.View.{all_followed, view_of}
+use Rattle.liq_rule_step.specs.View.{all_followed, view_of}
 use Rattle.liq_store.specs.Causes.{Faults}
 use Rattle.liq_store.specs.Stored.{Stored}
 

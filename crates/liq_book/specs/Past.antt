@@ -5,9 +5,9 @@ use Rattle.liq_types.specs.declared.requests.Request.{Request}
 use Rattle.liq_types.specs.declared.requests.Request.TheVariants.{Do}
 use Rattle.liq_types.specs.State.{State}
 use Rattle.liq_outside.specs.At.{DiskAt}
-use Rattle.liq_pairs.specs.declared.side.Side.{Side}
-use Rattle.liq_pairs.specs.Past.{AtCommand, Fault, LeavesPast, NoFault}
-use Rattle.liq_pairs.specs.Sides.{on}
+use Rattle.liq_disk_pair.specs.declared.side.Side.{Side}
+use Rattle.liq_disk_pair.specs.Past.{AtCommand, Fault, LeavesPast, NoFault}
+use Rattle.liq_disk_pair.specs.Sides.{on}
 use Rattle.liq_store.specs.Leaving.{RestAtEnd}
 use Rattle.liq_store.specs.Past.{Past}
 use Rattle.liq_store.specs.Stored.{Stored}

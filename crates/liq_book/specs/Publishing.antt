@@ -8,9 +8,9 @@ use Rattle.liq_types.specs.declared.entries.Entry.{Entry}
 use Rattle.liq_types.specs.declared.replies.Answer.{Answer}
 use Rattle.liq_types.specs.declared.replies.Answer.TheVariants as answer
 use Rattle.liq_types.specs.declared.replies.Reply.TheVariants as reply
-use Rattle.liq_rules.specs.History as history
-use Rattle.liq_rules.specs.Recorded.{recorded}
-use Rattle.liq_rules.specs.View.{all_followed, list_kinds, view_of, view_after}
+use Rattle.liq_rule_step.specs.History as history
+use Rattle.liq_rule_step.specs.Recorded.{recorded}
+use Rattle.liq_rule_step.specs.View.{all_followed, list_kinds, view_of, view_after}
 use Rattle.liq_views.specs.Batches.{Given, version_after}
 use Rattle.liq_store.specs.Stored.{Stored}
 use Rattle.liq_book.specs.declared.items.Halt.{Halt}

@@ -3,8 +3,8 @@
 
 ghost use Rattle.std.specs.Prelude.{◌≡◌, ◌≤◌, ◌⊎◌, IfOk, map, length, [], ◌∷◌, None};
 ghost use Rattle.std.specs.Option.{option_map};
-ghost use Rattle.liq_rules.specs.History.{IsLegal, own_entries};
-ghost use Rattle.liq_rules.specs.Recorded.{recorded};
+ghost use Rattle.liq_rule_step.specs.History.{IsLegal, own_entries};
+ghost use Rattle.liq_rule_step.specs.Recorded.{recorded};
 ghost use Rattle.liq_store.specs.Keeping.{IsInOrder};
 ghost use Rattle.liq_views.specs.Publishers.{published, waiting};
 ghost use Rattle.liq_book.specs.Items.{chronicle};

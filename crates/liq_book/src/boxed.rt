@@ -1,8 +1,8 @@
 //! A book behind one pointer, so that a turn at the lock moves 8 bytes and not the book.
 
 ghost use Rattle.std.specs.Prelude.{◌≡◌, ◌≤◌, IfErr, IfOk, length, map};
-ghost use Rattle.liq_rules.specs.History.{IsLegal, own_entries};
-ghost use Rattle.liq_rules.specs.Recorded.{recorded};
+ghost use Rattle.liq_rule_step.specs.History.{IsLegal, own_entries};
+ghost use Rattle.liq_rule_step.specs.Recorded.{recorded};
 ghost use Rattle.liq_book.specs.Booked.{IsBook};
 ghost use Rattle.liq_book.specs.Closing.{booked_by};
 ghost use Rattle.liq_book.specs.Entered.{Enters, IsTestedFirst};

@@ -3,7 +3,7 @@
 
 ghost use Rattle.std.specs.Prelude.{◌≡◌, ◌⊎◌, [], map};
 ghost use Rattle.liq_types.specs.State.{State};
-ghost use Rattle.liq_rules.specs.Recorded.{recorded};
+ghost use Rattle.liq_rule_step.specs.Recorded.{recorded};
 ghost use Rattle.liq_views.specs.declared.rule.Sight.{Sight};
 ghost use Rattle.liq_views.specs.declared.shelf.Shelf.{Shelf};
 ghost use Rattle.liq_views.specs.Batches.{version_after};

@@ -1,6 +1,6 @@
 //! A session's seat at a service, which has seen a beginning of the chronicle.
 ghost use Rattle.std.specs.Prelude.{◌≡◌, [], ◌∷◌, length};
-ghost use Rattle.liq_rules.specs.History.{own_entries};
+ghost use Rattle.liq_rule_step.specs.History.{own_entries};
 ghost use Rattle.liq_lock.specs.Seats.{number_of, stands_of, seen_of, shares_of};
 ghost use Rattle.liq_book.specs.Items.{entries_of};
 

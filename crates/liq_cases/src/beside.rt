@@ -5,7 +5,7 @@
 use crate::devices::{Devices, through};
 use crate::endings::check_endings;
 use crate::waiting::{Holds, Versions, Waiting};
-use liq_casefiles::{Told, put_words};
+use liq_case_files::{Told, put_words};
 use liq_outside::MemorySink;
 use liq_serve::without_words;
 use liq_sessions::Gate;

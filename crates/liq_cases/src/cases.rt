@@ -3,7 +3,7 @@
 use crate::disks::Disks;
 use crate::performing::perform;
 use crate::stage::Stage;
-use liq_casefiles::{
+use liq_case_files::{
     Block, Misread, Run, Told, counted, is_change, number, put_words, set, side_of,
 };
 use std::alloc::{AllocError, Global};

@@ -2,12 +2,12 @@
 
 ghost use Rattle.std.specs.Prelude.{◌≡◌, IsTrue, codes, map};
 ghost use Rattle.std.specs.String.{string_bytes};
-ghost use Rattle.liq_words.specs.declared.words.Word.{Word};
-ghost use Rattle.liq_words.specs.Words.{Ask};
+ghost use Rattle.liq_word_line.specs.declared.words.Word.{Word};
+ghost use Rattle.liq_word_line.specs.Words.{Ask};
 
 use crate::disks::crash;
 use crate::sink::SmallSink;
-use liq_casefiles::{ALL, READ, Side, Start};
+use liq_case_files::{ALL, READ, Side, Start};
 use liq_outside::{MemoryDisk, MemorySource};
 use liq_serve::{Ended, OpenGate, protocol, without_threads};
 use liq_sessions::Gate;

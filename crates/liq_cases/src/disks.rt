@@ -1,7 +1,7 @@
 //! The disks between two runs, and what is done to them there.
 
 use crate::devices::Outcome;
-use liq_casefiles::{Misread, Side, Start, changed, number};
+use liq_case_files::{Misread, Side, Start, changed, number};
 use liq_outside::MemoryDisk;
 use std::alloc::{AllocError, Global};
 use std::mem;

@@ -5,7 +5,7 @@
 ghost use Rattle.std.specs.Prelude.{None};
 
 use crate::sink::SmallSink;
-use liq_casefiles::{Told, put_words};
+use liq_case_files::{Told, put_words};
 use liq_outside::{Failed, MemoryDisk, Source};
 use liq_serve::{Ended, OpenGate, protocol};
 use std::alloc::{AllocError, Global};

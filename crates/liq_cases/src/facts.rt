@@ -1,7 +1,7 @@
 //! Facts of what a run leaves, tested.
 
 use crate::devices::Outcome;
-use liq_casefiles::{At, Held, Run, Says, Start, Told};
+use liq_case_files::{At, Held, Run, Says, Start, Told};
 
 /// Tells each fact of a run that does not hold, and counts those that it tests.
 pub fn check_facts(told: &mut Told, run: &Run, start: &Start, outcome: &Outcome) {

@@ -3,7 +3,7 @@
 use crate::devices::Devices;
 use crate::runs::run_by_both;
 use crate::stage::Stage;
-use liq_casefiles::{At, Forged, Misread, Side, Told, forge};
+use liq_case_files::{At, Forged, Misread, Side, Told, forge};
 use std::alloc::AllocError;
 use std::sync::Wait;
 use std::thread::Threads;

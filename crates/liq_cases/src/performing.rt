@@ -9,7 +9,7 @@ use crate::sessions::check_served;
 use crate::stage::Stage;
 use crate::stops::sweep_stops;
 use crate::sweeps::{sweep_cuts, sweep_disk, sweep_sink, sweep_source};
-use liq_casefiles::{Asked, At, Lines, Told};
+use liq_case_files::{Asked, At, Lines, Told};
 use std::alloc::AllocError;
 use std::sync::Wait;
 use std::thread::Threads;

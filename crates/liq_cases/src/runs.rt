@@ -1,7 +1,7 @@
 //! A run by both calls.
 
 use crate::devices::{Devices, Outcome, are_serve, by_one_thread, by_protocol};
-use liq_casefiles::{Side, Told, put_words};
+use liq_case_files::{Side, Told, put_words};
 use liq_outside::Disk;
 use std::alloc::{AllocError, Global};
 use std::sync::Wait;

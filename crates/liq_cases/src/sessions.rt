@@ -3,7 +3,7 @@
 use crate::devices::{Devices, Outcome};
 use crate::runs::run_word;
 use crate::stage::Stage;
-use liq_casefiles::{Lines, Side, Told, ends_line};
+use liq_case_files::{Lines, Side, Told, ends_line};
 use liq_text::read_number;
 use std::alloc::{AllocError, Global};
 use std::sync::Wait;

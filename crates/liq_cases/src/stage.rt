@@ -1,7 +1,7 @@
 //! A run that is to be made, and what it meets.
 
 use crate::devices::Devices;
-use liq_casefiles::{ALL, READ, Run, Start};
+use liq_case_files::{ALL, READ, Run, Start};
 use std::alloc::Global;
 
 /// A run that is to be made, and what the disks hold where it begins.

@@ -6,7 +6,7 @@ use crate::performing::check;
 use crate::runs::run_by_both;
 use crate::stage::Stage;
 use crate::sweeps::{CRASHES, DISK_FAULT, check_replies};
-use liq_casefiles::{At, Lines, Start, Stop, Told, put_words};
+use liq_case_files::{At, Lines, Start, Stop, Told, put_words};
 use liq_outside::Disk;
 use std::alloc::{AllocError, Global};
 use std::sync::Wait;

@@ -4,7 +4,7 @@ use crate::devices::{Devices, Outcome, are_serve};
 use crate::performing::{check, make_once};
 use crate::runs::{run_by_both, run_word};
 use crate::stage::Stage;
-use liq_casefiles::{At, Side, Told};
+use liq_case_files::{At, Side, Told};
 use std::alloc::AllocError;
 use std::sync::Wait;
 use std::thread::Threads;

@@ -18,7 +18,7 @@ use Rattle.liq_types.specs.declared.figures.Deposit.{Deposit}
 use Rattle.liq_types.specs.declared.image.Image.{Image}
 use Rattle.liq_checkpoint.specs.declared.image_bytes.ImageBytes.{ImageBytes}
 use Rattle.liq_types.specs.Image.{IsLimit}
-use Rattle.liq_layout.specs.Keys.{follows, epoch_follows, place_follows}
+use Rattle.liq_disk_layout.specs.Keys.{follows, epoch_follows, place_follows}
 use Rattle.liq_types.specs.Product.{place_order}
 use Rattle.liq_types.specs.Soundness.{IsClientRow, HasTables}
 use Rattle.liq_types.specs.State.{is_used_wallet}

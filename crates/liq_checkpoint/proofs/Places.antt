@@ -2,7 +2,7 @@
 use Rattle.std.proofs.Common.{◌≡◌, ℕ, zero, suc, ◌-◌, ◌≤◌, ◌==◌, ◌&&◌, List, [], ◌∷◌, length, take, drop, not, nat_lt, Option, Some, None, Bool, true, false, Result, Ok, Err, ap, subst, arith, if◌then◌else◌}
 use Rattle.std.specs.Str.{bytes_eq}
 use Rattle.liq_types.specs.declared.image.Image.{Image}
-use Rattle.liq_layout.specs.Keys.{follows}
+use Rattle.liq_disk_layout.specs.Keys.{follows}
 use Rattle.liq_checkpoint.specs.declared.image_bytes.ImageBytes.{ImageBytes}
 use Rattle.liq_checkpoint.specs.declared.image_bytes.ImageBytes.TheVariants.{Bad}
 use Rattle.liq_checkpoint.specs.Spelling.{name}

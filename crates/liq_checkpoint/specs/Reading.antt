@@ -15,7 +15,7 @@ use Rattle.liq_types.specs.declared.figures.Deposit.{Deposit}
 use Rattle.liq_types.specs.declared.image.Image.{Image}
 use Rattle.liq_types.specs.Image.{opening_image_with}
 use Rattle.liq_types.specs.Tables.{Place}
-use Rattle.liq_layout.specs.Keys.{follows, epoch_follows, place_follows}
+use Rattle.liq_disk_layout.specs.Keys.{follows, epoch_follows, place_follows}
 use Rattle.liq_checkpoint.specs.declared.decoding.Words.{Words}
 use Rattle.liq_checkpoint.specs.declared.image_bytes.ImageBytes.{ImageBytes}
 use Rattle.liq_checkpoint.specs.declared.image_bytes.ImageBytes.TheVariants.{Bad, NoMemory}

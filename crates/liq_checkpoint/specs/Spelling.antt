@@ -11,7 +11,7 @@ use Rattle.liq_types.specs.declared.image.Image.{Image}
 use Rattle.liq_types.specs.Image.{IsLimit}
 use Rattle.liq_types.specs.Tables.{Place}
 use Rattle.liq_types.specs.Soundness.{HasTables}
-pub use Rattle.liq_layout.specs.Names.{name}
+pub use Rattle.liq_disk_layout.specs.Names.{name}
 
 -- ---- fields
 

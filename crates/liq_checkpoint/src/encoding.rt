@@ -11,7 +11,7 @@ use crate::numbers_out::{put_numbers, put_u128};
 use crate::tables_out::{
     put_clients, put_deposits, put_sums, put_surpluses, put_troves, put_wallets,
 };
-use liq_layout::name;
+use liq_disk_layout::name;
 use liq_types::amounts::CHECKPOINT_BYTES_MOST;
 use liq_types::{Image, NoMemory, RowCounts};
 use std::alloc::{AllocError, Global};

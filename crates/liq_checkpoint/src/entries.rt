@@ -6,7 +6,7 @@ ghost use Rattle.liq_checkpoint.specs.Reading.{Gives, key_at, some_at, wallet_at
 
 use crate::image_bytes::ImageBytes;
 use crate::numbers::{bad, numbers_at, u8_at, u32_at, u64_at, u128_at};
-use liq_layout::{epoch_follows, follows, place_follows, place_of_empty_wallet};
+use liq_disk_layout::{epoch_follows, follows, place_follows, place_of_empty_wallet};
 use liq_types::{ClientRow, DepositRow, FinishedSum, SurplusRow, TroveRow, WalletRow};
 
 #[tactic(auto, unfolding(crate::specs::Reading::key_at))]

@@ -6,7 +6,7 @@
 //! ```
 //!
 //! No two images have the same bytes, and bytes that are no image are told by the place of the
-//! first fault. Whether an image is sound is not asked here: `liq_images` does.
+//! first fault. Whether an image is sound is not asked here: `liq_image_rules` does.
 #![tactic(auto)]
 
 mod decoding;

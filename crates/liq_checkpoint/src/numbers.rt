@@ -7,7 +7,7 @@ ghost use Rattle.liq_checkpoint.specs.Reading.{Gives, limit_at, number_at, numbe
 
 use crate::image_bytes::ImageBytes;
 use byteorder::{BigEndian, ByteOrder};
-use liq_layout::place_of;
+use liq_disk_layout::place_of;
 use liq_types::amounts::{LIM, LIM_OF_VERSION_1};
 
 // What begins here fits no checkpoint.

@@ -5,14 +5,14 @@ use Rattle.liq_types.specs.declared.replies.Refusal.{Refusal}
 use Rattle.liq_types.specs.declared.requests.Call.{Call}
 use Rattle.liq_types.specs.State.{State}
 use Rattle.liq_ledger.specs.Refusals.{ruled}
-use Rattle.liq_rules.specs.Lists.{rules_before_list}
-use Rattle.liq_rules.specs.Step.{accounts, in_range, rules}
+use Rattle.liq_rule_step.specs.Lists.{rules_before_list}
+use Rattle.liq_rule_step.specs.Step.{accounts, in_range, rules}
 use Rattle.liq_core.specs.declared.turns.Forecast.{Forecast}
 use Rattle.liq_core.specs.declared.turns.PlanFault.{PlanFault}
 use Rattle.liq_core.specs.declared.turns.PlanFault.TheVariants.{No, NoMemory}
 use Rattle.liq_core.specs.Turn.{Forecasts, ForecastsCall}
 use Rattle.liq_core.proofs.Reading.{allowed_so, refused_so}
-use Rattle.liq_rules.proofs.Ruled.{none_first_of, some_first}
+use Rattle.liq_rule_step.proofs.Ruled.{none_first_of, some_first}
 
 pub refused_range : (s : State) (call : Call) (refusal : Refusal) → Err refusal ≡ ruled (map in_range (accounts call))
     → ForecastsCall s call (Err (No refusal))

@@ -25,11 +25,11 @@ use Rattle.liq_troves.specs.Kept.{AreSoundRows}
 use Rattle.liq_order.specs.Listed.{AreDistinct, IsAbsent}
 use Rattle.liq_order.specs.Order.{ranks}
 use Rattle.liq_stability.specs.Kept.{IsSoundPool, IsSoundDeposit, is_sound_sum}
-use Rattle.liq_rules.proofs.AlikeReads.{sums_by}
-use Rattle.liq_rules.proofs.SoundRules.{Meets, meets, sound_at_home}
-use Rattle.liq_rules.specs.Identities.{IsAtHome}
-use Rattle.liq_soundness.proofs.SoundStart.{started_with}
-use Rattle.liq_soundness.proofs.SoundTests.{SoundFacts, sound_facts}
+use Rattle.liq_rule_step.proofs.AlikeReads.{sums_by}
+use Rattle.liq_rule_step.proofs.SoundRules.{Meets, meets, sound_at_home}
+use Rattle.liq_rule_step.specs.Identities.{IsAtHome}
+use Rattle.liq_rule_sound.proofs.SoundStart.{started_with}
+use Rattle.liq_rule_sound.proofs.SoundTests.{SoundFacts, sound_facts}
 use Rattle.liq_core.specs.Parts.{HasKey, words_by}
 
 -- ---- rows

@@ -15,16 +15,16 @@ use Rattle.liq_troves.specs.Rows.{key_by, set_row, stake_by, pending}
 use Rattle.liq_troves.specs.StakeSums.{coll_growth, debt_growth, entire_of, sums_words, trove_rows}
 use Rattle.liq_redemption.specs.declared.cut.Cut.{Cut}
 use Rattle.liq_redemption.specs.Redemption.{Visit, cuts, cut_of, cuts_in, stops_before, troves_after, visited, redeeming_terms, cut_entire, cut_down, closed_by, redeemed_by}
-use Rattle.liq_rules.specs.ListChanges.{stands}
-use Rattle.liq_rules.specs.Redemption.{cut_told}
-use Rattle.liq_soundness.specs.SoundState.{CutIsCovered}
-use Rattle.liq_rules.proofs.AlikeFollowed.{told, stands-image}
-use Rattle.liq_rules.proofs.Ascending.{Ordered, cut_entire-ascends}
-use Rattle.liq_rules.proofs.Following.{IsAway, accounts_of, all_cut_changes, cut_changes_entire, lifted-troves, troves-ascend}
+use Rattle.liq_rule_step.specs.ListChanges.{stands}
+use Rattle.liq_rule_step.specs.Redemption.{cut_told}
+use Rattle.liq_rule_sound.specs.SoundState.{CutIsCovered}
+use Rattle.liq_rule_step.proofs.AlikeFollowed.{told, stands-image}
+use Rattle.liq_rule_step.proofs.Ascending.{Ordered, cut_entire-ascends}
+use Rattle.liq_rule_step.proofs.Following.{IsAway, accounts_of, all_cut_changes, cut_changes_entire, lifted-troves, troves-ascend}
 use Rattle.liq_core.proofs.Reading.{set_told}
-use Rattle.liq_rules.proofs.Rows.{differ, at-without_same}
-use Rattle.liq_soundness.proofs.SoundFacts.{Finds, in_order}
-use Rattle.liq_soundness.proofs.SoundRedeem.{IsOther, AreVisits, visited_are, cuts_covered}
+use Rattle.liq_rule_step.proofs.Rows.{differ, at-without_same}
+use Rattle.liq_rule_sound.proofs.SoundFacts.{Finds, in_order}
+use Rattle.liq_rule_sound.proofs.SoundRedeem.{IsOther, AreVisits, visited_are, cuts_covered}
 
 -- ---- no trove is cut twice
 

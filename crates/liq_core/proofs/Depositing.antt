@@ -34,21 +34,21 @@ use Rattle.liq_stability.specs.Position.{balance_of, gain_of, deposit_row}
 use Rattle.liq_stability.specs.Words.{pool_words}
 use Rattle.liq_stability.proofs.Following.{position_follows, owned_follows}
 use Rattle.liq_core.specs.declared.engine.Protocol.TheInside.{Inside}
-use Rattle.liq_standing.specs.Books.{books_kept, SameOthers}
+use Rattle.liq_trove_moves.specs.Books.{books_kept, SameOthers}
 use Rattle.liq_core.specs.Core.{Core, Changes, state_of}
-use Rattle.liq_rules.specs.Image.{image}
-use Rattle.liq_rules.specs.Rules.{rules, effect}
+use Rattle.liq_rule_step.specs.Image.{image}
+use Rattle.liq_rule_step.specs.Rules.{rules, effect}
 use Rattle.liq_core.specs.Sound.{IsSound, core_of}
-use Rattle.liq_rules.proofs.AlikeReads.{none-map}
+use Rattle.liq_rule_step.proofs.AlikeReads.{none-map}
 use Rattle.liq_core.specs.Parts.{words_by}
 use Rattle.liq_core.proofs.Images.{with_pool}
 use Rattle.liq_core.proofs.Lending.{IsWithin, within, with_books, same_others, set_image, books_are, rows_are, there_row, pay_within, charged-ascends}
-use Rattle.liq_soundness.proofs.SoundBorrow.{gain_allows, gain_leaves, has_trove, told}
-use Rattle.liq_soundness.proofs.SoundBounds.{surplus_covered}
-use Rattle.liq_soundness.proofs.SoundCalls.{pool_and_wallet, provide_leaves, withdraw_leaves, claim_leaves}
+use Rattle.liq_rule_sound.proofs.SoundBorrow.{gain_allows, gain_leaves, has_trove, told}
+use Rattle.liq_rule_sound.proofs.SoundBounds.{surplus_covered}
+use Rattle.liq_rule_sound.proofs.SoundCalls.{pool_and_wallet, provide_leaves, withdraw_leaves, claim_leaves}
 use Rattle.liq_core.proofs.SoundCores.{core_finds, image_back, sound_after}
-use Rattle.liq_soundness.proofs.SoundFacts.{Finds, Leaves, finds_after}
-use Rattle.liq_soundness.proofs.SoundStart.{started_with}
+use Rattle.liq_rule_sound.proofs.SoundFacts.{Finds, Leaves, finds_after}
+use Rattle.liq_rule_sound.proofs.SoundStart.{started_with}
 use Rattle.liq_types.proofs.Tests.{all_false, not_zero}
 use Rattle.std.proofs.lemmas.Bool.{ltb-false}
 

@@ -23,9 +23,9 @@ use Rattle.liq_core.specs.declared.told.ListChanges.TheVariants as changes
 use Rattle.liq_core.specs.declared.told.PoolEvents.TheVariants as events
 use Rattle.liq_core.specs.declared.turns.Forecast.{Forecast}
 use Rattle.liq_core.specs.declared.turns.Terms.TheVariants as terms
-use Rattle.liq_rules.specs.Borrowing.{with_fee}
+use Rattle.liq_rule_step.specs.Borrowing.{with_fee}
 use Rattle.liq_core.specs.Plan.{IsForecast}
-use Rattle.liq_rules.specs.Rules.{rules}
+use Rattle.liq_rule_step.specs.Rules.{rules}
 use Rattle.liq_core.specs.Turn.{IsRuled}
 use Rattle.liq_core.proofs.Reading.{refused_so, allowed_so, placed_told, set_told}
 

@@ -21,7 +21,7 @@ use Rattle.liq_core.specs.declared.engine.Protocol.TheInside.{Inside}
 use Rattle.liq_core.specs.Core.{Core, StandsFor}
 use Rattle.liq_core.specs.Sound.{IsSound, core_of}
 use Rattle.liq_core.specs.Entries.{put_entry, told_whole}
-use Rattle.liq_rules.specs.View.{view_of}
+use Rattle.liq_rule_step.specs.View.{view_of}
 
 -- ---- going along
 

@@ -89,15 +89,6 @@ stands_in list k a is = by (key_in list a) refl where
 
 -- ---- all of them written
 
--- as many as there are places for
-pub laid_full : (numbers places : List ℕ) (n : ℕ) → n ≡ length places → n ≤ length numbers → paste places 0 numbers n
-    ≡ laid numbers places
-laid_full numbers places n all few =
-    let here = drop_of_length-le places {i = 0 + n} (omega (arith, all)) in
-    let there = drop_of_length-le places {i = length numbers} (omega (arith, all, few)) in
-    ap (λ (l : List ℕ). take n numbers ++ l) (here ∙ sym there)
-    ∙ ap (λ m. take m numbers ++ drop (length numbers) places) all
-
 -- all numbers are laid, where there are places for them
 pub laid_all : (numbers places : List ℕ) (n : ℕ) → n ≡ length numbers → n ≤ length places → paste places 0 numbers n
     ≡ laid numbers places

@@ -3,9 +3,9 @@ use Rattle.std.proofs.Common.{◌≡◌, ℕ, refl}
 use Rattle.liq_types.specs.declared.requests.Call.{Call}
 use Rattle.liq_types.specs.declared.requests.Call.TheVariants.{Open, Adjust, GainToTrove, Redeem}
 use Rattle.liq_types.specs.State.{State}
-use Rattle.liq_rules.specs.Rules.{call_events}
-use Rattle.liq_rules.specs.Step.{after, ruling}
-use Rattle.liq_rules.specs.Verbs.{unhinted_call}
+use Rattle.liq_rule_step.specs.Rules.{call_events}
+use Rattle.liq_rule_step.specs.Step.{after, ruling}
+use Rattle.liq_rule_step.specs.Verbs.{unhinted_call}
 
 pub ruling_same : (s : State) (client number : ℕ) (call : Call)
     → ruling s (record { client = client; number = number; call = unhinted_call call })

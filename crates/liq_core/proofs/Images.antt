@@ -9,9 +9,9 @@ use Rattle.liq_types.specs.State.{started}
 use Rattle.liq_types.specs.Tables.{Place, Table}
 use Rattle.liq_ledger.specs.declared.pools.Pools.{Pools}
 use Rattle.liq_troves.specs.declared.sums.Sums.{Sums}
-use Rattle.liq_standing.specs.Books.{pools_of}
+use Rattle.liq_trove_moves.specs.Books.{pools_of}
 use Rattle.liq_stability.specs.declared.words.PoolWords.{PoolWords}
-use Rattle.liq_rules.proofs.AlikeReads.{sums_by}
+use Rattle.liq_rule_step.proofs.AlikeReads.{sums_by}
 use Rattle.liq_core.specs.Parts.{words_by}
 
 abbrev pub pools_by : Image → Pools

@@ -6,11 +6,11 @@ use Rattle.liq_types.specs.declared.requests.Call.{Call}
 use Rattle.liq_types.specs.Codes.{value_count}
 use Rattle.liq_types.specs.Rules.{first_refusal}
 use Rattle.liq_types.specs.State.{State}
-use Rattle.liq_rules.specs.Rules.{rules, values, six, done_of}
+use Rattle.liq_rule_step.specs.Rules.{rules, values, six, done_of}
 use Rattle.liq_core.specs.Sound.{IsKeptRow}
-use Rattle.liq_rules.specs.Verbs.{kind}
-use Rattle.liq_rules.proofs.Counting.{values_count}
-use Rattle.liq_soundness.proofs.SoundStep.{kind_range}
+use Rattle.liq_rule_step.specs.Verbs.{kind}
+use Rattle.liq_rule_step.proofs.Counting.{values_count}
+use Rattle.liq_rule_sound.proofs.SoundStep.{kind_range}
 
 abbrev is_zero : List ℕ → Type 0
 is_zero xs = list_all (λ value. value == 0) xs ≡ true

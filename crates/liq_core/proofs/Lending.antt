@@ -37,16 +37,16 @@ use Rattle.liq_borrow.specs.declared.change.Plan.{Plan}
 use Rattle.liq_borrow.proofs.Allowed.{change_passes, close_passes as closing_passes}
 use Rattle.liq_borrow.specs.Borrowing.{opening_terms, adjusting_terms, adjust_rules, closing_terms, close_rules}
 use Rattle.liq_core.specs.declared.engine.Protocol.TheInside.{Inside}
-use Rattle.liq_standing.specs.Books.{books_kept, SameOthers}
-use Rattle.liq_rules.specs.Borrowing.{with_fee, opened, adjusted, closed}
+use Rattle.liq_trove_moves.specs.Books.{books_kept, SameOthers}
+use Rattle.liq_rule_step.specs.Borrowing.{with_fee, opened, adjusted, closed}
 use Rattle.liq_core.specs.Core.{Core, Changes, state_of}
-use Rattle.liq_rules.specs.Image.{image}
-use Rattle.liq_rules.specs.Rules.{rules, effect}
+use Rattle.liq_rule_step.specs.Image.{image}
+use Rattle.liq_rule_step.specs.Rules.{rules, effect}
 use Rattle.liq_core.specs.Sound.{IsSound, core_of}
-use Rattle.liq_rules.proofs.Moving.{read_or, wallet_here}
-use Rattle.liq_soundness.proofs.SoundBorrow.{open_allows, open_leaves, adjust_allows_own, adjust_leaves, close_leaves, has_trove, told}
+use Rattle.liq_rule_step.proofs.Moving.{read_or, wallet_here}
+use Rattle.liq_rule_sound.proofs.SoundBorrow.{open_allows, open_leaves, adjust_allows_own, adjust_leaves, close_leaves, has_trove, told}
 use Rattle.liq_core.proofs.SoundCores.{core_finds, image_back, sound_after}
-use Rattle.liq_soundness.proofs.SoundFacts.{Finds, Leaves, finds_after}
+use Rattle.liq_rule_sound.proofs.SoundFacts.{Finds, Leaves, finds_after}
 use Rattle.liq_core.proofs.Images.{with_sums}
 use Rattle.liq_core.proofs.Telling.{books_by}
 

@@ -39,28 +39,28 @@ use Rattle.liq_liquidation.specs.One.{liquidated, one, rewarded}
 use Rattle.liq_core.specs.declared.turns.Terms.{Terms}
 use Rattle.liq_core.specs.declared.engine.Protocol.TheInside.{Inside}
 use Rattle.liq_core.specs.Core.{Core, IsWithin, Room, StandsFor, state_of}
-use Rattle.liq_rules.specs.Image.{image}
-use Rattle.liq_rules.specs.Liquidation.{all_liquidated, listed}
+use Rattle.liq_rule_step.specs.Image.{image}
+use Rattle.liq_rule_step.specs.Liquidation.{all_liquidated, listed}
 use Rattle.liq_core.specs.Plan.{Plan, IsPlannedOn, IsSoundPlan, HasRoom, room_of_call}
-use Rattle.liq_rules.specs.Rules.{effect, done_of, rules}
+use Rattle.liq_rule_step.specs.Rules.{effect, done_of, rules}
 use Rattle.liq_core.specs.Sound.{IsSound, core_of}
-use Rattle.liq_soundness.specs.SoundState.{IsSoundState}
-use Rattle.liq_rules.specs.Step.{Allowed, after, ruling}
+use Rattle.liq_rule_sound.specs.SoundState.{IsSoundState}
+use Rattle.liq_rule_step.specs.Step.{Allowed, after, ruling}
 use Rattle.liq_core.specs.Terms.{AreTerms, victims_in}
-use Rattle.liq_rules.specs.Verbs.{accounts, rotates}
-use Rattle.liq_victims.specs.Victims.{AreKept, AreVictims}
-use Rattle.liq_rules.proofs.Allowed.{all-records, allowed_rules}
-use Rattle.liq_rules.proofs.Counting.{listed_count, lowest_count, lowest_within}
+use Rattle.liq_rule_step.specs.Verbs.{accounts, rotates}
+use Rattle.liq_core_lowest.specs.Victims.{AreKept, AreVictims}
+use Rattle.liq_rule_step.proofs.Allowed.{all-records, allowed_rules}
+use Rattle.liq_rule_step.proofs.Counting.{listed_count, lowest_count, lowest_within}
 use Rattle.liq_core.proofs.Images.{pools_by, with_pool, with_pools, with_sums}
 use Rattle.liq_core.proofs.Noting.{kept_rows, made_sound, made_stands}
 use Rattle.liq_core.proofs.Planning.{its_rows, its_sums, its_words}
 use Rattle.liq_core.proofs.Rooms.{among_owners}
 use Rattle.liq_core.proofs.SoundCores.{image_back, sound_stands}
-use Rattle.liq_soundness.proofs.SoundStart.{started_with}
-use Rattle.liq_soundness.proofs.SoundStep.{allowed_has, finds}
-use Rattle.liq_soundness.proofs.SoundTests.{sound_facts}
-use Rattle.liq_victims.proofs.ToldVictims.{lowest_victims}
-use Rattle.liq_standing.specs.Books.{pools_of}
+use Rattle.liq_rule_sound.proofs.SoundStart.{started_with}
+use Rattle.liq_rule_sound.proofs.SoundStep.{allowed_has, finds}
+use Rattle.liq_rule_sound.proofs.SoundTests.{sound_facts}
+use Rattle.liq_core_lowest.proofs.ToldVictims.{lowest_victims}
+use Rattle.liq_trove_moves.specs.Books.{pools_of}
 
 -- ---- what is liquidated
 

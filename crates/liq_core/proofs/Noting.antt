@@ -15,13 +15,13 @@ use Rattle.liq_tables.specs.WithRoom.{WithRoom, written}
 use Rattle.liq_core.specs.declared.engine.Protocol.TheInside.{Inside}
 use Rattle.liq_core.specs.Core.{Core, StandsFor, state_of}
 use Rattle.liq_core.specs.Sound.{IsSound, IsKeptRow, core_of}
-use Rattle.liq_rules.specs.Image.{image}
-use Rattle.liq_rules.specs.Step.{Allowed, after, noted, ruling}
-use Rattle.liq_rules.specs.Verbs.{rotates}
-use Rattle.liq_rules.proofs.SoundRules.{noted_sound}
-use Rattle.liq_soundness.specs.SoundState.{IsSoundState}
-use Rattle.liq_soundness.proofs.SoundStart.{started_with}
-use Rattle.liq_soundness.proofs.SoundStep.{after_sound}
+use Rattle.liq_rule_step.specs.Image.{image}
+use Rattle.liq_rule_step.specs.Step.{Allowed, after, noted, ruling}
+use Rattle.liq_rule_step.specs.Verbs.{rotates}
+use Rattle.liq_rule_step.proofs.SoundRules.{noted_sound}
+use Rattle.liq_rule_sound.specs.SoundState.{IsSoundState}
+use Rattle.liq_rule_sound.proofs.SoundStart.{started_with}
+use Rattle.liq_rule_sound.proofs.SoundStep.{after_sound}
 use Rattle.std.proofs.Common.{false}
 
 pub kept_rows : (table : Table Client) (key : ℕ) (row : Client) → 0 < row.last → written is_used_client table key row

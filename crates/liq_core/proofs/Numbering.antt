@@ -7,9 +7,9 @@ use Rattle.liq_types.specs.declared.replies.Refusal.TheVariants.{AccountRange, O
 use Rattle.liq_types.specs.declared.requests.Command.{Command}
 use Rattle.liq_types.specs.Rules.{first_refusal}
 use Rattle.liq_types.specs.State.{State, client_of}
-use Rattle.liq_turns.specs.Numbers.{kept_by}
-use Rattle.liq_rules.specs.Queries.{next_number}
-use Rattle.liq_rules.specs.Step.{Repeated, Allowed, accounts, in_range, is_repeated, room_rules, rules, ruling, tests, unless_refused}
+use Rattle.liq_core_limits.specs.Numbers.{kept_by}
+use Rattle.liq_rule_step.specs.Queries.{next_number}
+use Rattle.liq_rule_step.specs.Step.{Repeated, Allowed, accounts, in_range, is_repeated, room_rules, rules, ruling, tests, unless_refused}
 use Rattle.liq_core.specs.Turn.{IsKept}
 
 module _ (s : State) (c : Command) (within : c.client < ACCOUNTS) where

@@ -13,12 +13,12 @@ use Rattle.liq_tables.specs.WithRoom.{WithRoom}
 use Rattle.liq_ledger.specs.Refusals.{charging, ruled}
 use Rattle.liq_core.specs.declared.engine.Protocol.TheInside.{Inside}
 use Rattle.liq_core.specs.Core.{Core, Changes, state_of}
-use Rattle.liq_rules.specs.Image.{image}
-use Rattle.liq_rules.specs.Rules.{rules, effect}
+use Rattle.liq_rule_step.specs.Image.{image}
+use Rattle.liq_rule_step.specs.Rules.{rules, effect}
 use Rattle.liq_core.specs.Sound.{IsSound, core_of}
-use Rattle.liq_soundness.proofs.SoundCalls.{advance_leaves, fund_leaves, take_leaves, send_leaves}
+use Rattle.liq_rule_sound.proofs.SoundCalls.{advance_leaves, fund_leaves, take_leaves, send_leaves}
 use Rattle.liq_core.proofs.SoundCores.{core_finds, plain_image, sound_after}
-use Rattle.liq_soundness.proofs.SoundFacts.{Finds}
+use Rattle.liq_rule_sound.proofs.SoundFacts.{Finds}
 
 module _ (p : Inside) (old : Core) (view : core_of p ≡ old) (sound : IsSound p) where
   finds_old : Finds (state_of old)

@@ -29,26 +29,26 @@ use Rattle.liq_liquidation.proofs.Struck.{sound_from}
 use Rattle.liq_liquidation.proofs.Walking.{row_struck}
 use Rattle.liq_core.specs.declared.engine.Protocol.TheInside.{Inside}
 use Rattle.liq_core.specs.Core.{state_of}
-use Rattle.liq_rules.specs.Image.{image}
+use Rattle.liq_rule_step.specs.Image.{image}
 use Rattle.liq_core.specs.Sound.{IsSound, core_of}
-use Rattle.liq_victims.specs.declared.course.Course.{Course}
+use Rattle.liq_core_lowest.specs.declared.course.Course.{Course}
 use Rattle.liq_core.specs.declared.turns.Forecast.{Forecast}
-use Rattle.liq_rules.specs.Liquidation.{listed, lowest_values, offset_events, one_values, victim_changes}
-use Rattle.liq_rules.specs.Rules.{six}
+use Rattle.liq_rule_step.specs.Liquidation.{listed, lowest_values, offset_events, one_values, victim_changes}
+use Rattle.liq_rule_step.specs.Rules.{six}
 use Rattle.liq_core.specs.Terms.{victims_in}
 use Rattle.liq_core.specs.Told.{events_in, changes_in}
 use Rattle.liq_core.specs.Turn.{IsRuled}
-use Rattle.liq_soundness.specs.SoundState.{IsSoundState}
-use Rattle.liq_victims.specs.Lowest.{AreLowest}
-use Rattle.liq_victims.specs.Victims.{AreVictims, course_of}
-use Rattle.liq_rules.proofs.AlikeReads.{sums_by}
+use Rattle.liq_rule_sound.specs.SoundState.{IsSoundState}
+use Rattle.liq_core_lowest.specs.Lowest.{AreLowest}
+use Rattle.liq_core_lowest.specs.Victims.{AreVictims, course_of}
+use Rattle.liq_rule_step.proofs.AlikeReads.{sums_by}
 use Rattle.liq_core.specs.Parts.{words_by}
 use Rattle.liq_core.proofs.SoundCores.{core_finds, image_back}
-use Rattle.liq_rules.proofs.Counting.{lowest_count, lowest_within}
-use Rattle.liq_soundness.proofs.SoundFacts.{Finds}
-use Rattle.liq_soundness.proofs.SoundStep.{finds}
-use Rattle.liq_soundness.proofs.SoundTests.{sound_facts}
-use Rattle.liq_victims.proofs.ToldVictims.{lowest_victims, sums_within}
+use Rattle.liq_rule_step.proofs.Counting.{lowest_count, lowest_within}
+use Rattle.liq_rule_sound.proofs.SoundFacts.{Finds}
+use Rattle.liq_rule_sound.proofs.SoundStep.{finds}
+use Rattle.liq_rule_sound.proofs.SoundTests.{sound_facts}
+use Rattle.liq_core_lowest.proofs.ToldVictims.{lowest_victims, sums_within}
 
 -- ---- of a state
 

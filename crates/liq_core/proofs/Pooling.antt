@@ -29,16 +29,16 @@ use Rattle.liq_core.specs.declared.told.PoolEvents.TheVariants as events
 use Rattle.liq_core.specs.declared.turns.Terms.TheVariants as terms
 use Rattle.liq_core.specs.Core.{state_of}
 use Rattle.liq_core.specs.Plan.{IsForecast}
-use Rattle.liq_rules.specs.Pool.{trove_under}
-use Rattle.liq_rules.specs.Rules.{rules}
+use Rattle.liq_rule_step.specs.Pool.{trove_under}
+use Rattle.liq_rule_step.specs.Rules.{rules}
 use Rattle.liq_core.specs.Sound.{IsSound, core_of}
 use Rattle.liq_stability.proofs.Pool.{balance_within, gain_within}
 use Rattle.liq_core.proofs.Forecasting.{put_for}
 use Rattle.liq_core.proofs.Lending.{rows_are}
 use Rattle.liq_core.proofs.Reading.{set_told}
-use Rattle.liq_soundness.proofs.SoundBorrow.{has_trove}
-use Rattle.liq_soundness.proofs.SoundCalls.{pool_and_wallet}
-use Rattle.liq_soundness.proofs.SoundFacts.{Finds}
+use Rattle.liq_rule_sound.proofs.SoundBorrow.{has_trove}
+use Rattle.liq_rule_sound.proofs.SoundCalls.{pool_and_wallet}
+use Rattle.liq_rule_sound.proofs.SoundFacts.{Finds}
 
 -- ---- what is read
 

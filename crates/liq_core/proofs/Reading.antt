@@ -22,12 +22,12 @@ use Rattle.liq_troves.specs.Own.{lifted, lifted_entry, placed, stake_for}
 use Rattle.liq_troves.specs.Rows.{entire_in, key_by, set_row}
 use Rattle.liq_troves.specs.StakeSums.{entire_of, sums_words, trove_row}
 use Rattle.liq_core.specs.Core.{Core, state_of}
-use Rattle.liq_rules.specs.ListChanges.{standing, stands}
-use Rattle.liq_rules.proofs.AlikeReads.{sums_by, some-map}
-use Rattle.liq_rules.proofs.Moving.{read_or}
-use Rattle.liq_soundness.proofs.SoundBorrow.{has_trove}
+use Rattle.liq_rule_step.specs.ListChanges.{standing, stands}
+use Rattle.liq_rule_step.proofs.AlikeReads.{sums_by, some-map}
+use Rattle.liq_rule_step.proofs.Moving.{read_or}
+use Rattle.liq_rule_sound.proofs.SoundBorrow.{has_trove}
 use Rattle.liq_core.proofs.SoundCores.{image_back}
-use Rattle.liq_soundness.proofs.SoundFacts.{Finds}
+use Rattle.liq_rule_sound.proofs.SoundFacts.{Finds}
 
 -- ---- what is read
 

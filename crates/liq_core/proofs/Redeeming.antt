@@ -40,20 +40,20 @@ use Rattle.liq_redemption.specs.Redemption.{RedeemTerms, Visit, visited, visited
 use Rattle.liq_redemption.proofs.Following.{redeemed_follows, redeemed_pays}
 use Rattle.liq_order.proofs.Present.{order_has_each}
 use Rattle.liq_core.proofs.Images.{pools_by, with_pools, with_sums}
-use Rattle.liq_rules.proofs.AlikeReads.{sums_by}
+use Rattle.liq_rule_step.proofs.AlikeReads.{sums_by}
 use Rattle.liq_order.proofs.Ranking.{order_distinct}
 use Rattle.liq_core.specs.declared.engine.Protocol.TheInside.{Inside}
-use Rattle.liq_standing.specs.Books.{books_kept}
+use Rattle.liq_trove_moves.specs.Books.{books_kept}
 use Rattle.liq_core.specs.Core.{Core, Changes, state_of}
-use Rattle.liq_rules.specs.Image.{image}
-use Rattle.liq_rules.specs.Rules.{rules}
+use Rattle.liq_rule_step.specs.Image.{image}
+use Rattle.liq_rule_step.specs.Rules.{rules}
 use Rattle.liq_core.specs.Sound.{IsSound, core_of}
 use Rattle.liq_core.proofs.Lending.{books_stand, coll_held, debt_held}
-use Rattle.liq_rules.proofs.Moving.{read_or}
-use Rattle.liq_soundness.proofs.SoundBounds.{surplus_covered}
+use Rattle.liq_rule_step.proofs.Moving.{read_or}
+use Rattle.liq_rule_sound.proofs.SoundBounds.{surplus_covered}
 use Rattle.liq_core.proofs.SoundCores.{core_finds, image_back, sound_after}
-use Rattle.liq_soundness.proofs.SoundRedeem.{redeem_leaves}
-use Rattle.liq_soundness.proofs.SoundStart.{started_with}
+use Rattle.liq_rule_sound.proofs.SoundRedeem.{redeem_leaves}
+use Rattle.liq_rule_sound.proofs.SoundStart.{started_with}
 use Rattle.liq_order.proofs.Ranking.{left_order, more_list}
 use Rattle.liq_types.proofs.SameRows.{without-absent}
 

@@ -21,15 +21,15 @@ use Rattle.liq_types.specs.Soundness.{IsSoundImage}
 use Rattle.liq_types.specs.State.{State, is_used_client}
 use Rattle.liq_types.specs.Tables.{Table, put}
 use Rattle.liq_tables.specs.WithRoom.{WithRoom, written}
-use Rattle.liq_turns.specs.declared.generation.Generation.{Generation}
-use Rattle.liq_turns.specs.Generations.{next_generation}
-use Rattle.liq_rules.specs.Image.{image}
-use Rattle.liq_rules.specs.Rules.{effect, done_of}
-use Rattle.liq_rules.specs.Step.{Allowed, after, noted, room_rules, ruling}
-use Rattle.liq_rules.specs.Verbs.{rotates}
-use Rattle.liq_rules.proofs.Allowed.{allowed_number}
-use Rattle.liq_soundness.proofs.SoundStart.{started_with}
-use Rattle.liq_soundness.proofs.SoundStep.{after_sound}
+use Rattle.liq_core_limits.specs.declared.generation.Generation.{Generation}
+use Rattle.liq_core_limits.specs.Generations.{next_generation}
+use Rattle.liq_rule_step.specs.Image.{image}
+use Rattle.liq_rule_step.specs.Rules.{effect, done_of}
+use Rattle.liq_rule_step.specs.Step.{Allowed, after, noted, room_rules, ruling}
+use Rattle.liq_rule_step.specs.Verbs.{rotates}
+use Rattle.liq_rule_step.proofs.Allowed.{allowed_number}
+use Rattle.liq_rule_sound.proofs.SoundStart.{started_with}
+use Rattle.liq_rule_sound.proofs.SoundStep.{after_sound}
 use Rattle.liq_core.specs.declared.engine.Protocol.TheInside.{Inside}
 use Rattle.liq_core.specs.Core.{Core, StandsFor, current, state_of}
 use Rattle.liq_core.specs.Plan.{IsPlannedOn, Plan}

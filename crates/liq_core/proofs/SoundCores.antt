@@ -17,14 +17,14 @@ use Rattle.liq_types.specs.Tables.{Table, at}
 use Rattle.liq_order.specs.Order.{order_by}
 use Rattle.liq_core.specs.declared.engine.Protocol.TheInside.{Inside}
 use Rattle.liq_core.specs.Core.{Core, Changes, StandsFor, state_of}
-use Rattle.liq_rules.specs.Image.{image}
-use Rattle.liq_rules.specs.Rules.{effect}
+use Rattle.liq_rule_step.specs.Image.{image}
+use Rattle.liq_rule_step.specs.Rules.{effect}
 use Rattle.liq_core.specs.Sound.{IsSound, core_of}
-use Rattle.liq_rules.proofs.Moving.{read_or, charged_lusd}
-use Rattle.liq_soundness.proofs.SoundFacts.{Finds, Leaves, balanced_by, limit_most}
-use Rattle.liq_soundness.proofs.SoundStart.{started_with, finished_before}
-use Rattle.liq_soundness.proofs.SoundTests.{SoundFacts, sound_facts, facts_sound, stakes_added}
-use Rattle.liq_rules.proofs.Started.{started_image, started_formed}
+use Rattle.liq_rule_step.proofs.Moving.{read_or, charged_lusd}
+use Rattle.liq_rule_sound.proofs.SoundFacts.{Finds, Leaves, balanced_by, limit_most}
+use Rattle.liq_rule_sound.proofs.SoundStart.{started_with, finished_before}
+use Rattle.liq_rule_sound.proofs.SoundTests.{SoundFacts, sound_facts, facts_sound, stakes_added}
+use Rattle.liq_rule_step.proofs.Started.{started_image, started_formed}
 
 -- ---- the state that begins with a sound image
 

@@ -7,7 +7,7 @@ use Rattle.liq_types.specs.declared.requests.Call.{Call}
 use Rattle.liq_types.specs.declared.requests.Call.TheVariants.{Price, Advance, Fund, Take, Send, Open, Adjust, Close, Provide, Withdraw, GainToTrove, Liquidate, LiquidateLowest, Redeem, Claim, Rotate}
 use Rattle.liq_types.specs.declared.requests.Command.{Command}
 use Rattle.liq_types.specs.declared.requests.Request.TheVariants.{Do}
-use Rattle.liq_rules.specs.Step.{Ruling, after, after_ruling, step}
+use Rattle.liq_rule_step.specs.Step.{Ruling, after, after_ruling, step}
 use Rattle.liq_types.specs.State.{State}
 use Rattle.liq_types.specs.Totals.{market_of, or_nothing}
 use Rattle.liq_troves.specs.StakeSums.{entire_of}
@@ -19,20 +19,20 @@ use Rattle.liq_liquidation.specs.declared.one.One.{One}
 use Rattle.liq_liquidation.specs.Lowest.{victim_by}
 use Rattle.liq_redemption.specs.Redemption.{RedeemTerms, redeeming_terms, visited}
 use Rattle.liq_core.specs.Core.{Core, Changes, StandsFor, state_of}
-use Rattle.liq_rules.specs.Liquidation.{listed}
-use Rattle.liq_rules.specs.Step.{Allowed, ruling, effect}
+use Rattle.liq_rule_step.specs.Liquidation.{listed}
+use Rattle.liq_rule_step.specs.Step.{Allowed, ruling, effect}
 use Rattle.liq_core.specs.declared.turns.Forecast.{Forecast}
 use Rattle.liq_core.specs.declared.turns.Terms.{Terms}
 use Rattle.liq_core.specs.declared.turns.Terms.TheVariants as kind
 use Rattle.liq_core.specs.Plan.{IsForecast, IsPlan, plan_of}
 use Rattle.liq_core.specs.Terms.{AreTerms, IsTrove, IsClosing, IsRedeeming, is_redeeming, TermsFit}
-use Rattle.liq_rules.proofs.AlikeFollowed.{call_events_alike, call_changes_alike}
-use Rattle.liq_rules.proofs.AlikeLiquidation.{one_alike, lowest_alike}
-use Rattle.liq_rules.proofs.AlikeRedemption.{terms_alike as redeeming_alike}
-use Rattle.liq_rules.proofs.AlikeReads.{Alike, market_alike, entire_alike, gain_alike}
-use Rattle.liq_rules.proofs.AlikeReplies.{ruling_alike, step_alike}
-use Rattle.liq_rules.proofs.AlikeStep.{effect_alike, done_alike}
-use Rattle.liq_rules.proofs.Allowed.{effect-records}
+use Rattle.liq_rule_step.proofs.AlikeFollowed.{call_events_alike, call_changes_alike}
+use Rattle.liq_rule_step.proofs.AlikeLiquidation.{one_alike, lowest_alike}
+use Rattle.liq_rule_step.proofs.AlikeRedemption.{terms_alike as redeeming_alike}
+use Rattle.liq_rule_step.proofs.AlikeReads.{Alike, market_alike, entire_alike, gain_alike}
+use Rattle.liq_rule_step.proofs.AlikeReplies.{ruling_alike, step_alike}
+use Rattle.liq_rule_step.proofs.AlikeStep.{effect_alike, done_alike}
+use Rattle.liq_rule_step.proofs.Allowed.{effect-records}
 use Rattle.liq_core.proofs.SoundCores.{sound_stands}
 
 -- a state for which a core stands is the same as the one that begins with the core's image

@@ -18,18 +18,18 @@ use Rattle.liq_order.specs.Order.{order_by, trove_order}
 use Rattle.liq_order.proofs.Found.{absent_from_key}
 use Rattle.liq_order.proofs.Listing.{key_without}
 use Rattle.liq_order.proofs.Ranking.{put_list, unlisted}
-use Rattle.liq_standing.specs.Steps.{TakesFew, entry_in}
-use Rattle.liq_standing.proofs.Entries.{key_with_own}
+use Rattle.liq_trove_moves.specs.Steps.{TakesFew, entry_in}
+use Rattle.liq_trove_moves.proofs.Entries.{key_with_own}
 use Rattle.liq_redemption.specs.declared.cut.Cut.{Cut}
 use Rattle.liq_redemption.specs.Last.{last_entry}
 use Rattle.liq_redemption.specs.Redemption.{RedeemTerms, redeeming_terms, visited}
-use Rattle.liq_rules.specs.ListChanges.{stands}
-use Rattle.liq_rules.specs.Rules.{effect, call_changes}
-use Rattle.liq_rules.specs.Verbs.{liquidates}
-use Rattle.liq_rules.proofs.AlikeFollowed.{told, stands-image}
-use Rattle.liq_rules.proofs.Ascending.{Ordered, effect-ascends}
-use Rattle.liq_rules.proofs.Following.{troves-ascend}
-use Rattle.liq_soundness.proofs.SoundFacts.{in_order}
+use Rattle.liq_rule_step.specs.ListChanges.{stands}
+use Rattle.liq_rule_step.specs.Rules.{effect, call_changes}
+use Rattle.liq_rule_step.specs.Verbs.{liquidates}
+use Rattle.liq_rule_step.proofs.AlikeFollowed.{told, stands-image}
+use Rattle.liq_rule_step.proofs.Ascending.{Ordered, effect-ascends}
+use Rattle.liq_rule_step.proofs.Following.{troves-ascend}
+use Rattle.liq_rule_sound.proofs.SoundFacts.{in_order}
 use Rattle.liq_core.specs.declared.turns.Terms.{Terms}
 use Rattle.liq_core.specs.declared.turns.Terms.TheVariants as kind
 use Rattle.liq_types.specs.Soundness.{IsSoundImage}

@@ -13,10 +13,10 @@ use Rattle.liq_troves.specs.Rows.{entire_by}
 use Rattle.liq_troves.specs.Standing.{Books, TrovesStand}
 use Rattle.liq_troves.proofs.Standing.{entire_within}
 use Rattle.liq_core.specs.Core.{Core, state_of}
-use Rattle.liq_rules.specs.Image.{image}
-use Rattle.liq_rules.specs.Queries.{trove_info, system}
-use Rattle.liq_rules.proofs.AlikeReads.{sums_by}
-use Rattle.liq_rules.proofs.AlikeReplies.{trove_told, trove_told_at}
+use Rattle.liq_rule_step.specs.Image.{image}
+use Rattle.liq_rule_step.specs.Queries.{trove_info, system}
+use Rattle.liq_rule_step.proofs.AlikeReads.{sums_by}
+use Rattle.liq_rule_step.proofs.AlikeReplies.{trove_told, trove_told_at}
 use Rattle.liq_core.proofs.SoundCores.{image_back, core_facts}
 
 abbrev pub books_by : Image → Books

@@ -6,9 +6,9 @@ use Rattle.liq_types.specs.declared.image.Image.{Image}
 use Rattle.liq_types.specs.Ranked.{Ranked}
 use Rattle.liq_types.specs.State.{State, started}
 use Rattle.liq_types.specs.WellFormed.{IsWellFormed}
-use Rattle.liq_turns.specs.declared.generation.Generation.{Generation}
-use Rattle.liq_rules.specs.Image.{image}
-use Rattle.liq_rules.specs.Rules.{effect}
+use Rattle.liq_core_limits.specs.declared.generation.Generation.{Generation}
+use Rattle.liq_rule_step.specs.Image.{image}
+use Rattle.liq_rule_step.specs.Rules.{effect}
 
 -- Room: the keys of each table at which a row can be written without memory; how many more troves
 -- the list takes without any, and how many more finished sums the Stability Pool.

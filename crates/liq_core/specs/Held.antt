@@ -6,7 +6,7 @@ use Rattle.liq_troves.specs.Kept.{Kept}
 use Rattle.liq_troves.specs.Standing.{TrovesStand}
 use Rattle.liq_order.specs.Listed.{Listed}
 use Rattle.liq_order.specs.Order.{order_by}
-use Rattle.liq_standing.specs.Books.{books_kept}
+use Rattle.liq_trove_moves.specs.Books.{books_kept}
 
 -- the troves stand beside the pools, the list is theirs, and what they have is within the limit
 pub record AreHeld (pools : Pools) (troves : Kept) (order : Listed) : Type 0 where

@@ -11,11 +11,11 @@ use Rattle.liq_types.specs.State.{State}
 use Rattle.liq_core.specs.declared.turns.Forecast.{Forecast}
 use Rattle.liq_core.specs.declared.turns.Terms.{Terms}
 use Rattle.liq_core.specs.Core.{Core, IsWithin, Room, StandsFor}
-use Rattle.liq_rules.specs.Rules.{call_events, call_changes}
-use Rattle.liq_rules.specs.Step.{Allowed, ruling, done_of}
+use Rattle.liq_rule_step.specs.Rules.{call_events, call_changes}
+use Rattle.liq_rule_step.specs.Step.{Allowed, ruling, done_of}
 use Rattle.liq_core.specs.Terms.{AreTerms, TermsFit, claimants, struck_by}
 use Rattle.liq_core.specs.Told.{events_in, changes_in}
-use Rattle.liq_rules.specs.Verbs.{accounts, pays, opens, provides}
+use Rattle.liq_rule_step.specs.Verbs.{accounts, pays, opens, provides}
 
 -- a command that is allowed: its reply, what it makes of what it changes, and what others follow
 pub record Plan : Type 0 where

@@ -8,10 +8,10 @@ use Rattle.liq_types.specs.declared.hints.HintWords.{HintWords}
 use Rattle.liq_types.specs.declared.requests.Call.{Call}
 use Rattle.liq_types.specs.declared.requests.Call.TheVariants.{Open, Adjust, GainToTrove, Redeem}
 use Rattle.liq_types.specs.Ranked.{Ranked}
-use Rattle.liq_standing.specs.Steps.{entry_in}
+use Rattle.liq_trove_moves.specs.Steps.{entry_in}
 use Rattle.liq_redemption.specs.declared.cut.Cut.{Cut}
 use Rattle.liq_redemption.specs.Last.{last_entry}
-use Rattle.liq_rules.specs.Verbs.{no_hint}
+use Rattle.liq_rule_step.specs.Verbs.{no_hint}
 use Rattle.liq_core.specs.declared.turns.Terms.{Terms}
 use Rattle.liq_core.specs.declared.turns.Terms.TheVariants as terms
 

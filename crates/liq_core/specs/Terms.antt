@@ -15,7 +15,7 @@ use Rattle.liq_liquidation.specs.Lowest.{lowest, victim_by}
 use Rattle.liq_liquidation.specs.One.{one}
 use Rattle.liq_redemption.specs.declared.cut.Cut.{Cut}
 use Rattle.liq_redemption.specs.Redemption.{RedeemTerms, redeeming_terms, visited}
-use Rattle.liq_rules.specs.Liquidation.{listed}
+use Rattle.liq_rule_step.specs.Liquidation.{listed}
 use Rattle.liq_core.specs.declared.turns.Terms.{Terms}
 use Rattle.liq_core.specs.declared.turns.Terms.TheVariants.{Words, Trove, Closing}
 use Rattle.liq_core.specs.declared.turns.Terms.TheVariants as terms

@@ -12,8 +12,8 @@ use Rattle.liq_core.specs.declared.turns.PlanFault.{PlanFault}
 use Rattle.liq_core.specs.declared.turns.PlanFault.TheVariants.{No, NoMemory}
 use Rattle.liq_core.specs.declared.turns.Forecast.{Forecast}
 use Rattle.liq_core.specs.Plan.{IsPlan, IsForecast}
-use Rattle.liq_rules.specs.Lists.{CallPlansList, PlansList, VerbPlansList}
-use Rattle.liq_rules.specs.Step.{Refused, Repeated, ruling, first_refusal, in_range, accounts, rules}
+use Rattle.liq_rule_step.specs.Lists.{CallPlansList, PlansList, VerbPlansList}
+use Rattle.liq_rule_step.specs.Step.{Refused, Repeated, ruling, first_refusal, in_range, accounts, rules}
 
 -- Planning gives the ruling. Only where a list is planned, all else being passed, may there be no
 -- memory for it.

@@ -6,7 +6,7 @@ ghost use Rattle.liq_types.specs.Length.{checkpoint_length};
 ghost use Rattle.liq_types.specs.Ranked.{first_of, from_last};
 ghost use Rattle.liq_types.specs.State.{State};
 ghost use Rattle.liq_order.specs.Listed.{AreDistinct};
-ghost use Rattle.liq_rules.specs.Queries.{next_number};
+ghost use Rattle.liq_rule_step.specs.Queries.{next_number};
 ghost use Rattle.liq_core.specs.Core.{StandsFor};
 ghost use Rattle.liq_core.specs.Entries.{laid};
 

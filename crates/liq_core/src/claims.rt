@@ -4,7 +4,7 @@ ghost use Rattle.std.specs.Prelude.{◌≡◌, ◌<◌, None};
 ghost use Rattle.std.specs.List.{Contains};
 ghost use Rattle.liq_types.specs.declared.requests.Call.TheVariants as call;
 ghost use Rattle.liq_core.specs.Core.{Changes, state_of};
-ghost use Rattle.liq_rules.specs.Step.{rules, first_refusal};
+ghost use Rattle.liq_rule_step.specs.Step.{rules, first_refusal};
 ghost use Rattle.liq_core.specs.Turn.{IsRuled};
 
 use crate::engine::Protocol;

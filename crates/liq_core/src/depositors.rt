@@ -13,10 +13,10 @@ ghost use Rattle.liq_troves.specs.StakeSums.{entire_of};
 ghost use Rattle.liq_order.specs.Order.{last_trove};
 ghost use Rattle.liq_stability.specs.Position.{balance_of, gain_of};
 ghost use Rattle.liq_borrow.specs.Borrowing.{gaining_terms};
-ghost use Rattle.liq_standing.specs.Steps.{TakesFew, entry_in};
+ghost use Rattle.liq_trove_moves.specs.Steps.{TakesFew, entry_in};
 ghost use Rattle.liq_core.specs.Core.{Changes, state_of};
-ghost use Rattle.liq_rules.specs.Pool.{trove_under};
-ghost use Rattle.liq_rules.specs.Step.{rules, first_refusal};
+ghost use Rattle.liq_rule_step.specs.Pool.{trove_under};
+ghost use Rattle.liq_rule_step.specs.Step.{rules, first_refusal};
 ghost use Rattle.liq_core.specs.Turn.{IsRuled};
 
 use crate::engine::Protocol;

@@ -2,9 +2,9 @@
 
 ghost use Rattle.std.specs.Prelude.{◌≡◌};
 ghost use Rattle.liq_types.specs.State.{State};
-ghost use Rattle.liq_rules.specs.Rules.{call_events};
-ghost use Rattle.liq_rules.specs.Step.{after, ruling};
-ghost use Rattle.liq_rules.specs.Verbs.{unhinted, unhinted_call};
+ghost use Rattle.liq_rule_step.specs.Rules.{call_events};
+ghost use Rattle.liq_rule_step.specs.Step.{after, ruling};
+ghost use Rattle.liq_rule_step.specs.Verbs.{unhinted, unhinted_call};
 
 use liq_types::{Call, Command, HintWords};
 

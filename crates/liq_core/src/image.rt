@@ -9,13 +9,13 @@ ghost use Rattle.liq_types.specs.State.{started};
 ghost use Rattle.liq_order.specs.Listed.{AreDistinct};
 ghost use Rattle.liq_order.specs.Order.{order_by, ranks};
 ghost use Rattle.liq_stability.specs.Kept.{IsSoundPool};
-ghost use Rattle.liq_standing.specs.Books.{pools_of};
+ghost use Rattle.liq_trove_moves.specs.Books.{pools_of};
 ghost use Rattle.liq_core.specs.Core.{StandsFor};
 ghost use Rattle.liq_core.specs.Parts.{HasKey, words_by};
 ghost use Rattle.liq_core.specs.declared.image.ImageFault.TheVariants as fault;
 
 use crate::engine::Protocol;
-use liq_images::{entries, first_unsound};
+use liq_image_rules::{entries, first_unsound};
 use liq_ledger::{Pools, Surplus, Wallets};
 use liq_order::Order;
 use liq_rate::Rate;

@@ -10,10 +10,10 @@ ghost use Rattle.liq_types.specs.State.{State, opening_with};
 ghost use Rattle.liq_order.specs.Order.{trove_order};
 ghost use Rattle.liq_stability.specs.Promise.{IsWithinAllowance};
 ghost use Rattle.liq_core.specs.Core.{StandsFor, state_of};
-ghost use Rattle.liq_rules.specs.Events.{events};
-ghost use Rattle.liq_rules.specs.Image.{IsSameState};
-ghost use Rattle.liq_soundness.specs.SoundState.{IsSoundState};
-ghost use Rattle.liq_rules.specs.Step.{accepted, run};
+ghost use Rattle.liq_rule_step.specs.Events.{events};
+ghost use Rattle.liq_rule_step.specs.Image.{IsSameState};
+ghost use Rattle.liq_rule_sound.specs.SoundState.{IsSoundState};
+ghost use Rattle.liq_rule_step.specs.Step.{accepted, run};
 
 use crate::engine::Protocol;
 

@@ -8,22 +8,22 @@ ghost use Rattle.liq_types.specs.Tables.{at};
 ghost use Rattle.liq_troves.specs.StakeSums.{trove_rows};
 ghost use Rattle.liq_liquidation.specs.One as rules;
 ghost use Rattle.liq_core.specs.Core.{AreAmong, IsWithin, SameContent, StandsFor, state_of};
-ghost use Rattle.liq_rules.specs.Liquidation.{all_liquidated, offset_events, victim_changes};
-ghost use Rattle.liq_rules.specs.Rules.{done_of, effect};
-ghost use Rattle.liq_rules.specs.Step.{Allowed, after, ruling};
+ghost use Rattle.liq_rule_step.specs.Liquidation.{all_liquidated, offset_events, victim_changes};
+ghost use Rattle.liq_rule_step.specs.Rules.{done_of, effect};
+ghost use Rattle.liq_rule_step.specs.Step.{Allowed, after, ruling};
 ghost use Rattle.liq_core.specs.Turn.{Forecasts, IsRuled};
-ghost use Rattle.liq_rules.specs.Verbs.{rotates};
-ghost use Rattle.liq_victims.specs.Lowest.{AreLowest, IsNoPlan};
-ghost use Rattle.liq_victims.specs.Victims.{AreVictims, course_of};
+ghost use Rattle.liq_rule_step.specs.Verbs.{rotates};
+ghost use Rattle.liq_core_lowest.specs.Lowest.{AreLowest, IsNoPlan};
+ghost use Rattle.liq_core_lowest.specs.Victims.{AreVictims, course_of};
 
 use crate::engine::Protocol;
 use crate::told::{ListChanges, PoolEvents};
 use crate::turns::{Forecast, PlanFault, Terms};
+use liq_core_lowest::{Course, Told, lowest_done, plan_victims, reserve_owners, strike};
 use liq_liquidation::{LowestFault, One, Victim, plan_one};
 use liq_stability::Stability;
 use liq_types::amounts::{ACCOUNTS, LOWEST_MOST};
 use liq_types::{Client, Command, Done, ListChange, NoMemory, Refusal};
-use liq_victims::{Course, Told, lowest_done, plan_victims, reserve_owners, strike};
 
 impl Protocol {
     /// Rules on the liquidation of one trove.

@@ -6,7 +6,7 @@ ghost use Rattle.liq_types.specs.State.{State, opening};
 ghost use Rattle.liq_order.specs.Nodes.{entry_of};
 ghost use Rattle.liq_core.specs.Core.{StandsFor};
 ghost use Rattle.liq_core.specs.Entries.{put_entry, told_whole};
-ghost use Rattle.liq_rules.specs.View.{all_followed, view_of};
+ghost use Rattle.liq_rule_step.specs.View.{all_followed, view_of};
 
 use crate::engine::Protocol;
 use liq_order::{Node, Order};

@@ -5,8 +5,8 @@ ghost use Rattle.liq_types.specs.declared.replies.Info.TheVariants as info;
 ghost use Rattle.liq_types.specs.Totals.{market_of};
 ghost use Rattle.liq_borrow.specs.Given.{IsMarket};
 ghost use Rattle.liq_core.specs.Core.{state_of};
-ghost use Rattle.liq_rules.specs.Queries.{trove_info, deposit_info, pools, system};
-ghost use Rattle.liq_rules.specs.Step.{answer};
+ghost use Rattle.liq_rule_step.specs.Queries.{trove_info, deposit_info, pools, system};
+ghost use Rattle.liq_rule_step.specs.Step.{answer};
 ghost use Rattle.liq_types.specs.Tables.{at};
 
 use crate::engine::Protocol;

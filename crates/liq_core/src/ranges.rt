@@ -2,7 +2,7 @@
 
 ghost use Rattle.std.specs.Prelude.{◌≡◌, [], ◌∷◌, map};
 ghost use Rattle.liq_ledger.specs.Refusals.{ruled};
-ghost use Rattle.liq_rules.specs.Step.{accounts, in_range};
+ghost use Rattle.liq_rule_step.specs.Step.{accounts, in_range};
 
 use liq_types::amounts::ACCOUNTS;
 use liq_types::{Call, Refusal};

@@ -7,13 +7,13 @@ ghost use Rattle.liq_types.specs.declared.requests.Call.TheVariants as call;
 ghost use Rattle.liq_types.specs.State.{wallet_of};
 ghost use Rattle.liq_types.specs.Totals.{market_of};
 ghost use Rattle.liq_redemption.specs.Answers.{Answers};
-ghost use Rattle.liq_standing.specs.Steps.{TakesFew};
+ghost use Rattle.liq_trove_moves.specs.Steps.{TakesFew};
 ghost use Rattle.liq_redemption.specs.Last.{last_entry};
 ghost use Rattle.liq_redemption.specs.Redemption.{redeeming_terms, visited};
 ghost use Rattle.liq_core.specs.Core.{AreAmong, Changes, state_of};
-ghost use Rattle.liq_rules.specs.Redemption.{cut_told};
-ghost use Rattle.liq_soundness.specs.SoundState.{CutIsCovered};
-ghost use Rattle.liq_rules.specs.Step.{rules, first_refusal};
+ghost use Rattle.liq_rule_step.specs.Redemption.{cut_told};
+ghost use Rattle.liq_rule_sound.specs.SoundState.{CutIsCovered};
+ghost use Rattle.liq_rule_step.specs.Step.{rules, first_refusal};
 ghost use Rattle.liq_core.specs.Terms.{closed};
 ghost use Rattle.liq_core.specs.Turn.{Forecasts};
 

@@ -12,14 +12,14 @@ ghost use Rattle.liq_types.specs.Tables.{put};
 ghost use Rattle.liq_core.specs.Core.{StandsFor, state_of};
 ghost use Rattle.liq_core.specs.Plan.{IsPlannedOn};
 ghost use Rattle.liq_core.specs.Turn.{IsRuled};
-ghost use Rattle.liq_rules.specs.Image.{image};
-ghost use Rattle.liq_rules.specs.Step.{Allowed, after, done_of, first_refusal, room_rules, ruling};
+ghost use Rattle.liq_rule_step.specs.Image.{image};
+ghost use Rattle.liq_rule_step.specs.Step.{Allowed, after, done_of, first_refusal, room_rules, ruling};
 
 use crate::engine::Protocol;
 use crate::image::client_rows;
 use crate::turns::{Forecast, Planned};
+use liq_core_limits::clients_with;
 use liq_tables::Reserved;
-use liq_turns::clients_with;
 use liq_types::amounts::{CHECKPOINT_BYTES_MOST, GENERATIONS_MOST};
 use liq_types::{Call, Client, ClientRows, Command, Done, Image, NoMemory, Refusal, RowCounts};
 

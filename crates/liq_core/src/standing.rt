@@ -6,14 +6,14 @@ ghost use Rattle.liq_types.specs.Tables.{at};
 ghost use Rattle.liq_tables.specs.WithRoom.{HasRoom};
 ghost use Rattle.liq_troves.specs.Standing.{lift as lifted, place as placed};
 ghost use Rattle.liq_order.specs.Order.{order_by};
-ghost use Rattle.liq_standing.specs.Books.{books_kept, SameOthers};
-ghost use Rattle.liq_standing.specs.Steps.{TakesFew, entry_in};
+ghost use Rattle.liq_trove_moves.specs.Books.{books_kept, SameOthers};
+ghost use Rattle.liq_trove_moves.specs.Steps.{TakesFew, entry_in};
 ghost use Rattle.liq_core.specs.Held.{AreHeld};
 
 use liq_borrow::Plan;
 use liq_ledger::Pools;
 use liq_order::Order;
-use liq_standing::{lift, place};
+use liq_trove_moves::{lift, place};
 use liq_troves::Troves;
 use liq_types::amounts::{LIM, RESERVE};
 use liq_types::{Hint, Steps};

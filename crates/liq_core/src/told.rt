@@ -3,7 +3,7 @@
 
 ghost use Rattle.std.specs.Prelude.{◌≡◌};
 ghost use Rattle.liq_core.specs.Told.{events_in, changes_in};
-ghost use Rattle.liq_victims.specs.Victims.{told_of};
+ghost use Rattle.liq_core_lowest.specs.Victims.{told_of};
 
 use liq_types::{ListChange, PoolEvent};
 

@@ -7,18 +7,18 @@ use Rattle.std.proofs.lemmas.Bool.{cases_Bool}
 use Rattle.std.proofs.lemmas.List.{drop-append-le, take-append-le, take_all, take_at}
 use Rattle.liq_types.specs.declared.requests.Command.{Command}
 use Rattle.liq_types.specs.State.{State, opening_with}
-use Rattle.liq_rules.specs.Step.{after}
-use Rattle.liq_header.specs.Layout.{Layout, generation_on, header_size, layout_named, layout_on, name_on, size_on}
+use Rattle.liq_rule_step.specs.Step.{after}
+use Rattle.liq_disk_header.specs.Layout.{Layout, generation_on, header_size, layout_named, layout_on, name_on, size_on}
 use Rattle.liq_journal.specs.Records.{records}
 use Rattle.liq_journal.specs.declared.damage.Damage.{Damage}
 use Rattle.liq_journal.specs.Written.{Absent, Damaged, Found, Open, Written, found_on, found_records, header_tests, most_records, start_of}
 use Rattle.liq_journal.proofs.Heading.{IsOpen, are_false, header_decides, is_open, of_records}
 use Rattle.liq_journal.proofs.Reading.{byte_alike, number_alike, piece_alike}
-use Rattle.liq_pairs.specs.Pair.{Holding, standing, standing_after, standing_of}
-use Rattle.liq_pairs.specs.Replay.{outcome, replay}
-use Rattle.liq_pairs.proofs.Basing.{outcome_first}
-use Rattle.liq_pairs.proofs.Replaying.{first_accepted, replay_allowed, replay_none}
-use Rattle.liq_pairs.proofs.Standings.{standing_open}
+use Rattle.liq_disk_pair.specs.Pair.{Holding, standing, standing_after, standing_of}
+use Rattle.liq_disk_pair.specs.Replay.{outcome, replay}
+use Rattle.liq_disk_pair.proofs.Basing.{outcome_first}
+use Rattle.liq_disk_pair.proofs.Replaying.{first_accepted, replay_allowed, replay_none}
+use Rattle.liq_disk_pair.proofs.Standings.{standing_open}
 use Rattle.liq_follower.specs.Fed.{GoOn, LeadTo, begun_limit, has_header}
 use Rattle.liq_follower.proofs.Found.{FrontOf, both, first_unturned, found_front, records_front}
 use Rattle.liq_follower.proofs.Fronts.{fed_behind}

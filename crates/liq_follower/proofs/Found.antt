@@ -7,7 +7,7 @@ use Rattle.std.proofs.lemmas.Bool.Decides.{nat_tests}
 use Rattle.std.proofs.lemmas.List.{append-nil, drop-append-le, drop_all, drop_at, drop-drop, take-append-le, take_all, take_at}
 use Rattle.liq_types.specs.declared.requests.Command.{Command}
 use Rattle.liq_journal.specs.declared.damage.What.{What}
-use Rattle.liq_header.specs.Layout.{generation_on, header_size, layout_named, layout_on, name_on}
+use Rattle.liq_disk_header.specs.Layout.{generation_on, header_size, layout_named, layout_on, name_on}
 use Rattle.liq_journal.specs.Records.{begins_whole, records}
 use Rattle.liq_journal.specs.Written.{Damaged, Open, Written, and_then, end_of, found_on, found_record, found_records, most_records, record_on, start_of, with_command}
 use Rattle.liq_journal.proofs.Heading.{IsOpen, found_more, header_decides, is_open, of_records, record_open}

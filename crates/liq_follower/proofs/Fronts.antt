@@ -5,21 +5,21 @@ use Rattle.std.proofs.lemmas.List.Elements.{All-pop}
 use Rattle.std.proofs.lemmas.List.{get_or-append_right}
 use Rattle.std.proofs.Common.{get_or, ◌-◌}
 use Rattle.liq_journal.proofs.Reading.{isnt_long}
-use Rattle.liq_guided.specs.Redone.{MayWantMemory}
+use Rattle.liq_core_hinted.specs.Redone.{MayWantMemory}
 use Rattle.liq_follower.specs.Fed.{Completes, LackOne}
 use Rattle.liq_types.specs.declared.requests.Command.{Command}
 use Rattle.liq_types.specs.State.{State, opening_with}
-use Rattle.liq_rules.specs.Step.{Allowed, after, ruling}
-use Rattle.liq_rules.proofs.Allowed.{allowed_few}
+use Rattle.liq_rule_step.specs.Step.{Allowed, after, ruling}
+use Rattle.liq_rule_step.proofs.Allowed.{allowed_few}
 use Rattle.liq_journal.specs.declared.damage.Damage.{Damage}
 use Rattle.liq_journal.specs.Records.{begins_whole}
 use Rattle.liq_journal.specs.Written.{Open, Written, and_then, end_of, found_on, is_rotate, record_on}
 use Rattle.liq_journal.proofs.Bodies.{found_no_rotation}
-use Rattle.liq_pairs.specs.Pair.{Faulty, Holding, standing}
-use Rattle.liq_guided.proofs.Steps.{after-records}
-use Rattle.liq_pairs.proofs.Generations.{never_rotates}
-use Rattle.liq_pairs.proofs.Replaying.{outcome_then}
-use Rattle.liq_pairs.proofs.Standings.{standing_damaged, standing_faulty, standing_open}
+use Rattle.liq_disk_pair.specs.Pair.{Faulty, Holding, standing}
+use Rattle.liq_core_hinted.proofs.Steps.{after-records}
+use Rattle.liq_disk_pair.proofs.Generations.{never_rotates}
+use Rattle.liq_disk_pair.proofs.Replaying.{outcome_then}
+use Rattle.liq_disk_pair.proofs.Standings.{standing_damaged, standing_faulty, standing_open}
 use Rattle.liq_follower.specs.Fed.{AreDamagedAt, EndsWhole, IsNoRecord, IsRecordOf, LeadTo, begun_limit, fed, has_header, is_turned}
 use Rattle.liq_follower.proofs.Found as found
 use Rattle.liq_follower.proofs.Replaying.{outcome_refused}

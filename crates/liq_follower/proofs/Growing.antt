@@ -3,7 +3,7 @@ use Rattle.std.proofs.Common.{◌≡◌, ◌⊎◌, inl, inr, ℕ, ◌+◌, ◌<
 use Rattle.std.specs.Prelude.{◌&&◌, ◌==◌, set}
 use Rattle.std.specs.Str.{bytes_eq}
 use Rattle.std.proofs.lemmas.List.{drop_all, set_split, take-append-le}
-use Rattle.liq_header.specs.Layout.{header_size, layout_named, layout_on, name_on, version_1, version_2}
+use Rattle.liq_disk_header.specs.Layout.{header_size, layout_named, layout_on, name_on, version_1, version_2}
 use Rattle.liq_journal.proofs.Reading.{byte_alike, piece_alike}
 use Rattle.liq_types.specs.declared.amounts.TheConstants.{LIM, LIM_OF_VERSION_1}
 use Rattle.liq_follower.specs.Fed.{IsBegun, begun_limit}

@@ -8,10 +8,10 @@ use Rattle.std.proofs.lemmas.Slice.Eq.{bytes_eq-Decides}
 use Rattle.liq_types.specs.declared.amounts.TheConstants.{LIM, LIM_OF_VERSION_1}
 use Rattle.liq_journal.specs.declared.damage.Damage.{Damage}
 use Rattle.liq_journal.specs.declared.damage.What.{What}
-use Rattle.liq_header.specs.Layout.{Layout, checkpoint_on, generation_on, header_size, layout_on, layout_with, name_on, size_on, start_on, version_1, version_2}
+use Rattle.liq_disk_header.specs.Layout.{Layout, checkpoint_on, generation_on, header_size, layout_on, layout_with, name_on, size_on, start_on, version_1, version_2}
 use Rattle.liq_journal.specs.Records.{records}
 use Rattle.liq_journal.specs.Written.{Absent, Damaged, Open, Written, first_fault, found_behind, found_in, found_on, found_records, header_tests, most_records}
-use Rattle.liq_header.specs.Header.{is_absent, is_size}
+use Rattle.liq_disk_header.specs.Header.{is_absent, is_size}
 use Rattle.liq_journal.proofs.Heading.{are_false, found_behind_it}
 use Rattle.liq_journal.proofs.Reading.{isnt_long, records_none}
 use Rattle.liq_follower.specs.Fed.{begun_limit, has_header}

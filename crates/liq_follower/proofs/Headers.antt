@@ -6,12 +6,12 @@ use Rattle.std.proofs.lemmas.Bool.Decides.{nat_tests}
 use Rattle.liq_types.specs.declared.amounts.TheConstants.{LIM, LIM_OF_VERSION_1}
 use Rattle.liq_types.specs.State.{opening, opening_with}
 use Rattle.liq_journal.specs.declared.damage.Damage.{Damage}
-use Rattle.liq_header.specs.Layout.{generation_on, header_size, layout_on, name_on, version_1}
+use Rattle.liq_disk_header.specs.Layout.{generation_on, header_size, layout_on, name_on, version_1}
 use Rattle.liq_journal.specs.Written.{first_fault, header_tests}
-use Rattle.liq_pairs.specs.Pair.{Holding, standing}
-use Rattle.liq_pairs.proofs.Basing.{ends_in, outcome_first}
-use Rattle.liq_pairs.proofs.Replaying.{replay_none}
-use Rattle.liq_pairs.proofs.Standings.{standing_damaged}
+use Rattle.liq_disk_pair.specs.Pair.{Holding, standing}
+use Rattle.liq_disk_pair.proofs.Basing.{ends_in, outcome_first}
+use Rattle.liq_disk_pair.proofs.Replaying.{replay_none}
+use Rattle.liq_disk_pair.proofs.Standings.{standing_damaged}
 use Rattle.liq_follower.specs.Fed.{AreDamagedAt, EndsWhole, LeadTo, begun_limit, fed, has_header, is_turned}
 use Rattle.liq_follower.proofs.Found.{turned_by}
 use Rattle.liq_follower.proofs.Fronts.{fed_behind}

@@ -8,7 +8,7 @@ use Rattle.liq_types.specs.State.{State, opening, opening_with}
 use Rattle.liq_core.specs.Core.{Core, StandsFor}
 use Rattle.liq_journal.specs.declared.damage.Damage.{Damage}
 use Rattle.liq_journal.proofs.Reading.{isnt_long, isnt_open}
-use Rattle.liq_pairs.specs.Pair.{Faulty, Holding, Standing}
+use Rattle.liq_disk_pair.specs.Pair.{Faulty, Holding, Standing}
 use Rattle.liq_follower.specs.declared.answers.FedEnd.{FedEnd}
 use Rattle.liq_follower.specs.declared.answers.FedEnd.TheVariants as end
 use Rattle.liq_follower.specs.declared.phase.Phase.{Phase}
@@ -18,7 +18,7 @@ use Rattle.liq_follower.specs.Following.{EndsAs, Followed, IsAt, IsFed, IsInPhas
 use Rattle.liq_follower.proofs.Fronts.{leads}
 use Rattle.liq_follower.proofs.Headers.{no_header, shut_leads, too_short}
 use Rattle.liq_follower.proofs.Verdicts.{apart}
-use Rattle.liq_header.specs.Layout.{header_size, layout_on}
+use Rattle.liq_disk_header.specs.Layout.{header_size, layout_on}
 use Rattle.liq_journal.specs.Records.{begins_whole}
 
 -- ---- what is fed is in a phase, and counted

@@ -3,13 +3,13 @@ use Rattle.std.proofs.Common.{◌≡◌, ℕ, suc, ◌+◌, List, [], ◌∷◌,
 use Rattle.liq_types.specs.declared.requests.Command.{Command}
 use Rattle.liq_types.specs.Codes.{code_of}
 use Rattle.liq_types.specs.State.{State}
-use Rattle.liq_rules.specs.Step.{Ruling, Refused, Repeated, Allowed, after, ruling}
+use Rattle.liq_rule_step.specs.Step.{Ruling, Refused, Repeated, Allowed, after, ruling}
 use Rattle.liq_journal.specs.declared.damage.Damage.{Damage}
 use Rattle.liq_journal.specs.declared.damage.What.TheVariants as what
 use Rattle.liq_journal.specs.Written.{Written, and_then}
-use Rattle.liq_pairs.specs.Replay.{outcome, replay, replayed}
-use Rattle.liq_pairs.proofs.Basing.{base_then, ok_same}
-use Rattle.liq_pairs.proofs.Replaying.{first_accepted, leads_from, outcome_from, replay_allowed, replay_more, replay_none}
+use Rattle.liq_disk_pair.specs.Replay.{outcome, replay, replayed}
+use Rattle.liq_disk_pair.proofs.Basing.{base_then, ok_same}
+use Rattle.liq_disk_pair.proofs.Replaying.{first_accepted, leads_from, outcome_from, replay_allowed, replay_more, replay_none}
 
 -- the replay ends there, with the damage of this record
 pub record EndsAt (index : ℕ) (came : Result State Damage) : Type 0 where

@@ -2,16 +2,16 @@
 use Rattle.std.proofs.Common.{◌≡◌, ⊎_elim, ℕ, ◌+◌, ◌-◌, ◌^◌, ◌<◌, ◌≤◌, min, List, [], ◌∷◌, ◌++◌, length, get_or, refl, sym, ◌∙◌, ap, subst, arith, length-append, append_assoc}
 use Rattle.liq_types.specs.declared.requests.Command.{Command}
 use Rattle.liq_types.specs.State.{State, opening_with}
-use Rattle.liq_rules.specs.Step.{Allowed, after, ruling}
+use Rattle.liq_rule_step.specs.Step.{Allowed, after, ruling}
 use Rattle.liq_core.specs.Core.{Core, StandsFor}
-use Rattle.liq_header.specs.Layout.{header_size, layout_on}
+use Rattle.liq_disk_header.specs.Layout.{header_size, layout_on}
 use Rattle.liq_journal.proofs.Reading.{isnt_long}
 use Rattle.liq_follower.specs.declared.header.Judged.{Judged}
 use Rattle.liq_follower.specs.declared.header.Judged.TheVariants as judged
 use Rattle.liq_follower.specs.declared.phase.Phase.{Phase}
 use Rattle.liq_follower.specs.declared.phase.Phase.TheVariants.{Header, Inside}
 use Rattle.liq_follower.specs.declared.record.Redone.TheVariants as redone
-use Rattle.liq_guided.specs.Redone.{MayWantMemory}
+use Rattle.liq_core_hinted.specs.Redone.{MayWantMemory}
 use Rattle.liq_follower.specs.Fed.{AreDamagedAt, Completes, EndsWhole, IsBegun, IsNoRecord, IsRecordOf, LackOne, LeadTo, begun_limit}
 use Rattle.liq_follower.specs.Following.{EndsAs, Followed, IsAt, IsInPhase, StandsBeforeLast}
 use Rattle.liq_follower.specs.Judging.{IsJudged, IsTaken, IsUnfit, phase_of}

@@ -7,7 +7,7 @@ use Rattle.liq_types.specs.declared.requests.Command.{Command}
 use Rattle.liq_wire.specs.Fields.{command_of}
 use Rattle.liq_journal.specs.declared.damage.What.TheVariants.{Digest, Form}
 use Rattle.liq_journal.specs.Written.{command_from, record_on}
-use Rattle.liq_header.specs.RecordDigest.{record_digest}
+use Rattle.liq_disk_header.specs.RecordDigest.{record_digest}
 use Rattle.liq_journal.proofs.Testing.{no_rotation, rotation}
 use Rattle.liq_follower.specs.Fed.{IsNoRecord}
 use Rattle.liq_follower.specs.Judging.{IsSpelled, IsTested}

@@ -4,11 +4,11 @@ use Rattle.std.specs.Prelude.{◌&&◌, ◌==◌, nat_lt}
 use Rattle.std.specs.Str.{bytes_eq}
 use Rattle.std.proofs.lemmas.Bool.Decides.{nat_tests}
 use Rattle.liq_wire.specs.Fields.{first_place}
-use Rattle.liq_header.specs.declared.head.Head.{Head}
-use Rattle.liq_header.specs.Header.{HasFields, is_generation, is_size, place_tests}
-use Rattle.liq_header.specs.Layout.{Layout, digest_on, fields_on, fields_size, generation_on, header_digest, header_size, layout_on, layout_with, name_on, size_on, start_on, stored_on}
-use Rattle.liq_header.proofs.Fields.{are_right}
-use Rattle.liq_header.proofs.Versions.{one_version}
+use Rattle.liq_disk_header.specs.declared.head.Head.{Head}
+use Rattle.liq_disk_header.specs.Header.{HasFields, is_generation, is_size, place_tests}
+use Rattle.liq_disk_header.specs.Layout.{Layout, digest_on, fields_on, fields_size, generation_on, header_digest, header_size, layout_on, layout_with, name_on, size_on, start_on, stored_on}
+use Rattle.liq_disk_header.proofs.Fields.{are_right}
+use Rattle.liq_disk_header.proofs.Versions.{one_version}
 use Rattle.liq_journal.specs.Written.{first_fault, header_tests, last_tests}
 use Rattle.liq_journal.proofs.Heading.{are_false, form_found, forms_fit, no_fault}
 use Rattle.liq_follower.specs.declared.header.Judged.TheVariants.{Damaged, Right, Turned}

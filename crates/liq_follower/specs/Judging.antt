@@ -3,10 +3,10 @@ use Rattle.std.specs.Prelude.{◌≡◌, ◌⊎◌, ℕ, List, Option, Some, Non
 use Rattle.liq_types.specs.declared.requests.Command.{Command}
 use Rattle.liq_types.specs.State.{State}
 use Rattle.liq_core.specs.Core.{Core, StandsFor}
-use Rattle.liq_rules.specs.Step.{Allowed, after, ruling}
+use Rattle.liq_rule_step.specs.Step.{Allowed, after, ruling}
 use Rattle.liq_wire.specs.Fields.{command_of}
 use Rattle.liq_journal.specs.declared.damage.What.{What}
-use Rattle.liq_header.specs.Layout.{generation_on, layout_on}
+use Rattle.liq_disk_header.specs.Layout.{generation_on, layout_on}
 use Rattle.liq_journal.specs.Written.{command_from, first_fault, header_tests}
 use Rattle.liq_follower.specs.declared.header.Judged.{Judged}
 use Rattle.liq_follower.specs.declared.header.Judged.TheVariants.{Damaged, Right, Turned}
@@ -14,7 +14,7 @@ use Rattle.liq_follower.specs.declared.record.Redone.{Redone}
 use Rattle.liq_follower.specs.declared.record.Redone.TheVariants.{Made, NoMemory, Refused}
 use Rattle.liq_follower.specs.declared.phase.Phase.{Phase}
 use Rattle.liq_follower.specs.declared.phase.Phase.TheVariants as phase
-use Rattle.liq_guided.specs.Redone.{MayWantMemory}
+use Rattle.liq_core_hinted.specs.Redone.{MayWantMemory}
 use Rattle.liq_follower.specs.Fed.{IsNoRecord, IsRecordOf, is_turned}
 
 -- no test of the header fails; or one does, and it isn't turned

@@ -14,7 +14,7 @@ use crate::held::{BODY_AND_DIGEST, Held};
 use crate::phase::Phase;
 use crate::record::{Redone, take};
 use liq_core::Protocol;
-use liq_guided::Guided;
+use liq_core_hinted::Guided;
 use liq_types::NoMemory;
 use liq_types::amounts::LIM;
 use std::alloc::Global;

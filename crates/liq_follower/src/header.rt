@@ -2,11 +2,11 @@
 ghost use Rattle.std.specs.Prelude.{◌≡◌, ◌≤◌, ◌&&◌, [], length, get_or, nat_lt, take};
 ghost use Rattle.std.specs.Str.{bytes_eq};
 ghost use Rattle.liq_types.specs.Image.{IsLimit};
-ghost use Rattle.liq_header.specs.Layout.{fields_size, generation_on, header_digest, header_size, layout_on, layout_with, name_on};
+ghost use Rattle.liq_disk_header.specs.Layout.{fields_size, generation_on, header_digest, header_size, layout_on, layout_with, name_on};
 ghost use Rattle.liq_follower.specs.Fed.{begun_limit};
 ghost use Rattle.liq_follower.specs.Judging.{IsJudged};
 
-use liq_header::{
+use liq_disk_header::{
     Head, fields_size, generation_of, header_digest, is_named, is_of_version_1, limit_on, placed,
 };
 use liq_types::amounts::{LIM, LIM_OF_VERSION_1};
@@ -38,7 +38,7 @@ pub fn begun_limit(bytes: &[u8]) -> u64
 pub fn header_size(bytes: &[u8]) -> usize
     ensures { result ≡ header_size (layout_on bytes.now) }
 {
-    liq_header::header_size(limit_on(bytes)) as usize
+    liq_disk_header::header_size(limit_on(bytes)) as usize
 }
 
 // Whether the digest behind the fields is that of the fields and no checkpoint.

@@ -4,11 +4,11 @@
 ghost use Rattle.std.specs.Prelude.{◌≡◌, ◌≤◌, ◌+◌, ◌++◌, ◌∷◌, ℕ, List, take, length, get_or, None, true, false, Ok};
 ghost use Rattle.liq_types.specs.declared.requests.Command.{Command};
 ghost use Rattle.liq_types.specs.State.{State, opening, opening_with};
-ghost use Rattle.liq_rules.specs.Step.{Allowed, after, ruling};
-ghost use Rattle.liq_header.specs.Layout.{generation_on, header_size, layout_on};
+ghost use Rattle.liq_rule_step.specs.Step.{Allowed, after, ruling};
+ghost use Rattle.liq_disk_header.specs.Layout.{generation_on, header_size, layout_on};
 ghost use Rattle.liq_journal.specs.Records.{begins_whole};
 ghost use Rattle.liq_journal.specs.Written.{Open, Written, first_fault, found_on, header_tests};
-ghost use Rattle.liq_pairs.specs.Replay.{outcome, replay};
+ghost use Rattle.liq_disk_pair.specs.Replay.{outcome, replay};
 ghost use Rattle.liq_follower.specs.Fed.{AreDamagedAt, AreOver, EndsWhole, GoOn, IsNoRecord, IsRecordOf, LeadTo};
 ghost use Rattle.liq_follower.specs.Fed.{begun_limit, has_header, is_turned};
 ghost use Rattle.liq_core.specs.Core.{StandsFor};

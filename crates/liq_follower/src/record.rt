@@ -4,12 +4,12 @@ ghost use Rattle.std.specs.Str.{bytes_eq};
 ghost use Rattle.liq_types.specs.State.{State};
 ghost use Rattle.liq_core.specs.Core.{StandsFor};
 ghost use Rattle.liq_journal.specs.Written.{is_rotate};
-ghost use Rattle.liq_header.specs.RecordDigest.{record_digest};
+ghost use Rattle.liq_disk_header.specs.RecordDigest.{record_digest};
 ghost use Rattle.liq_follower.specs.Judging.{IsRedone, IsSpelled, IsTaken, IsTested};
 
 use crate::held::BODY_AND_DIGEST;
-use liq_guided::{Guided, RedoFault};
-use liq_header::record_digest;
+use liq_core_hinted::{Guided, RedoFault};
+use liq_disk_header::record_digest;
 use liq_types::{Call, Command, Steps};
 use liq_wire::decode;
 use std::marker::Brand;

@@ -12,12 +12,12 @@ use Rattle.liq_outside.proofs.Steps.{torn_whole}
 use Rattle.liq_journal.specs.Settled.{JournalOn, IsSettled}
 use Rattle.liq_journal.specs.declared.damage.What.TheVariants.{Digest, Form}
 use Rattle.liq_journal.specs.Records.{records}
-use Rattle.liq_header.specs.Layout.{piece}
+use Rattle.liq_disk_header.specs.Layout.{piece}
 use Rattle.liq_journal.specs.Written.{Written, Open, found_records, most_records, found_on, start_of, end_of, EndsWith, and_then, opened, record_on, command_from}
-use Rattle.liq_header.specs.RecordDigest.{record_digest}
-use Rattle.liq_header.proofs.Hashed.{length-record_digest}
+use Rattle.liq_disk_header.specs.RecordDigest.{record_digest}
+use Rattle.liq_disk_header.proofs.Hashed.{length-record_digest}
 use Rattle.liq_journal.specs.Crash.{Stands, BeforeOrAfter, GatedLeaves, IsBodyOf, gated}
-use Rattle.liq_header.specs.Header.{is_odd}
+use Rattle.liq_disk_header.specs.Header.{is_odd}
 use Rattle.liq_journal.proofs.Reading.{records_whole, records_none, records_alike, is_whole, isnt_open, front_behind, byte_alike}
 use Rattle.liq_journal.proofs.Heading.{is_open, header_decides, of_records, found_more}
 

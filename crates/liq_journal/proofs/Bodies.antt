@@ -13,14 +13,14 @@ use Rattle.liq_journal.specs.declared.answers.LookFault.{LookFault}
 use Rattle.liq_journal.specs.declared.answers.LookFault.TheVariants as fault
 use Rattle.liq_journal.specs.Bodies.{IsJournalOf, IsAccepted, IsBodyFault, IsRecorded, body_at}
 use Rattle.liq_journal.specs.Crash.{IsBodyOf}
-use Rattle.liq_header.specs.Header.{is_odd}
+use Rattle.liq_disk_header.specs.Header.{is_odd}
 use Rattle.liq_journal.specs.Records.{records, begins_whole}
 use Rattle.liq_journal.specs.Settled.{JournalOn}
 use Rattle.liq_journal.specs.Tested.{IsBodyRead, IsFaultRead}
 use Rattle.liq_journal.specs.Looked.{IsRead}
-use Rattle.liq_header.specs.Layout.{piece}
+use Rattle.liq_disk_header.specs.Layout.{piece}
 use Rattle.liq_journal.specs.Written.{Written, Open, record_on, command_from, is_rotate, found_on, found_records, most_records, start_of}
-use Rattle.liq_header.specs.RecordDigest.{record_digest}
+use Rattle.liq_disk_header.specs.RecordDigest.{record_digest}
 use Rattle.liq_journal.proofs.Reading.{records_whole, records_none, records_zero, whole_long}
 use Rattle.liq_journal.proofs.Heading.{is_open, of_records, record_open}
 use Rattle.liq_journal.proofs.Told.{if_some}

@@ -7,7 +7,7 @@ use Rattle.liq_journal.specs.declared.damage.What.{What}
 use Rattle.liq_journal.specs.declared.answers.LookFault.{LookFault}
 use Rattle.liq_journal.specs.declared.answers.LookFault.TheVariants as fault
 use Rattle.liq_journal.specs.Records.{records, begins_whole}
-use Rattle.liq_header.specs.Layout.{piece}
+use Rattle.liq_disk_header.specs.Layout.{piece}
 use Rattle.liq_journal.specs.Written.{Found, Open, Damaged, record_on, with_command, found_record, found_records, most_records}
 use Rattle.liq_journal.specs.Counted.{AreRecords, IsFaultIn}
 use Rattle.liq_journal.specs.Tested.{IsTested, IsFaultOf}

@@ -12,14 +12,14 @@ use Rattle.liq_outside.specs.At.{DiskAt}
 use Rattle.liq_outside.specs.Disk.{Torn, overwritten, Only, LeftNow, LeavesOnly, Elapses, Follows}
 use Rattle.liq_outside.proofs.Moments.{chained, weaker, at_last, call}
 use Rattle.liq_journal.specs.Records.{records}
-use Rattle.liq_header.specs.Layout.{Layout, IsVersion, version_2, layout_named, fields_size, header_size, piece, name_on, generation_on, size_on, own_on, fields_on, stored_on, start_on, checkpoint_on, header_digest, digest_on, header_of, fields_of}
+use Rattle.liq_disk_header.specs.Layout.{Layout, IsVersion, version_2, layout_named, fields_size, header_size, piece, name_on, generation_on, size_on, own_on, fields_on, stored_on, start_on, checkpoint_on, header_digest, digest_on, header_of, fields_of}
 use Rattle.liq_journal.specs.Written.{Written, header_tests, found_records, most_records, start_of, end_of, opened}
-use Rattle.liq_header.specs.Header.{is_generation, is_size, is_odd}
+use Rattle.liq_disk_header.specs.Header.{is_generation, is_size, is_odd}
 use Rattle.liq_journal.specs.Crash.{CrashOfCreate, CreateLeaves, HasGate, IsShut, ReadsOfCreate, SettleLeaves, Stands, beginning, filled}
 use Rattle.liq_journal.proofs.Reading.{records_none, isnt_open}
 use Rattle.liq_journal.proofs.Heading.{Headed, found_behind_it, no_fault}
-use Rattle.liq_header.proofs.Hashed.{length-header_digest}
-use Rattle.liq_header.proofs.Versions.{is_version_2}
+use Rattle.liq_disk_header.proofs.Hashed.{length-header_digest}
+use Rattle.liq_disk_header.proofs.Versions.{is_version_2}
 
 -- behind place 0 a shut gate stays
 pub shut_stays : (at n : ℕ) (held image : List ℕ) → 1 ≤ at → IsShut held → Torn at n held image → IsShut image

@@ -23,10 +23,6 @@ pub cause_on : {T E : Type 0} (first mid last : ℕ) (result : Result T E) → m
     → HasCause first last result
 cause_on first mid last result same cause = subst (λ (n : ℕ). HasCause n last result) same cause
 
--- before the first call
-pub lasts_none : {D : Type 0} (at : D → DiskAt) (disk : D) → Lasts at disk disk
-lasts_none at disk = record { telling = ((λ is. is), (λ is. is)); time = unmoved at disk }
-
 -- calls behind others
 pub lasts_on : {D : Type 0} (at : D → DiskAt) (first mid last : D) → Lasts at first mid → Lasts at mid last
     → Lasts at first last

@@ -6,19 +6,19 @@ use Rattle.liq_wire.specs.Fields.{first_place}
 use Rattle.liq_journal.specs.declared.damage.What.{What}
 use Rattle.liq_journal.specs.declared.damage.What.TheVariants.{Form}
 use Rattle.liq_journal.specs.declared.damage.Damage.{Damage}
-use Rattle.liq_header.specs.declared.head.Head.{Head}
+use Rattle.liq_disk_header.specs.declared.head.Head.{Head}
 use Rattle.liq_journal.specs.declared.answers.LookFault.{LookFault}
 use Rattle.liq_journal.specs.declared.answers.LookFault.TheVariants as fault
 use Rattle.liq_journal.specs.declared.answers.Look.{Look}
 use Rattle.liq_journal.specs.declared.answers.Look.TheVariants as look
 use Rattle.liq_journal.specs.Look.{look_behind, look_in, look_on}
-use Rattle.liq_header.specs.Header.{HasFields, is_generation, is_size, place_tests, is_absent}
+use Rattle.liq_disk_header.specs.Header.{HasFields, is_generation, is_size, place_tests, is_absent}
 use Rattle.liq_journal.specs.Header.{IsHeadOf, MaybeHeadOf, IsDamageOf}
-use Rattle.liq_header.specs.Layout.{Layout, IsVersion, layout_on, layout_with, layout_named, fields_size, header_size, least_header, greatest_header, name_on, generation_on, size_on, start_on}
+use Rattle.liq_disk_header.specs.Layout.{Layout, IsVersion, layout_on, layout_with, layout_named, fields_size, header_size, least_header, greatest_header, name_on, generation_on, size_on, start_on}
 use Rattle.liq_journal.specs.Looked.{IsRead}
 use Rattle.liq_journal.specs.Written.{Absent, Damaged, last_tests, first_fault, header_tests, found_behind, found_on}
 use Rattle.std.proofs.lemmas.List.{take-take}
-use Rattle.liq_header.proofs.Versions.{one_version}
+use Rattle.liq_disk_header.proofs.Versions.{one_version}
 use Rattle.liq_journal.proofs.Heading.{forms_fit, form_found}
 use Rattle.liq_journal.proofs.Reading.{piece_alike, byte_alike, number_alike}
 use Rattle.liq_journal.proofs.Told.{if_some, if_both}

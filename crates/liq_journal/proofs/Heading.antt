@@ -8,10 +8,10 @@ use Rattle.liq_wire.specs.Fields.{first_place}
 use Rattle.liq_journal.specs.declared.damage.What.{What}
 use Rattle.liq_journal.specs.declared.damage.What.TheVariants.{Form}
 use Rattle.liq_journal.specs.Records.{records}
-use Rattle.liq_header.specs.Layout.{Layout, layout_with, layout_named, layout_on, fields_size, header_size, least_header, piece, generation_on, size_on, start_on, checkpoint_on, header_digest}
-use Rattle.liq_header.specs.Header.{is_generation, is_size, is_absent}
+use Rattle.liq_disk_header.specs.Layout.{Layout, layout_with, layout_named, layout_on, fields_size, header_size, least_header, piece, generation_on, size_on, start_on, checkpoint_on, header_digest}
+use Rattle.liq_disk_header.specs.Header.{is_generation, is_size, is_absent}
 use Rattle.liq_journal.specs.Written.{first_fault, forms_then, header_tests, record_on, Written, Found, Absent, Damaged, Open, with_command, found_record, found_records, found_behind, most_records, found_in, found_on, and_then, start_of}
-use Rattle.liq_header.proofs.Versions.{one_version}
+use Rattle.liq_disk_header.proofs.Versions.{one_version}
 use Rattle.liq_journal.proofs.Reading.{piece_alike, byte_alike, length_alike, number_alike}
 
 abbrev pub AreFalse : List (Bool × What) → Type 0

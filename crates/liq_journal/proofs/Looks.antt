@@ -2,8 +2,8 @@
 use Rattle.std.proofs.Common.{◌≡◌, ℕ, ◌+◌, ◌-◌, ◌≤◌, List, ◌++◌, length, take, drop, Option, Some, None, IfSome, ◌∙◌, refl, sym, ap, subst, arith, take-append-drop, append_assoc, length-append, length-take}
 use Rattle.std.proofs.lemmas.List.{take-take, drop-take, drop-drop}
 use Rattle.sha2.specs.Sha256.{sha256}
-use Rattle.liq_header.specs.Layout.{header_digest, piece}
-use Rattle.liq_header.proofs.Hashed.{header_digest_is}
+use Rattle.liq_disk_header.specs.Layout.{header_digest, piece}
+use Rattle.liq_disk_header.proofs.Hashed.{header_digest_is}
 use Rattle.liq_outside.specs.At.{DiskAt}
 use Rattle.liq_outside.specs.Disk.{LeftNow, Looked}
 use Rattle.liq_outside.proofs.Moments.{chained, weaker, started}

@@ -7,7 +7,7 @@ use Rattle.liq_journal.specs.Records.{records}
 use Rattle.liq_journal.specs.declared.scanned.Scanned.{Scanned}
 use Rattle.liq_journal.specs.Written.{Written, Open, Absent, most_records, found_on, start_of, end_of}
 use Rattle.liq_journal.specs.Crash.{HasGate, SettleLeaves, Stands, beginning}
-use Rattle.liq_header.specs.Header.{is_odd}
+use Rattle.liq_disk_header.specs.Header.{is_odd}
 use Rattle.liq_journal.specs.Settled.{IsSettled}
 use Rattle.liq_journal.specs.Opened.{IsScanOf, OpenLeaves, AbsentLeaves}
 use Rattle.liq_journal.proofs.Reading.{records_long, records_few}

@@ -5,7 +5,7 @@ use Rattle.std.proofs.lemmas.Bool.Decides.{nat_tests}
 use Rattle.std.proofs.lemmas.List.{take-take, take_at, take_min, drop-drop}
 use Rattle.liq_journal.specs.Looked.{IsRead}
 use Rattle.liq_journal.specs.Parts.{Part, IsPartOf, bytes_from}
-use Rattle.liq_header.specs.Layout.{piece}
+use Rattle.liq_disk_header.specs.Layout.{piece}
 use Rattle.liq_journal.proofs.Reading.{piece_alike}
 use Rattle.liq_journal.proofs.Told.{if_some}
 

@@ -6,7 +6,7 @@ use Rattle.byteorder.specs.Endian.{big_number}
 use Rattle.byteorder.specs.Numbers.{big_from-take}
 use Rattle.liq_wire.specs.Fields.{number_at}
 use Rattle.liq_journal.specs.Records.{begins_whole, records}
-use Rattle.liq_header.specs.Layout.{piece}
+use Rattle.liq_disk_header.specs.Layout.{piece}
 use Rattle.std.proofs.lemmas.Bool.{cases_Bool}
 
 pub records_whole : (most : ℕ) (bytes : List ℕ) → begins_whole bytes ≡ true → records (suc most) bytes

@@ -3,7 +3,7 @@ use Rattle.std.proofs.Common.{◌≡◌, ◌⊎◌, inl, ℕ, ◌+◌, ◌≤◌
 use Rattle.std.specs.Str.{bytes_eq}
 use Rattle.std.proofs.lemmas.Bool.Decides.{nat_tests}
 use Rattle.liq_journal.specs.declared.damage.What.TheVariants.{Digest, Form}
-use Rattle.liq_header.specs.declared.head.Head.{Head}
+use Rattle.liq_disk_header.specs.declared.head.Head.{Head}
 use Rattle.liq_journal.specs.declared.scanned.Scanned.{Scanned}
 use Rattle.liq_journal.specs.declared.answers.LookFault.{LookFault}
 use Rattle.liq_journal.specs.declared.answers.LookFault.TheVariants as look
@@ -13,9 +13,9 @@ use Rattle.liq_journal.specs.declared.damage.Damage.{Damage}
 use Rattle.liq_journal.specs.Header.{IsHeadOf, IsSoundHeadOf, MaybeHeadOf, MaybeSoundHeadOf, IsDamageOf}
 use Rattle.liq_journal.specs.Opened.{IsScanOf, IsWhyOf, why_of}
 use Rattle.liq_journal.specs.Counted.{AreRecords, IsFaultIn}
-use Rattle.liq_header.specs.Layout.{Layout, layout_on, layout_with, fields_size, header_size, piece, start_on, digest_on, header_digest}
+use Rattle.liq_disk_header.specs.Layout.{Layout, layout_on, layout_with, fields_size, header_size, piece, start_on, digest_on, header_digest}
 use Rattle.liq_journal.specs.Written.{Open, first_fault, header_tests, last_tests}
-use Rattle.liq_header.specs.Header.{place_tests}
+use Rattle.liq_disk_header.specs.Header.{place_tests}
 use Rattle.liq_journal.proofs.Heading.{Headed, found_behind_it}
 use Rattle.liq_journal.proofs.Heading.{forms_fit}
 use Rattle.liq_journal.proofs.HeaderFound.{found_absent, found_damaged, look_damaged, look_open}

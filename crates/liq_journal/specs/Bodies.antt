@@ -3,10 +3,10 @@ use Rattle.std.specs.Prelude.{◌≡◌, ℕ, ◌+◌, ◌*◌, ◌-◌, List, l
 use Rattle.liq_types.specs.declared.requests.Command.{Command}
 use Rattle.liq_journal.specs.declared.answers.LookFault.{LookFault}
 use Rattle.liq_journal.specs.declared.answers.LookFault.TheVariants as fault
-use Rattle.liq_header.specs.Layout.{piece}
+use Rattle.liq_disk_header.specs.Layout.{piece}
 use Rattle.liq_journal.specs.Written.{Written, Open, found_on, record_on, start_of}
 use Rattle.liq_journal.specs.Crash.{IsBodyOf}
-use Rattle.liq_header.specs.Header.{is_odd}
+use Rattle.liq_disk_header.specs.Header.{is_odd}
 
 -- the journal of this generation whose records begin at this place
 pub record IsJournalOf (generation start : ℕ) (bytes : List ℕ) (w : Written) : Type 0 where

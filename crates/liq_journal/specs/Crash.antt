@@ -6,10 +6,10 @@ use Rattle.liq_outside.specs.Disk.{LeavesOnly, LeftNow, Only, Torn, overwritten}
 use Rattle.liq_types.specs.declared.amounts.TheConstants.{LIM}
 use Rattle.liq_types.specs.declared.requests.Command.{Command}
 use Rattle.liq_wire.specs.Fields.{command_of}
-use Rattle.liq_header.specs.Layout.{Layout, header_size, header_of, least_header}
+use Rattle.liq_disk_header.specs.Layout.{Layout, header_size, header_of, least_header}
 use Rattle.liq_journal.specs.Written.{is_rotate, Written, Open, found_on, opened}
 use Rattle.liq_journal.specs.Written.{EndsWith, and_then, end_of}
-pub use Rattle.liq_header.specs.Header.{is_odd}
+pub use Rattle.liq_disk_header.specs.Header.{is_odd}
 
 -- open with this, and a 0 behind the last record
 pub record Stands (odd : Bool) (bytes : List ℕ) (w : Written) : Type 0 where

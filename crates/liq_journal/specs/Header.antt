@@ -1,13 +1,13 @@
 -- What the header of a disk is found to be, before its digest is tested and behind it.
 use Rattle.std.specs.Prelude.{◌≡◌, ◌≤◌, ℕ, List, length, Bool, false, Option, Some, None, Ok, Err}
 use Rattle.liq_wire.specs.Fields.{first_place}
-use Rattle.liq_header.specs.declared.head.Head.{Head}
+use Rattle.liq_disk_header.specs.declared.head.Head.{Head}
 use Rattle.liq_journal.specs.Look.{look_on}
 use Rattle.liq_journal.specs.declared.answers.Look.TheVariants.{Absent}
 use Rattle.liq_journal.specs.declared.answers.LookFault.{LookFault}
 use Rattle.liq_journal.specs.declared.answers.LookFault.TheVariants as fault
-use Rattle.liq_header.specs.Layout.{Layout, layout_on, layout_with, start_on}
-use Rattle.liq_header.specs.Header.{HasFields, is_absent, place_tests}
+use Rattle.liq_disk_header.specs.Layout.{Layout, layout_on, layout_with, start_on}
+use Rattle.liq_disk_header.specs.Header.{HasFields, is_absent, place_tests}
 use Rattle.liq_journal.specs.Written.{first_fault, header_tests}
 
 -- an open header of this version, whose fields are right and whose checkpoint is there

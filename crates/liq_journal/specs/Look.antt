@@ -5,9 +5,9 @@ use Rattle.liq_journal.specs.declared.answers.Look.{Look}
 use Rattle.liq_journal.specs.declared.answers.Look.TheVariants.{Absent, Open}
 use Rattle.liq_journal.specs.declared.answers.LookFault.{LookFault}
 use Rattle.liq_journal.specs.declared.answers.LookFault.TheVariants.{Damaged}
-use Rattle.liq_header.specs.Layout.{Layout, layout_on, generation_on}
+use Rattle.liq_disk_header.specs.Layout.{Layout, layout_on, generation_on}
 use Rattle.liq_journal.specs.Written.{first_fault, header_tests}
-use Rattle.liq_header.specs.Header.{is_absent}
+use Rattle.liq_disk_header.specs.Header.{is_absent}
 
 -- what a look tells of a disk whose gate is open, by the first fault of its header
 abbrev pub look_behind : List ℕ → Option What → Result Look LookFault

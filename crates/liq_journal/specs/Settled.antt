@@ -2,7 +2,7 @@
 use Rattle.std.specs.Prelude.{◌≡◌, ℕ, List, length}
 use Rattle.liq_journal.specs.Written.{Written, start_of}
 use Rattle.liq_journal.specs.Crash.{Stands}
-use Rattle.liq_header.specs.Header.{is_odd}
+use Rattle.liq_disk_header.specs.Header.{is_odd}
 
 -- a disk, and what is known of the journal on it
 pub record JournalOn (D : Type 0) : Type 0 where

@@ -11,10 +11,10 @@ use Rattle.liq_outside.specs.Disk.{overwritten}
 use Rattle.liq_journal.specs.declared.damage.Damage.{Damage}
 use Rattle.liq_journal.specs.declared.damage.What.{What}
 use Rattle.liq_journal.specs.declared.damage.What.TheVariants.{Digest, Form}
-use Rattle.liq_header.specs.Header.{is_absent, place_tests}
-pub use Rattle.liq_header.specs.Header.{is_generation, is_odd, is_size}
-use Rattle.liq_header.specs.Layout.{Layout, layout_on, layout_with, header_size, generation_on, stored_on, checkpoint_on, start_on, digest_on}
-use Rattle.liq_header.specs.RecordDigest.{record_digest}
+use Rattle.liq_disk_header.specs.Header.{is_absent, place_tests}
+pub use Rattle.liq_disk_header.specs.Header.{is_generation, is_odd, is_size}
+use Rattle.liq_disk_header.specs.Layout.{Layout, layout_on, layout_with, header_size, generation_on, stored_on, checkpoint_on, start_on, digest_on}
+use Rattle.liq_disk_header.specs.RecordDigest.{record_digest}
 use Rattle.liq_journal.specs.Records.{records}
 
 -- the first fault of those whose test holds

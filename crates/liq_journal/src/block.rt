@@ -5,7 +5,7 @@ ghost use Rattle.liq_outside.specs.Disk.{Looked};
 ghost use Rattle.liq_outside.specs.Faults.{HasCause};
 ghost use Rattle.liq_journal.specs.Looked.{IsRead};
 ghost use Rattle.liq_journal.specs.Parts.{IsPartOf, bytes_from};
-ghost use Rattle.liq_header.specs.Layout.{piece};
+ghost use Rattle.liq_disk_header.specs.Layout.{piece};
 
 use crate::journal::RECORD_BYTES;
 use crate::reads::read_at;

@@ -5,12 +5,12 @@ ghost use Rattle.liq_outside.specs.Disk.{IsLater, LeavesOnly, LeftNow, Only, ove
 ghost use Rattle.liq_journal.specs.Called.{Called};
 ghost use Rattle.liq_journal.specs.Calls.{SettledIn, calls_behind, creating_calls};
 ghost use Rattle.liq_journal.specs.Crash.{CrashOfCreate, ReadsOfCreate, IsShut, Stands, beginning, filled};
-ghost use Rattle.liq_header.specs.Header.{is_odd, is_size};
-ghost use Rattle.liq_header.specs.Layout.{version_2};
+ghost use Rattle.liq_disk_header.specs.Header.{is_odd, is_size};
+ghost use Rattle.liq_disk_header.specs.Layout.{version_2};
 
 use crate::bytes::write_synced;
 use crate::gate::settle;
-use liq_header::{HEADER, header_bytes};
+use liq_disk_header::{HEADER, header_bytes};
 use liq_outside::{Disk, Failed};
 
 // Writes bytes behind the shut gate, unless there are none. No device call is made for none.

@@ -1,7 +1,7 @@
 //! A header read from a disk and tested.
 ghost use Rattle.std.specs.Prelude.{◌≡◌, ◌≤◌, true, IfOk, IfErr, IfSome};
 ghost use Rattle.liq_types.specs.Image.{IsLimit};
-ghost use Rattle.liq_header.specs.Header.{is_generation};
+ghost use Rattle.liq_disk_header.specs.Header.{is_generation};
 ghost use Rattle.liq_journal.specs.Causes.{CountsLook};
 ghost use Rattle.liq_journal.specs.Header.{IsDamageOf, MaybeHeadOf};
 ghost use Rattle.liq_journal.specs.declared.damage.What.TheVariants.{Form};
@@ -11,7 +11,7 @@ ghost use Rattle.liq_outside.specs.Disk.{Looked};
 use crate::answers::LookFault;
 use crate::damage::{Damage, What};
 use crate::reads::{count_bytes, read_at};
-use liq_header::{Head, header_size, is_absent, placed};
+use liq_disk_header::{Head, header_size, is_absent, placed};
 use liq_outside::Disk;
 
 // The header of the disk, if it is open: its fields, which are right, and whose checkpoint is

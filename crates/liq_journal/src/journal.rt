@@ -20,7 +20,7 @@ ghost use Rattle.liq_journal.specs.Called.{Called, Lasts};
 ghost use Rattle.liq_journal.specs.Calls.{SettledIn, creating_calls};
 ghost use Rattle.liq_journal.specs.Causes.{CauseOfOpen, Counted, CountsLook};
 ghost use Rattle.liq_journal.specs.Crash.{BeforeOrAfter, CrashOfCreate, IsBodyOf, ReadsOfCreate, Stands, beginning};
-ghost use Rattle.liq_header.specs.Header.{is_odd, is_generation, is_size};
+ghost use Rattle.liq_disk_header.specs.Header.{is_odd, is_generation, is_size};
 ghost use Rattle.liq_journal.specs.Opened.{CrashOfOpen, IsAtRest, IsKept, IsOpened, IsUnshut, IsWhyOf, ReadsOfOpen};
 ghost use Rattle.liq_journal.specs.Parts.{IsPartOf};
 ghost use Rattle.liq_journal.specs.Settled.{IsSettled};
@@ -33,7 +33,7 @@ use crate::create::make;
 use crate::open::open_on;
 use crate::records::{read_body, read_command};
 use crate::scanned::Scanned;
-use liq_header::{HEADER, record_bytes};
+use liq_disk_header::{HEADER, record_bytes};
 use liq_outside::Disk;
 use liq_types::Command;
 use liq_types::amounts::LIM;
@@ -58,7 +58,7 @@ pub struct Journal<D> {
 impl<D> Model for Journal<D> {
     ghost use Rattle.std.specs.Prelude.{◌≤◌};
     ghost use Rattle.liq_journal.specs.Opened.{CrashOfOpen, IsAtRest, IsKept, IsOpened, IsUnshut, IsWhyOf, ReadsOfOpen};
-    ghost use Rattle.liq_header.specs.Layout.{StartsWithin};
+    ghost use Rattle.liq_disk_header.specs.Layout.{StartsWithin};
     ghost use Rattle.liq_journal.specs.Settled.{JournalOn};
 
     ghost Value = { JournalOn D };

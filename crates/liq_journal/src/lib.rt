@@ -38,7 +38,7 @@ pub use answers::{CreateFault, DiskFault, Look, LookFault, OpenFault, OpenWhy};
 pub use block::Block;
 pub use damage::{Damage, What};
 pub use journal::Journal;
-pub use liq_header::header_size;
+pub use liq_disk_header::header_size;
 pub use looking::look;
 
 pub mod laws;

@@ -6,14 +6,14 @@ ghost use Rattle.liq_outside.specs.Faults.{HasCause};
 ghost use Rattle.liq_journal.specs.Causes.{CountsLook};
 ghost use Rattle.liq_journal.specs.Header.{IsDamageOf, MaybeSoundHeadOf};
 ghost use Rattle.liq_journal.specs.Look.{look_on};
-ghost use Rattle.liq_header.specs.Header.{is_generation};
-ghost use Rattle.liq_header.specs.Layout.{header_digest, piece};
+ghost use Rattle.liq_disk_header.specs.Header.{is_generation};
+ghost use Rattle.liq_disk_header.specs.Layout.{header_digest, piece};
 
 use crate::answers::{Look, LookFault};
 use crate::damage::{Damage, What};
 use crate::header::read_header;
 use crate::reads::{PIECE_BYTES, read_at};
-use liq_header::{Head, fields_size, header_size};
+use liq_disk_header::{Head, fields_size, header_size};
 use liq_outside::{Disk, Failed};
 use sha2::{Digest, Sha256};
 

@@ -9,9 +9,9 @@ ghost use Rattle.liq_journal.specs.Called.{Called, Lasts};
 ghost use Rattle.liq_journal.specs.Causes.{CountsOpen};
 ghost use Rattle.liq_journal.specs.declared.damage.Damage.{Damage};
 ghost use Rattle.liq_journal.specs.Opened.{AbsentLeaves, IsAtRest, IsKept, IsScanOf, IsUnshut, IsWhyOf, OpenLeaves, why_of};
-ghost use Rattle.liq_header.specs.Layout.{StartsWithin, piece};
+ghost use Rattle.liq_disk_header.specs.Layout.{StartsWithin, piece};
 ghost use Rattle.liq_journal.specs.Written.{Open, Written, found_on};
-ghost use Rattle.liq_header.specs.Header.{is_generation};
+ghost use Rattle.liq_disk_header.specs.Header.{is_generation};
 
 use crate::answers::{LookFault, OpenWhy};
 use crate::bytes::write_synced;
@@ -21,7 +21,7 @@ use crate::looking::sound_header;
 use crate::reads::{PIECE_BYTES, read_at};
 use crate::records::count_records;
 use crate::scanned::Scanned;
-use liq_header::header_size;
+use liq_disk_header::header_size;
 use liq_outside::{Disk, Failed};
 use std::alloc::Global;
 

@@ -10,14 +10,14 @@ ghost use Rattle.liq_outside.specs.Disk.{Looked};
 ghost use Rattle.liq_journal.specs.Parts.{IsPartOf};
 ghost use Rattle.liq_journal.specs.Crash.{IsBodyOf};
 ghost use Rattle.liq_journal.specs.Tested.{IsBodyRead, IsFaultOf, IsFaultRead, IsTested};
-ghost use Rattle.liq_header.specs.Layout.{piece, start_most};
+ghost use Rattle.liq_disk_header.specs.Layout.{piece, start_most};
 ghost use Rattle.liq_journal.specs.Written.{record_on};
 
 use crate::answers::LookFault;
 use crate::block::Block;
 use crate::damage::{Damage, What};
 use crate::reads::read_at;
-use liq_header::record_digest;
+use liq_disk_header::record_digest;
 use liq_outside::Disk;
 use liq_types::{Call, Command};
 use liq_wire::decode;

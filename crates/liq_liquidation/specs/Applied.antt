@@ -10,7 +10,7 @@ use Rattle.liq_types.specs.Tables.{at}
 use Rattle.liq_tables.specs.WithRoom.{WithRoom, HasRoom}
 use Rattle.liq_ledger.specs.declared.pools.Pools.{Pools}
 use Rattle.liq_troves.specs.Standing.{Books, TrovesStand}
-pub use Rattle.liq_standing.specs.Books.{books_kept}
+pub use Rattle.liq_trove_moves.specs.Books.{books_kept}
 use Rattle.liq_stability.specs.Words.{words_after, finished_by}
 use Rattle.liq_types.specs.declared.image.FinishedSum.{FinishedSum}
 use Rattle.liq_stability.specs.declared.words.PoolWords.{PoolWords}

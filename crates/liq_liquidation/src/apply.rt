@@ -8,7 +8,7 @@ ghost use Rattle.liq_types.specs.State.{surplus_in, wallet_in};
 ghost use Rattle.liq_types.specs.Tables.{at};
 ghost use Rattle.liq_troves.specs.Rows.{spread_rules};
 ghost use Rattle.liq_troves.specs.Standing.{TrovesStand, snap, spread};
-ghost use Rattle.liq_standing.specs.Books.{books_kept};
+ghost use Rattle.liq_trove_moves.specs.Books.{books_kept};
 ghost use Rattle.liq_stability.specs.Kept.{room_for};
 ghost use Rattle.liq_stability.specs.Words.{finished_with};
 ghost use Rattle.liq_liquidation.specs.Applied.{HasRoomFor, IsPlannedOn, StayWithin, finished_in, pools_left, words_left};
@@ -18,7 +18,7 @@ use crate::one::{One, Victim};
 use liq_ledger::{Pools, Surplus, Wallets};
 use liq_order::Order;
 use liq_stability::Stability;
-use liq_standing::lift;
+use liq_trove_moves::lift;
 use liq_troves::Troves;
 use liq_types::amounts::{LIM, RESERVE};
 

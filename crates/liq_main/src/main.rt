@@ -2,7 +2,7 @@
 //! which it runs.
 #![tactic(auto)]
 
-use liq_files::{Outside, disks, no_disks, standard_output};
+use liq_disk_files::{Outside, disks, no_disks, standard_output};
 use liq_outside::{StdSink, StdSource};
 use liq_serve::{OpenGate, protocol, takes_disks, without_words};
 use std::fs::{File, Files};

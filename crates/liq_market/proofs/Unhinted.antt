@@ -9,10 +9,10 @@ use Rattle.liq_types.specs.declared.requests.Request.TheVariants.{Do}
 use Rattle.liq_types.specs.State.{State}
 use Rattle.liq_core.specs.Core.{Core, StandsFor}
 use Rattle.liq_core.proofs.HintsAside.{ruling_same}
-use Rattle.liq_rules.specs.Lists.{CallPlansList}
-use Rattle.liq_rules.specs.Memory.{TakesMemory}
-use Rattle.liq_rules.specs.Verbs.{unhinted, unhinted_call}
-use Rattle.liq_rules.proofs.Runs.{hints_idle}
+use Rattle.liq_rule_step.specs.Lists.{CallPlansList}
+use Rattle.liq_rule_step.specs.Memory.{TakesMemory}
+use Rattle.liq_rule_step.specs.Verbs.{unhinted, unhinted_call}
+use Rattle.liq_rule_step.proofs.Runs.{hints_idle}
 use Rattle.liq_market.specs.Answering.{Answers}
 use Rattle.liq_market.specs.Touching.{touched_after}
 

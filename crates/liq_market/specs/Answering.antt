@@ -8,9 +8,9 @@ use Rattle.liq_types.specs.declared.requests.Request.{Request}
 use Rattle.liq_types.specs.declared.requests.Request.TheVariants.{Do}
 use Rattle.liq_types.specs.State.{State}
 use Rattle.liq_core.specs.Core.{Core, StandsFor}
-use Rattle.liq_rules.specs.Lists.{PlansList}
-use Rattle.liq_rules.specs.Memory.{TakesMemory}
-use Rattle.liq_rules.specs.Step.{step}
+use Rattle.liq_rule_step.specs.Lists.{PlansList}
+use Rattle.liq_rule_step.specs.Memory.{TakesMemory}
+use Rattle.liq_rule_step.specs.Step.{step}
 
 -- a call as a command of a client, under this number
 abbrev pub numbered : ℕ → ℕ → Call → Request

@@ -3,7 +3,7 @@
 
 ghost use Rattle.std.specs.Prelude.{◌≡◌, ◌+◌, ◌<◌, ◌≤◌, ◌++◌, ◌∷◌, [], length, take};
 ghost use Rattle.std.specs.Prelude.{vec_capacity, vec_len};
-ghost use Rattle.liq_rules.specs.Step.{accounts};
+ghost use Rattle.liq_rule_step.specs.Step.{accounts};
 ghost use Rattle.liq_market.specs.Touching.{moved, others, touched};
 
 use liq_types::{Call, ListChange};

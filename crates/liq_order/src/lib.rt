@@ -10,7 +10,7 @@
 //! The nodes lie in one piece of memory, `cells`; a node that left is free for the next that comes.
 //! `accounts` has the place of each account's node. A hint names an account beside the new place:
 //! with a tight one an insertion takes at most four steps, with any other as many more as there are
-//! entries. There is no search by key here: `liq_guide` has one.
+//! entries. There is no search by key here: `liq_list_index` has one.
 #![tactic(auto)]
 
 mod accounts;

@@ -10,8 +10,8 @@
 //! ```text
 //! moment  0 -- write --> 1 -- write --> 2 -- sync --> 3
 //! a stop  |              |              |             |
-//! leaves  the bytes      any part       any parts     the bytes,
-//!         of then        of the write   of both       both writes in them
+//! leaves  the bytes      any bytes      any bytes     the bytes,
+//!         of then        in its range   in both       both writes in them
 //! ```
 //!
 //! What a stop at a moment may leave, told once, stays told: no later call takes it back.

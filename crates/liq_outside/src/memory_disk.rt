@@ -151,7 +151,7 @@ impl Disk for MemoryDisk {
         let at = place as usize;
         if self.schedule.begin() {
             self.schedule.fault();
-            // A crash may leave any part of the bytes all the same.
+            // A crash may leave any bytes in its range all the same.
             note_try(&mut self.made, at, bytes.len());
             return Err(Failed);
         }

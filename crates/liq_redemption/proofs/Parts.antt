@@ -13,7 +13,7 @@ use Rattle.std.specs.Prelude.{option_map, IsSome}
 use Rattle.liq_tables.specs.WithRoom.{WithRoom}
 use Rattle.liq_troves.specs.Kept.{Kept}
 use Rattle.liq_order.specs.Listed.{Listed}
-use Rattle.liq_standing.specs.Books.{books_kept, pools_with}
+use Rattle.liq_trove_moves.specs.Books.{books_kept, pools_with}
 
 -- parts are the same where each of them is
 pub same_parts : (p q : Parts) → p.sums ≡ q.sums → p.troves ≡ q.troves → p.pools ≡ q.pools → p.surplus ≡ q.surplus

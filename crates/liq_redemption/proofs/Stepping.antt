@@ -8,7 +8,7 @@ use Rattle.liq_types.specs.declared.figures.Wallet.{Wallet}
 use Rattle.liq_types.specs.Ranked.{Ranked}
 use Rattle.liq_types.specs.Rules.{first_refusal}
 use Rattle.liq_types.proofs.Tests.{made_by}
-use Rattle.liq_standing.specs.Steps.{TakesFew}
+use Rattle.liq_trove_moves.specs.Steps.{TakesFew}
 use Rattle.liq_redemption.specs.declared.cut.Cut.{Cut}
 use Rattle.liq_redemption.specs.declared.planning.RedeemPlan.{RedeemPlan}
 use Rattle.liq_redemption.specs.Given.{IsPlannedOn}

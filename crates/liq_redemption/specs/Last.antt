@@ -3,7 +3,7 @@
 use Rattle.std.specs.Prelude.{◌≡◌, ℕ, ◌+◌, ◌≤◌, true, List, [], ◌∷◌, length, Option, None}
 use Rattle.liq_types.specs.declared.hints.Hint.{Hint}
 use Rattle.liq_types.specs.Ranked.{Ranked}
-use Rattle.liq_standing.specs.Steps.{entry_in, TakesFew}
+use Rattle.liq_trove_moves.specs.Steps.{entry_in, TakesFew}
 use Rattle.liq_redemption.specs.declared.cut.Cut.{Cut}
 
 -- the entry of the last one in a list

@@ -17,7 +17,7 @@ use Rattle.liq_troves.specs.Standing.{Books, lift, place}
 use Rattle.liq_order.specs.Listed.{Listed}
 use Rattle.liq_redemption.specs.declared.cut.Cut.{Cut}
 use Rattle.liq_redemption.specs.Redemption.{RedeemTerms}
-use Rattle.liq_standing.specs.Books.{books_with, pools_with, pools_of}
+use Rattle.liq_trove_moves.specs.Books.{books_with, pools_with, pools_of}
 
 -- the sums and the troves, the pools, what owners may claim, and the ordered list
 pub record Parts : Type 0 where

@@ -10,8 +10,8 @@ use Rattle.liq_types.specs.declared.replies.Reply.TheVariants.{Told}
 use Rattle.liq_types.specs.declared.requests.Query.TheVariants as query
 use Rattle.liq_types.specs.State.{State}
 use Rattle.liq_stability.specs.Position.{deposit_row}
-use Rattle.liq_rules.proofs.AlikeReads.{Alike, balance_alike, gain_alike, sums_by}
-use Rattle.liq_rules.proofs.AlikeReplies.{answer_alike}
+use Rattle.liq_rule_step.proofs.AlikeReads.{Alike, balance_alike, gain_alike, sums_by}
+use Rattle.liq_rule_step.proofs.AlikeReplies.{answer_alike}
 use Rattle.liq_report.specs.Report.{deposit_text, deposits_text, pool_text, report_text, system_text, trove_text, troves_text}
 use Rattle.liq_report.specs.Texts.{list_text, object_text, string_text}
 use Rattle.liq_report.specs.declared.objects.Totals.{Totals}

@@ -16,10 +16,10 @@ use Rattle.liq_types.specs.Tables.{at}
 use Rattle.liq_types.specs.WellFormed.{Ascends}
 use Rattle.liq_types.proofs.MapRows.{at-map}
 use Rattle.liq_troves.specs.StakeSums.{trove_row, trove_rows}
-use Rattle.liq_rules.specs.Queries.{answer, deposit_info, trove_info}
-use Rattle.liq_soundness.specs.SoundState.{IsSoundState}
-use Rattle.liq_soundness.proofs.SoundFacts.{KeysBelow}
-use Rattle.liq_soundness.proofs.SoundTests.{sound_facts}
+use Rattle.liq_rule_step.specs.Queries.{answer, deposit_info, trove_info}
+use Rattle.liq_rule_sound.specs.SoundState.{IsSoundState}
+use Rattle.liq_rule_sound.proofs.SoundFacts.{KeysBelow}
+use Rattle.liq_rule_sound.proofs.SoundTests.{sound_facts}
 use Rattle.liq_report.specs.Values.{deposit_at, deposit_in, position, standing, trove_at, trove_in}
 
 below : (account : ℕ) → account < ACCOUNTS → nat_le ACCOUNTS account ≡ false

@@ -10,7 +10,7 @@ use Rattle.liq_troves.specs.Rows.{entire_by}
 use Rattle.liq_troves.specs.StakeSums.{sums_words, trove_rows}
 use Rattle.liq_stability.specs.Position.{balance_of, gain_of}
 use Rattle.liq_stability.specs.Words.{pool_words}
-use Rattle.liq_rules.specs.Queries.{mode}
+use Rattle.liq_rule_step.specs.Queries.{mode}
 use Rattle.liq_report.specs.Texts.{list_text, object_text, string_text}
 
 -- an account's deposit: what is left of it, and what it has gained

@@ -13,7 +13,7 @@ use Rattle.liq_troves.specs.StakeSums.{sums_words, trove_rows}
 use Rattle.liq_stability.specs.declared.words.PoolWords.{PoolWords}
 use Rattle.liq_stability.specs.Position.{balance_of, gain_of}
 use Rattle.liq_stability.specs.Words.{pool_words}
-use Rattle.liq_rules.specs.Queries.{mode}
+use Rattle.liq_rule_step.specs.Queries.{mode}
 use Rattle.liq_report.specs.declared.objects.Totals.{Totals}
 use Rattle.serde_json.specs.Data.{Data, Members, array, member, no_members, number, object, string, unsigned}
 use Rattle.serde_json.specs.View.{items_of}

@@ -4,7 +4,7 @@
 ghost use Rattle.std.specs.Prelude.{◌≡◌};
 ghost use Rattle.liq_types.specs.State.{State};
 ghost use Rattle.liq_types.specs.WellFormed.{IsWellFormed};
-ghost use Rattle.liq_rules.specs.Image.{IsSameState};
+ghost use Rattle.liq_rule_step.specs.Image.{IsSameState};
 ghost use Rattle.liq_report.specs.Report.{report_text};
 
 /// States that the rules can reach have one report where their images and their counts of records

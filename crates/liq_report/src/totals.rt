@@ -3,7 +3,7 @@
 ghost use Rattle.std.specs.Prelude.{◌≡◌, OnOk};
 ghost use Rattle.liq_types.specs.State.{State};
 ghost use Rattle.liq_stability.specs.Words.{pool_words};
-ghost use Rattle.liq_rules.specs.Queries.{system};
+ghost use Rattle.liq_rule_step.specs.Queries.{system};
 ghost use Rattle.liq_core.specs.Core.{state_of};
 ghost use Rattle.serde_json.specs.Events.{SendsValue};
 ghost use Rattle.liq_report.specs.Told.{system_words};

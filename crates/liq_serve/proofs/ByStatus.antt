@@ -5,14 +5,14 @@ use Rattle.liq_outside.specs.At.{DiskAt, SinkAt, SourceAt}
 use Rattle.liq_outside.specs.Disk.{GoesOn}
 use Rattle.liq_outside.proofs.Moments.{unmoved}
 use Rattle.liq_store.specs.Causes.{counts_of}
-use Rattle.liq_words.specs.declared.words.Word.{Word}
-use Rattle.liq_words.specs.Words.{Ask}
-use Rattle.liq_ends.specs.declared.halts.Halt.{Halt}
-use Rattle.liq_ends.specs.declared.halts.Halt.TheVariants.{BadLine, ReadFault, WriteFault, DiskFault, Damaged, DamagedInput, NoMemory, Limit, Rotated}
-use Rattle.liq_ends.specs.Causes.{HasCauses}
-use Rattle.liq_ends.specs.Outside.{Outside}
-use Rattle.liq_ends.specs.Statuses.{status_of}
-use Rattle.liq_ends.proofs.Causes.{disk_causes, sink_causes, six, source_causes}
+use Rattle.liq_word_line.specs.declared.words.Word.{Word}
+use Rattle.liq_word_line.specs.Words.{Ask}
+use Rattle.liq_word_exit.specs.declared.halts.Halt.{Halt}
+use Rattle.liq_word_exit.specs.declared.halts.Halt.TheVariants.{BadLine, ReadFault, WriteFault, DiskFault, Damaged, DamagedInput, NoMemory, Limit, Rotated}
+use Rattle.liq_word_exit.specs.Causes.{HasCauses}
+use Rattle.liq_word_exit.specs.Outside.{Outside}
+use Rattle.liq_word_exit.specs.Statuses.{status_of}
+use Rattle.liq_word_exit.proofs.Causes.{disk_causes, sink_causes, six, source_causes}
 use Rattle.liq_serve.specs.ByStatus.{ByStatus}
 use Rattle.liq_serve.specs.Top.{Ends}
 use Rattle.liq_serve.proofs.Asking.{asks_or_not}

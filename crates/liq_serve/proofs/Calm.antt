@@ -7,37 +7,37 @@ use Rattle.liq_outside.specs.Faults.{Rose}
 use Rattle.liq_types.specs.declared.amounts.TheConstants.{LINES_MOST}
 use Rattle.liq_types.specs.declared.requests.Request.{Request}
 use Rattle.liq_types.specs.State.{State, opening_with}
-use Rattle.liq_rules.specs.History.{Entry}
-use Rattle.liq_lines.specs.declared.stops.Stop.TheVariants as stop
+use Rattle.liq_rule_step.specs.History.{Entry}
+use Rattle.liq_text_lines.specs.declared.stops.Stop.TheVariants as stop
 use Rattle.liq_types.specs.declared.requests.Command.{Command}
 use Rattle.liq_fees.specs.Lines as stakes
-use Rattle.liq_staking.specs.Staked.{staked_text}
+use Rattle.liq_text_staking.specs.Staked.{staked_text}
 use Rattle.liq_rewards.specs.Lines as tags
-use Rattle.liq_rewarding.specs.Rewarded.{rewarded_text}
-use Rattle.liq_lines.specs.Lines.{lines_in}
-use Rattle.liq_lines.specs.Reading.{Reads}
-use Rattle.liq_lines.proofs.Sayings.{stops_outside}
-use Rattle.liq_pairs.specs.Pair.{commands_on, state_on}
-use Rattle.liq_pairs.specs.Past.{Fault, NoFault}
-use Rattle.liq_pairs.specs.Replay.{replay}
-use Rattle.liq_scripts.specs.Asked.{Asks}
-use Rattle.liq_words.specs.declared.words.Word.TheVariants as word
-use Rattle.liq_words.specs.Words.{Ask}
-use Rattle.liq_ends.specs.declared.halts.Halt.{Halt}
-use Rattle.liq_ends.specs.declared.halts.Halt.TheVariants.{BadLine, ReadFault, WriteFault, DiskFault, Damaged, DamagedInput, NoMemory, Limit, Rotated}
-use Rattle.liq_ends.specs.Reading.{ReadsTo}
-use Rattle.liq_ends.specs.Statuses.{End, IsDone, status_of}
-use Rattle.liq_ends.specs.Stops.{EndsAfter}
+use Rattle.liq_text_rewards.specs.Rewarded.{rewarded_text}
+use Rattle.liq_text_lines.specs.Lines.{lines_in}
+use Rattle.liq_text_lines.specs.Reading.{Reads}
+use Rattle.liq_text_lines.proofs.Sayings.{stops_outside}
+use Rattle.liq_disk_pair.specs.Pair.{commands_on, state_on}
+use Rattle.liq_disk_pair.specs.Past.{Fault, NoFault}
+use Rattle.liq_disk_pair.specs.Replay.{replay}
+use Rattle.liq_text_scripts.specs.Asked.{Asks}
+use Rattle.liq_word_line.specs.declared.words.Word.TheVariants as word
+use Rattle.liq_word_line.specs.Words.{Ask}
+use Rattle.liq_word_exit.specs.declared.halts.Halt.{Halt}
+use Rattle.liq_word_exit.specs.declared.halts.Halt.TheVariants.{BadLine, ReadFault, WriteFault, DiskFault, Damaged, DamagedInput, NoMemory, Limit, Rotated}
+use Rattle.liq_word_exit.specs.Reading.{ReadsTo}
+use Rattle.liq_word_exit.specs.Statuses.{End, IsDone, status_of}
+use Rattle.liq_word_exit.specs.Stops.{EndsAfter}
 use Rattle.liq_text.specs.Spelling.{Spells}
 use Rattle.liq_store.specs.Causes.{OneRose, counts_of}
-use Rattle.liq_tell.specs.Answers.{IsAnswerOf}
-use Rattle.liq_tell.proofs.Audited.{no_limit}
+use Rattle.liq_word_state.specs.Answers.{IsAnswerOf}
+use Rattle.liq_word_state.proofs.Audited.{no_limit}
 use Rattle.liq_follower.specs.Fed.{GoOn}
-use Rattle.liq_follow.specs.declared.feeding.TheConstants.{FED_MOST}
-use Rattle.liq_follow.specs.Followed.{FollowsTo}
-use Rattle.liq_follow.proofs.Ended.{damaged_so, long_so, turned_so, whole_so}
+use Rattle.liq_word_follow.specs.declared.feeding.TheConstants.{FED_MOST}
+use Rattle.liq_word_follow.specs.Followed.{FollowsTo}
+use Rattle.liq_word_follow.proofs.Ended.{damaged_so, long_so, turned_so, whole_so}
 use Rattle.liq_serve.specs.Calm.{AnswersFirst, IsComplete, RefusesLater}
-use Rattle.liq_ends.specs.Outside.{Outside}
+use Rattle.liq_word_exit.specs.Outside.{Outside}
 use Rattle.liq_serve.specs.Top.{Answers, AnswersLines, Ends, OpensNone, ServesTo, StopsUnopened, Tells, TellsFound}
 use Rattle.liq_serve.proofs.ByStatus.{by_status}
 use Rattle.liq_serve.proofs.Found.{found_of}

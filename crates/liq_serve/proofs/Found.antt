@@ -7,20 +7,20 @@ use Rattle.liq_types.specs.State.{State}
 use Rattle.liq_types.specs.declared.requests.Command.{Command}
 use Rattle.liq_journal.specs.declared.damage.Damage.{Damage}
 use Rattle.liq_journal.specs.declared.damage.What.TheVariants.{Form}
-use Rattle.liq_pairs.specs.declared.side.Side.{Side}
-use Rattle.liq_pairs.specs.declared.side.Side.TheVariants.{Left}
-use Rattle.liq_pairs.specs.Pair.{commands_on, state_on}
-use Rattle.liq_ends.specs.declared.halts.Halt.{Halt}
-use Rattle.liq_ends.specs.declared.halts.Halt.TheVariants.{BadLine, ReadFault, WriteFault, DiskFault, Damaged, DamagedInput, NoMemory, Limit, Rotated}
-use Rattle.liq_ends.specs.Causes.{DisksGoOn}
-use Rattle.liq_ends.specs.Disks.{DisksStay, EndsDamaged, IsFaultOfTelling, LeavesDamaged, LeavesOfRun, OfBoth, OfDamage, OfState}
-use Rattle.liq_ends.specs.Output.{last}
-use Rattle.liq_ends.specs.Statuses.{End, status_of}
-use Rattle.liq_ends.specs.Stops.{Adds, StopsDamaged}
-use Rattle.liq_ends.specs.Outside.{Outside}
-use Rattle.liq_ends.proofs.Opened.{some_of}
-use Rattle.liq_tell.specs.declared.telling.Told.{Told}
-use Rattle.liq_tell.specs.Told.{EndsSome, EndsTelling, FindsNone}
+use Rattle.liq_disk_pair.specs.declared.side.Side.{Side}
+use Rattle.liq_disk_pair.specs.declared.side.Side.TheVariants.{Left}
+use Rattle.liq_disk_pair.specs.Pair.{commands_on, state_on}
+use Rattle.liq_word_exit.specs.declared.halts.Halt.{Halt}
+use Rattle.liq_word_exit.specs.declared.halts.Halt.TheVariants.{BadLine, ReadFault, WriteFault, DiskFault, Damaged, DamagedInput, NoMemory, Limit, Rotated}
+use Rattle.liq_word_exit.specs.Causes.{DisksGoOn}
+use Rattle.liq_word_exit.specs.Disks.{DisksStay, EndsDamaged, IsFaultOfTelling, LeavesDamaged, LeavesOfRun, OfBoth, OfDamage, OfState}
+use Rattle.liq_word_exit.specs.Output.{last}
+use Rattle.liq_word_exit.specs.Statuses.{End, status_of}
+use Rattle.liq_word_exit.specs.Stops.{Adds, StopsDamaged}
+use Rattle.liq_word_exit.specs.Outside.{Outside}
+use Rattle.liq_word_exit.proofs.Opened.{some_of}
+use Rattle.liq_word_state.specs.declared.telling.Told.{Told}
+use Rattle.liq_word_state.specs.Told.{EndsSome, EndsTelling, FindsNone}
 use Rattle.liq_serve.specs.Top.{Finds, Tells, TellsFound, TellsState}
 
 -- ---- whether both disks tell their bytes

@@ -6,18 +6,18 @@ use Rattle.std.specs.List.{AllZip}
 use Rattle.liq_outside.specs.At.{DiskAt, SinkAt, SourceAt}
 use Rattle.liq_outside.specs.Faults.{Rose}
 use Rattle.liq_types.specs.declared.requests.Command.{Command}
-use Rattle.liq_gathered.specs.Gathering as lines
-use Rattle.liq_lines.specs.declared.stops.Stop.{Stop}
-use Rattle.liq_lines.specs.declared.stops.Stop.TheVariants as stop
-use Rattle.liq_lines.specs.Lines.{lines_in}
+use Rattle.liq_text_gather.specs.Gathering as lines
+use Rattle.liq_text_lines.specs.declared.stops.Stop.{Stop}
+use Rattle.liq_text_lines.specs.declared.stops.Stop.TheVariants as stop
+use Rattle.liq_text_lines.specs.Lines.{lines_in}
 use Rattle.liq_store.specs.Causes.{Faults}
-use Rattle.liq_ends.specs.Causes.{DiskCause, LastCause, ReadCause}
-use Rattle.liq_ends.specs.Output.{last}
-use Rattle.liq_ends.specs.Statuses.{End}
-use Rattle.liq_ends.specs.Stops.{Adds, TellsBehind}
-use Rattle.liq_tell.specs.Answers.{IsAnswerOf}
+use Rattle.liq_word_exit.specs.Causes.{DiskCause, LastCause, ReadCause}
+use Rattle.liq_word_exit.specs.Output.{last}
+use Rattle.liq_word_exit.specs.Statuses.{End}
+use Rattle.liq_word_exit.specs.Stops.{Adds, TellsBehind}
+use Rattle.liq_word_state.specs.Answers.{IsAnswerOf}
 use Rattle.liq_serve.specs.Finishing.{halt_at}
-use Rattle.liq_ends.specs.Outside.{Outside}
+use Rattle.liq_word_exit.specs.Outside.{Outside}
 use Rattle.liq_serve.specs.Top.{AnswersLines, TellsFound}
 use Rattle.liq_serve.proofs.Served.{read_so, stopping}
 

@@ -6,13 +6,13 @@ use Rattle.liq_outside.specs.At.{DiskAt, SinkAt, SourceAt}
 use Rattle.liq_outside.specs.Faults.{Rose}
 use Rattle.liq_types.specs.declared.requests.Request.{Request}
 use Rattle.liq_types.specs.State.{State, opening}
-use Rattle.liq_lines.specs.Writing.{Writes}
-use Rattle.liq_ends.specs.declared.halts.Halt.TheVariants.{BadLine, ReadFault, WriteFault, DiskFault, Damaged, DamagedInput, NoMemory, Limit, Rotated}
-use Rattle.liq_ends.specs.Disks.{OfBoth, OfDamage, OfState}
-use Rattle.liq_ends.specs.Output.{lines}
-use Rattle.liq_ends.specs.Statuses.{End}
-use Rattle.liq_ends.specs.Stops.{EndsIn, TellsBehind, WritesUpTo}
-use Rattle.liq_ends.specs.Outside.{Outside}
+use Rattle.liq_text_lines.specs.Writing.{Writes}
+use Rattle.liq_word_exit.specs.declared.halts.Halt.TheVariants.{BadLine, ReadFault, WriteFault, DiskFault, Damaged, DamagedInput, NoMemory, Limit, Rotated}
+use Rattle.liq_word_exit.specs.Disks.{OfBoth, OfDamage, OfState}
+use Rattle.liq_word_exit.specs.Output.{lines}
+use Rattle.liq_word_exit.specs.Statuses.{End}
+use Rattle.liq_word_exit.specs.Stops.{EndsIn, TellsBehind, WritesUpTo}
+use Rattle.liq_word_exit.specs.Outside.{Outside}
 use Rattle.liq_serve.specs.Top.{Finds, RunsTo}
 use Rattle.liq_serve.proofs.Found.{TellsDamage, damage_told, finds_by, of_told, of_untold}
 

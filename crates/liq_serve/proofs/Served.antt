@@ -11,45 +11,45 @@ use Rattle.liq_types.specs.State.{State, opening}
 use Rattle.liq_types.specs.declared.requests.Command.{Command}
 use Rattle.liq_types.specs.declared.requests.Request.{Request}
 use Rattle.liq_types.specs.declared.requests.Request.TheVariants.{Do}
-use Rattle.liq_rules.specs.History.{Entry, state_after}
-use Rattle.liq_rules.specs.Step as rule
-use Rattle.liq_rules.specs.Step.{Allowed, Ruling, after_ruling, ruling}
+use Rattle.liq_rule_step.specs.History.{Entry, state_after}
+use Rattle.liq_rule_step.specs.Step as rule
+use Rattle.liq_rule_step.specs.Step.{Allowed, Ruling, after_ruling, ruling}
 use Rattle.liq_journal.specs.declared.damage.Damage.{Damage}
 use Rattle.liq_journal.specs.Opened.{OpenLeaves}
-use Rattle.liq_pairs.specs.declared.side.Side.{Side}
-use Rattle.liq_pairs.specs.Kept.{IsKept}
-use Rattle.liq_pairs.specs.Pair.{state_on}
-use Rattle.liq_pairs.specs.Past.{AtCommand, Fault, InOpening, NoFault}
-use Rattle.liq_pairs.specs.Unfinished.{LeftLeaves}
-use Rattle.liq_lines.specs.declared.stops.Stop.{Stop}
-use Rattle.liq_lines.specs.declared.stops.Stop.TheVariants as stop
-use Rattle.liq_lines.specs.Lines.{lines_in}
-use Rattle.liq_lines.specs.Saying.{StopsAfter}
-use Rattle.liq_scripts.specs.Gathering as scripts
-use Rattle.liq_scripts.specs.Output.{served}
-use Rattle.liq_scripts.specs.Asked.{Asks}
-use Rattle.liq_scripts.specs.BySession.{script_of, scripts_of}
-use Rattle.liq_scripts.specs.Sessions.{sessions}
+use Rattle.liq_disk_pair.specs.declared.side.Side.{Side}
+use Rattle.liq_disk_pair.specs.Kept.{IsKept}
+use Rattle.liq_disk_pair.specs.Pair.{state_on}
+use Rattle.liq_disk_pair.specs.Past.{AtCommand, Fault, InOpening, NoFault}
+use Rattle.liq_disk_pair.specs.Unfinished.{LeftLeaves}
+use Rattle.liq_text_lines.specs.declared.stops.Stop.{Stop}
+use Rattle.liq_text_lines.specs.declared.stops.Stop.TheVariants as stop
+use Rattle.liq_text_lines.specs.Lines.{lines_in}
+use Rattle.liq_text_lines.specs.Saying.{StopsAfter}
+use Rattle.liq_text_scripts.specs.Gathering as scripts
+use Rattle.liq_text_scripts.specs.Output.{served}
+use Rattle.liq_text_scripts.specs.Asked.{Asks}
+use Rattle.liq_text_scripts.specs.BySession.{script_of, scripts_of}
+use Rattle.liq_text_scripts.specs.Sessions.{sessions}
 use Rattle.liq_sessions.specs.declared.script.Script.{Script}
-use Rattle.liq_serving.specs.Answered.{AreServedWhole, IsServedWhole, LacksMemory, answered_of}
-use Rattle.liq_serving.specs.declared.input.Finish.{Finish}
-use Rattle.liq_serving.specs.declared.input.Finish.TheVariants as finish
-use Rattle.liq_serving.specs.Input as serving
-use Rattle.liq_serving.specs.Input.{AnswersInput, AreAtRest, IsShown, Written, reading_of}
+use Rattle.liq_word_serve.specs.Answered.{AreServedWhole, IsServedWhole, LacksMemory, answered_of}
+use Rattle.liq_word_serve.specs.declared.input.Finish.{Finish}
+use Rattle.liq_word_serve.specs.declared.input.Finish.TheVariants as finish
+use Rattle.liq_word_serve.specs.Input as serving
+use Rattle.liq_word_serve.specs.Input.{AnswersInput, AreAtRest, IsShown, Written, reading_of}
 use Rattle.liq_store.specs.declared.answers.StoreWhy.{StoreWhy}
 use Rattle.liq_store.specs.declared.answers.StoreWhy.TheVariants as why
 use Rattle.liq_store.specs.Causes.{Faults}
 use Rattle.liq_store.specs.Keeping.{IsAtRest, IsKeptAround}
-use Rattle.liq_ends.specs.declared.halts.Halt.TheVariants.{BadLine, ReadFault, WriteFault, DiskFault, Damaged, NoMemory, Limit}
-use Rattle.liq_ends.specs.Causes.{DiskCause, ReadCause, WriteCause}
-use Rattle.liq_ends.specs.Disks.{DisksStay, EndsDamaged, IsFaultOfTelling, OfBoth}
-use Rattle.liq_ends.specs.Reading.{ReadsTo}
-use Rattle.liq_ends.specs.Statuses.{End, status_of}
-use Rattle.liq_ends.specs.Unsaid.{WritesAll}
-use Rattle.liq_ends.proofs.Causes.{six}
-use Rattle.liq_ends.proofs.Damaged.{left_opened}
+use Rattle.liq_word_exit.specs.declared.halts.Halt.TheVariants.{BadLine, ReadFault, WriteFault, DiskFault, Damaged, NoMemory, Limit}
+use Rattle.liq_word_exit.specs.Causes.{DiskCause, ReadCause, WriteCause}
+use Rattle.liq_word_exit.specs.Disks.{DisksStay, EndsDamaged, IsFaultOfTelling, OfBoth}
+use Rattle.liq_word_exit.specs.Reading.{ReadsTo}
+use Rattle.liq_word_exit.specs.Statuses.{End, status_of}
+use Rattle.liq_word_exit.specs.Unsaid.{WritesAll}
+use Rattle.liq_word_exit.proofs.Causes.{six}
+use Rattle.liq_word_exit.proofs.Damaged.{left_opened}
 use Rattle.liq_serve.specs.Finishing.{end_of, halt_at}
-use Rattle.liq_ends.specs.Outside.{Outside}
+use Rattle.liq_word_exit.specs.Outside.{Outside}
 use Rattle.liq_serve.specs.Top.{Answers, AreLeft, Finds, Keep, OpensNone, StopsUnopened, Tells}
 use Rattle.liq_serve.proofs.Found.{Untold, finds_by, of_told, of_untold}
 

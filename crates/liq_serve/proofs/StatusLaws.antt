@@ -6,28 +6,28 @@ use Rattle.liq_types.specs.declared.amounts.TheConstants.{LINES_MOST}
 use Rattle.liq_outside.specs.At.{DiskAt, SinkAt, SourceAt}
 use Rattle.liq_types.specs.declared.requests.Command.{Command}
 use Rattle.liq_types.specs.declared.requests.Request.{Request}
-use Rattle.liq_rules.specs.History.{Entry}
+use Rattle.liq_rule_step.specs.History.{Entry}
 use Rattle.liq_journal.specs.declared.damage.Damage.{Damage}
-use Rattle.liq_pairs.specs.declared.side.Side.{Side}
-use Rattle.liq_pairs.specs.Past.{Fault, NoFault}
-use Rattle.liq_ends.specs.declared.halts.Halt.TheVariants.{BadLine, ReadFault, WriteFault, DiskFault, Damaged, DamagedInput, NoMemory, Limit, Rotated}
-use Rattle.liq_ends.specs.Reading.{ReadsTo}
-use Rattle.liq_ends.specs.Disks.{EndsDamaged}
-use Rattle.liq_ends.specs.Outside.{Outside}
-use Rattle.liq_ends.specs.Statuses.{End, IsDone, status_of}
-use Rattle.liq_ends.specs.Stops.{EndsAfter}
+use Rattle.liq_disk_pair.specs.declared.side.Side.{Side}
+use Rattle.liq_disk_pair.specs.Past.{Fault, NoFault}
+use Rattle.liq_word_exit.specs.declared.halts.Halt.TheVariants.{BadLine, ReadFault, WriteFault, DiskFault, Damaged, DamagedInput, NoMemory, Limit, Rotated}
+use Rattle.liq_word_exit.specs.Reading.{ReadsTo}
+use Rattle.liq_word_exit.specs.Disks.{EndsDamaged}
+use Rattle.liq_word_exit.specs.Outside.{Outside}
+use Rattle.liq_word_exit.specs.Statuses.{End, IsDone, status_of}
+use Rattle.liq_word_exit.specs.Stops.{EndsAfter}
 use Rattle.liq_types.specs.State.{State}
-use Rattle.liq_ends.proofs.Causes.{six}
+use Rattle.liq_word_exit.proofs.Causes.{six}
 use Rattle.liq_text.specs.Spelling.{Spells}
-use Rattle.liq_lines.specs.Lines.{lines_in}
-use Rattle.liq_lines.specs.declared.stops.Stop.TheVariants as stop
-use Rattle.liq_lines.proofs.Sayings.{stops_outside}
-use Rattle.liq_words.specs.declared.words.Word.{Word}
-use Rattle.liq_words.specs.declared.words.Word.TheVariants as word
-use Rattle.liq_tell.specs.Audit.{IsAuditOf}
-use Rattle.liq_tell.specs.Report.{reported}
-use Rattle.liq_tell.specs.State.{standing}
-use Rattle.liq_follow.specs.Followed.{FollowsTo}
+use Rattle.liq_text_lines.specs.Lines.{lines_in}
+use Rattle.liq_text_lines.specs.declared.stops.Stop.TheVariants as stop
+use Rattle.liq_text_lines.proofs.Sayings.{stops_outside}
+use Rattle.liq_word_line.specs.declared.words.Word.{Word}
+use Rattle.liq_word_line.specs.declared.words.Word.TheVariants as word
+use Rattle.liq_word_state.specs.Audit.{IsAuditOf}
+use Rattle.liq_word_state.specs.Report.{reported}
+use Rattle.liq_word_state.specs.State.{standing}
+use Rattle.liq_word_follow.specs.Followed.{FollowsTo}
 use Rattle.liq_serve.specs.ByStatus.{statuses_of}
 use Rattle.liq_serve.specs.Top.{Answers, Leaves, OpensNone, ServesTo, StopsUnopened, TellsFound, TellsState}
 

@@ -3,19 +3,19 @@ use Rattle.std.proofs.Common.{◌≡◌, ◌≢◌, ◌<◌, ◌≤◌, ◌+◌,
 use Rattle.std.specs.Prelude.{◌⊎◌, Contains}
 use Rattle.liq_types.specs.declared.requests.Command.{Command}
 use Rattle.liq_types.specs.State.{State}
-use Rattle.liq_review.specs.Reviewed.{reviewed}
-use Rattle.liq_review.specs.declared.fault.ReviewFault.TheVariants as review
+use Rattle.liq_text_audit.specs.Reviewed.{reviewed}
+use Rattle.liq_text_audit.specs.declared.fault.ReviewFault.TheVariants as review
 use Rattle.liq_outside.specs.At.{DiskAt}
 use Rattle.liq_outside.proofs.Moments.{unmoved}
 use Rattle.liq_store.specs.Causes.{Faults, counts_of}
-use Rattle.liq_ends.specs.declared.halts.Halt.{Halt}
-use Rattle.liq_ends.specs.declared.halts.Halt.TheVariants.{BadLine, ReadFault, WriteFault, DiskFault, Damaged, DamagedInput, NoMemory, Limit, Rotated}
-use Rattle.liq_ends.specs.Causes.{DiskCause, DisksGoOn, ReadCause}
-use Rattle.liq_ends.specs.Statuses.{status_of}
-use Rattle.liq_ends.proofs.Causes.{unread_causes}
-use Rattle.liq_tell.specs.Audit.{IsAuditOf}
-use Rattle.liq_follow.specs.declared.feeding.TheConstants.{FED_MOST}
-use Rattle.liq_follow.specs.Followed.{FollowsTo}
+use Rattle.liq_word_exit.specs.declared.halts.Halt.{Halt}
+use Rattle.liq_word_exit.specs.declared.halts.Halt.TheVariants.{BadLine, ReadFault, WriteFault, DiskFault, Damaged, DamagedInput, NoMemory, Limit, Rotated}
+use Rattle.liq_word_exit.specs.Causes.{DiskCause, DisksGoOn, ReadCause}
+use Rattle.liq_word_exit.specs.Statuses.{status_of}
+use Rattle.liq_word_exit.proofs.Causes.{unread_causes}
+use Rattle.liq_word_state.specs.Audit.{IsAuditOf}
+use Rattle.liq_word_follow.specs.declared.feeding.TheConstants.{FED_MOST}
+use Rattle.liq_word_follow.specs.Followed.{FollowsTo}
 
 -- ---- of a load
 

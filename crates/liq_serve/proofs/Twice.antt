@@ -7,23 +7,23 @@ use Rattle.liq_types.specs.declared.requests.Command.{Command}
 use Rattle.liq_types.specs.declared.requests.Request.{Request}
 use Rattle.liq_types.specs.declared.requests.Request.TheVariants.{Do}
 use Rattle.liq_types.specs.State.{State}
-use Rattle.liq_rules.specs.Step.{Allowed, after, ruling, run}
-use Rattle.liq_rules.proofs.AlikeReads.{Alike}
-use Rattle.liq_rules.proofs.AlikeReplies.{run_alike}
-use Rattle.liq_pairs.specs.Kept.{IsKept}
-use Rattle.liq_pairs.specs.Pair.{state_on}
-use Rattle.liq_pairs.specs.Past.{AtCommand, Fault, InOpening, NoFault}
-use Rattle.liq_pairs.specs.Unfinished.{HoldsUnfinished, IsRecovered}
+use Rattle.liq_rule_step.specs.Step.{Allowed, after, ruling, run}
+use Rattle.liq_rule_step.proofs.AlikeReads.{Alike}
+use Rattle.liq_rule_step.proofs.AlikeReplies.{run_alike}
+use Rattle.liq_disk_pair.specs.Kept.{IsKept}
+use Rattle.liq_disk_pair.specs.Pair.{state_on}
+use Rattle.liq_disk_pair.specs.Past.{AtCommand, Fault, InOpening, NoFault}
+use Rattle.liq_disk_pair.specs.Unfinished.{HoldsUnfinished, IsRecovered}
 use Rattle.liq_store.specs.Keeping.{IsAtRest}
 use Rattle.liq_store.specs.Leaving.{RestAtEnd}
-use Rattle.liq_words.specs.declared.words.Word.TheVariants as word
-use Rattle.liq_words.specs.Words.{Ask}
-use Rattle.liq_ends.specs.declared.halts.Halt.TheVariants.{BadLine, ReadFault, WriteFault, DiskFault, Damaged, DamagedInput, NoMemory, Limit, Rotated}
-use Rattle.liq_ends.specs.Disks.{DisksHold, IsFaultOfRun, IsUnread}
-use Rattle.liq_ends.specs.Requests.{IsNext}
-use Rattle.liq_ends.proofs.Opened.{kept_again, some_of, state_formed}
-use Rattle.liq_ends.specs.Outside.{Outside}
-use Rattle.liq_ends.specs.Statuses.{End}
+use Rattle.liq_word_line.specs.declared.words.Word.TheVariants as word
+use Rattle.liq_word_line.specs.Words.{Ask}
+use Rattle.liq_word_exit.specs.declared.halts.Halt.TheVariants.{BadLine, ReadFault, WriteFault, DiskFault, Damaged, DamagedInput, NoMemory, Limit, Rotated}
+use Rattle.liq_word_exit.specs.Disks.{DisksHold, IsFaultOfRun, IsUnread}
+use Rattle.liq_word_exit.specs.Requests.{IsNext}
+use Rattle.liq_word_exit.proofs.Opened.{kept_again, some_of, state_formed}
+use Rattle.liq_word_exit.specs.Outside.{Outside}
+use Rattle.liq_word_exit.specs.Statuses.{End}
 use Rattle.liq_serve.specs.Top.{Ends, RunsTo}
 use Rattle.liq_serve.specs.Twice.{AreBehind, BeginsBehind, FollowOn}
 use Rattle.liq_serve.proofs.Found.{found_of}

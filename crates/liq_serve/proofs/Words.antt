@@ -7,41 +7,41 @@ use Rattle.liq_outside.specs.declared.showing.Showing.{Showing}
 use Rattle.liq_outside.specs.Disk.{LeftBetween, LeftNow, Only}
 use Rattle.liq_outside.specs.Faults.{Rose}
 use Rattle.liq_types.specs.State.{State, opening}
-use Rattle.liq_lines.specs.Lines.{lines_in}
+use Rattle.liq_text_lines.specs.Lines.{lines_in}
 use Rattle.liq_text.specs.Spelling.{Spells}
-use Rattle.liq_lines.specs.Reading.{ReadsAtMost}
-use Rattle.liq_lines.proofs.Bytes.{reads_nothing}
-use Rattle.liq_pairs.specs.Pair.{commands_on, state_on}
-use Rattle.liq_words.specs.declared.words.Word.{Word}
-use Rattle.liq_words.specs.declared.words.Word.TheVariants as word
-use Rattle.liq_arguments.specs.declared.reading.WordsFault.{WordsFault}
-use Rattle.liq_arguments.specs.declared.reading.WordsFault.TheVariants as fault
-use Rattle.liq_words.specs.Words.{Ask}
-use Rattle.liq_pairs.specs.Past.{NoFault}
-use Rattle.liq_pairs.specs.Kept.{IsKept}
-use Rattle.liq_ends.specs.declared.halts.Halt.TheVariants.{BadLine, ReadFault, WriteFault, DiskFault, Damaged, DamagedInput, NoMemory, Limit, Rotated}
-use Rattle.liq_ends.specs.Causes.{DisksGoOn, HasCauses, LastCause, ReadCause}
-use Rattle.liq_ends.specs.Disks.{DisksStay, IsFaultOfTelling, LeavesOfRun, OfBoth}
-use Rattle.liq_ends.specs.Output.{last, usage}
-use Rattle.liq_ends.specs.Reading.{ReadsTo}
-use Rattle.liq_ends.specs.Statuses.{End, status_of}
-use Rattle.liq_ends.specs.Stops.{Adds}
-use Rattle.liq_ends.proofs.Causes.{six, unread_causes}
-use Rattle.liq_ends.proofs.Damaged.{untouched_damaged}
-use Rattle.liq_ends.proofs.Opened.{standing_still, state_formed, untouched}
-use Rattle.liq_ends.proofs.Passing.{untouched_past}
-use Rattle.liq_ends.proofs.Shares.{all_shares}
+use Rattle.liq_text_lines.specs.Reading.{ReadsAtMost}
+use Rattle.liq_text_lines.proofs.Bytes.{reads_nothing}
+use Rattle.liq_disk_pair.specs.Pair.{commands_on, state_on}
+use Rattle.liq_word_line.specs.declared.words.Word.{Word}
+use Rattle.liq_word_line.specs.declared.words.Word.TheVariants as word
+use Rattle.liq_word_arguments.specs.declared.reading.WordsFault.{WordsFault}
+use Rattle.liq_word_arguments.specs.declared.reading.WordsFault.TheVariants as fault
+use Rattle.liq_word_line.specs.Words.{Ask}
+use Rattle.liq_disk_pair.specs.Past.{NoFault}
+use Rattle.liq_disk_pair.specs.Kept.{IsKept}
+use Rattle.liq_word_exit.specs.declared.halts.Halt.TheVariants.{BadLine, ReadFault, WriteFault, DiskFault, Damaged, DamagedInput, NoMemory, Limit, Rotated}
+use Rattle.liq_word_exit.specs.Causes.{DisksGoOn, HasCauses, LastCause, ReadCause}
+use Rattle.liq_word_exit.specs.Disks.{DisksStay, IsFaultOfTelling, LeavesOfRun, OfBoth}
+use Rattle.liq_word_exit.specs.Output.{last, usage}
+use Rattle.liq_word_exit.specs.Reading.{ReadsTo}
+use Rattle.liq_word_exit.specs.Statuses.{End, status_of}
+use Rattle.liq_word_exit.specs.Stops.{Adds}
+use Rattle.liq_word_exit.proofs.Causes.{six, unread_causes}
+use Rattle.liq_word_exit.proofs.Damaged.{untouched_damaged}
+use Rattle.liq_word_exit.proofs.Opened.{standing_still, state_formed, untouched}
+use Rattle.liq_word_exit.proofs.Passing.{untouched_past}
+use Rattle.liq_word_exit.proofs.Shares.{all_shares}
 use Rattle.liq_types.specs.declared.requests.Command.{Command}
 use Rattle.liq_fees.specs.Lines as stakes
-use Rattle.liq_staking.specs.Staked.{staked_text}
+use Rattle.liq_text_staking.specs.Staked.{staked_text}
 use Rattle.liq_rewards.specs.Lines as tags
-use Rattle.liq_rewarding.specs.Rewarded.{rewarded_text}
-use Rattle.liq_tell.specs.Audit.{IsAuditOf}
-use Rattle.liq_tell.specs.Report.{reported}
-use Rattle.liq_tell.specs.State.{standing}
-use Rattle.liq_ends.specs.Answered.{KeepsAnswered}
-use Rattle.liq_ends.specs.Outside.{Outside}
-use Rattle.liq_follow.proofs.Beginning.{none_goes_on}
+use Rattle.liq_text_rewards.specs.Rewarded.{rewarded_text}
+use Rattle.liq_word_state.specs.Audit.{IsAuditOf}
+use Rattle.liq_word_state.specs.Report.{reported}
+use Rattle.liq_word_state.specs.State.{standing}
+use Rattle.liq_word_exit.specs.Answered.{KeepsAnswered}
+use Rattle.liq_word_exit.specs.Outside.{Outside}
+use Rattle.liq_word_follow.proofs.Beginning.{none_goes_on}
 use Rattle.liq_serve.specs.Top.{AnswersLines, Ends, Finds, Leaves, RunsTo, ServesTo, Tells, TellsFound, TellsState, most_taken}
 use Rattle.liq_serve.proofs.Found.{Untold, finds_by, of_told, of_untold}
 use Rattle.liq_serve.proofs.Served.{if_found, neither}

@@ -5,9 +5,9 @@ use Rattle.liq_outside.specs.At.{DiskAt, SinkAt, SourceAt}
 use Rattle.liq_outside.specs.Disk.{GoesOn}
 use Rattle.liq_outside.specs.Faults.{Rose}
 use Rattle.liq_store.specs.Causes.{Faults, OneRose, counts_of}
-use Rattle.liq_words.specs.declared.words.Word.{Word}
-use Rattle.liq_words.specs.declared.words.Word.TheVariants as word
-use Rattle.liq_ends.specs.Outside.{Outside}
+use Rattle.liq_word_line.specs.declared.words.Word.{Word}
+use Rattle.liq_word_line.specs.declared.words.Word.TheVariants as word
+use Rattle.liq_word_exit.specs.Outside.{Outside}
 
 -- the exit statuses to which a word may come
 abbrev pub statuses_of : Word → List ℕ

@@ -6,26 +6,26 @@ use Rattle.liq_outside.specs.Faults.{Rose}
 use Rattle.liq_types.specs.declared.amounts.TheConstants.{LINES_MOST}
 use Rattle.liq_types.specs.declared.requests.Request.{Request}
 use Rattle.liq_types.specs.State.{State, opening_with}
-use Rattle.liq_rules.specs.Events.{events}
+use Rattle.liq_rule_step.specs.Events.{events}
 use Rattle.liq_fees.specs.Lines as stakes
 use Rattle.liq_rewards.specs.Lines as tags
-use Rattle.liq_lines.specs.Lines.{lines_in}
-use Rattle.liq_pairs.specs.Pair.{commands_on, state_on}
-use Rattle.liq_review.specs.Limits.{number_above}
-use Rattle.liq_scripts.specs.Asked.{Asks}
+use Rattle.liq_text_lines.specs.Lines.{lines_in}
+use Rattle.liq_disk_pair.specs.Pair.{commands_on, state_on}
+use Rattle.liq_text_audit.specs.Limits.{number_above}
+use Rattle.liq_text_scripts.specs.Asked.{Asks}
 use Rattle.liq_store.specs.Causes.{OneRose, counts_of}
-use Rattle.liq_words.specs.declared.words.Word.TheVariants as word
-use Rattle.liq_words.specs.Words.{Ask}
-use Rattle.liq_ends.specs.Requests.{IsRequest}
-use Rattle.liq_ends.specs.declared.halts.Halt.{Halt}
-use Rattle.liq_ends.specs.declared.halts.Halt.TheVariants.{DamagedInput, Limit, Rotated}
-use Rattle.liq_ends.specs.Output.{last}
-use Rattle.liq_ends.specs.Statuses.{IsDone}
-use Rattle.liq_ends.specs.Stops.{Adds}
+use Rattle.liq_word_line.specs.declared.words.Word.TheVariants as word
+use Rattle.liq_word_line.specs.Words.{Ask}
+use Rattle.liq_word_exit.specs.Requests.{IsRequest}
+use Rattle.liq_word_exit.specs.declared.halts.Halt.{Halt}
+use Rattle.liq_word_exit.specs.declared.halts.Halt.TheVariants.{DamagedInput, Limit, Rotated}
+use Rattle.liq_word_exit.specs.Output.{last}
+use Rattle.liq_word_exit.specs.Statuses.{IsDone}
+use Rattle.liq_word_exit.specs.Stops.{Adds}
 use Rattle.liq_follower.specs.Fed.{AreDamagedAt, AreTurnedTo, GoOn}
-use Rattle.liq_follow.specs.declared.feeding.TheConstants.{FED_MOST}
-use Rattle.liq_follow.specs.Followed.{FaultIn}
-use Rattle.liq_ends.specs.Outside.{Outside}
+use Rattle.liq_word_follow.specs.declared.feeding.TheConstants.{FED_MOST}
+use Rattle.liq_word_follow.specs.Followed.{FaultIn}
+use Rattle.liq_word_exit.specs.Outside.{Outside}
 
 -- The arguments are those of `Ends`.
 module _

@@ -9,46 +9,46 @@ use Rattle.liq_types.specs.declared.requests.Command.{Command}
 use Rattle.liq_types.specs.declared.requests.Request.{Request}
 use Rattle.liq_types.specs.declared.requests.Request.TheVariants.{Do}
 use Rattle.liq_types.specs.State.{State, opening}
-use Rattle.liq_rules.specs.History.{Entry, IsLegal, own_entries, requests_of, state_after}
-use Rattle.liq_rules.specs.Step.{Allowed, ruling}
-use Rattle.liq_lines.specs.Reading.{Reads, ReadsAtMost, taken_most}
-use Rattle.liq_lines.specs.Writing.{Writes}
+use Rattle.liq_rule_step.specs.History.{Entry, IsLegal, own_entries, requests_of, state_after}
+use Rattle.liq_rule_step.specs.Step.{Allowed, ruling}
+use Rattle.liq_text_lines.specs.Reading.{Reads, ReadsAtMost, taken_most}
+use Rattle.liq_text_lines.specs.Writing.{Writes}
 use Rattle.liq_journal.specs.declared.damage.Damage.{Damage}
-use Rattle.liq_pairs.specs.declared.side.Side.{Side}
-use Rattle.liq_pairs.specs.Kept.{IsKept}
-use Rattle.liq_pairs.specs.Pair.{commands_on, state_on}
-use Rattle.liq_pairs.specs.Past.{AtCommand, Fault, NoFault}
-use Rattle.liq_scripts.specs.declared.scripts.TheConstants.{SESSIONS}
-use Rattle.liq_scripts.specs.Asked.{Asks}
-use Rattle.liq_scripts.specs.Output.{served}
-use Rattle.liq_scripts.specs.Sessions.{sessions}
+use Rattle.liq_disk_pair.specs.declared.side.Side.{Side}
+use Rattle.liq_disk_pair.specs.Kept.{IsKept}
+use Rattle.liq_disk_pair.specs.Pair.{commands_on, state_on}
+use Rattle.liq_disk_pair.specs.Past.{AtCommand, Fault, NoFault}
+use Rattle.liq_text_scripts.specs.declared.scripts.TheConstants.{SESSIONS}
+use Rattle.liq_text_scripts.specs.Asked.{Asks}
+use Rattle.liq_text_scripts.specs.Output.{served}
+use Rattle.liq_text_scripts.specs.Sessions.{sessions}
 use Rattle.liq_sessions.specs.Generated.{generated}
 use Rattle.liq_store.specs.Keeping.{IsAtRest, IsKeptAround}
 use Rattle.liq_text.specs.Spelling.{Spells}
-use Rattle.liq_words.specs.declared.words.Word.{Word}
-use Rattle.liq_words.specs.declared.words.Word.TheVariants as word
-use Rattle.liq_words.specs.Words.{Ask}
-use Rattle.liq_ends.specs.declared.halts.Halt.TheVariants.{BadLine, ReadFault, WriteFault, DiskFault, NoMemory, Limit}
-use Rattle.liq_ends.specs.Answered.{KeepsAnswered, Told}
-use Rattle.liq_ends.specs.Causes.{HasCauses}
-use Rattle.liq_ends.specs.Disks.{DisksHold, DisksStay, EndsDamaged, IsFaultOfRun, IsFaultOfTelling}
-use Rattle.liq_ends.specs.Disks.{LeavesDamaged, LeavesOfRun, OfBoth}
-use Rattle.liq_ends.specs.Output.{lines, usage}
-use Rattle.liq_ends.specs.Reading.{ReadsTo}
-use Rattle.liq_ends.specs.Statuses.{End, status_of}
-use Rattle.liq_ends.specs.Stops.{Adds, EndsAfter, HaveTheirShares, TellsBehind}
-use Rattle.liq_tell.specs.Answers.{IsAnswerOf}
-use Rattle.liq_tell.specs.Audit.{IsAuditOf}
+use Rattle.liq_word_line.specs.declared.words.Word.{Word}
+use Rattle.liq_word_line.specs.declared.words.Word.TheVariants as word
+use Rattle.liq_word_line.specs.Words.{Ask}
+use Rattle.liq_word_exit.specs.declared.halts.Halt.TheVariants.{BadLine, ReadFault, WriteFault, DiskFault, NoMemory, Limit}
+use Rattle.liq_word_exit.specs.Answered.{KeepsAnswered, Told}
+use Rattle.liq_word_exit.specs.Causes.{HasCauses}
+use Rattle.liq_word_exit.specs.Disks.{DisksHold, DisksStay, EndsDamaged, IsFaultOfRun, IsFaultOfTelling}
+use Rattle.liq_word_exit.specs.Disks.{LeavesDamaged, LeavesOfRun, OfBoth}
+use Rattle.liq_word_exit.specs.Output.{lines, usage}
+use Rattle.liq_word_exit.specs.Reading.{ReadsTo}
+use Rattle.liq_word_exit.specs.Statuses.{End, status_of}
+use Rattle.liq_word_exit.specs.Stops.{Adds, EndsAfter, HaveTheirShares, TellsBehind}
+use Rattle.liq_word_state.specs.Answers.{IsAnswerOf}
+use Rattle.liq_word_state.specs.Audit.{IsAuditOf}
 use Rattle.liq_fees.specs.Lines as stakes
-use Rattle.liq_staking.specs.Staked.{staked_text}
+use Rattle.liq_text_staking.specs.Staked.{staked_text}
 use Rattle.liq_rewards.specs.Lines as tags
-use Rattle.liq_rewarding.specs.Rewarded.{rewarded_text}
-use Rattle.liq_tell.specs.Report.{reported}
-use Rattle.liq_tell.specs.State.{standing}
-use Rattle.liq_load.specs.Load.{load, summary}
-use Rattle.liq_follow.specs.declared.feeding.TheConstants.{FED_MOST}
-use Rattle.liq_follow.specs.Followed.{FollowsTo}
-use Rattle.liq_ends.specs.Outside.{Outside}
+use Rattle.liq_text_rewards.specs.Rewarded.{rewarded_text}
+use Rattle.liq_word_state.specs.Report.{reported}
+use Rattle.liq_word_state.specs.State.{standing}
+use Rattle.liq_word_gen.specs.Load.{load, summary}
+use Rattle.liq_word_follow.specs.declared.feeding.TheConstants.{FED_MOST}
+use Rattle.liq_word_follow.specs.Followed.{FollowsTo}
+use Rattle.liq_word_exit.specs.Outside.{Outside}
 
 -- the first requests of the session are answered in the history, in order, and these are left
 abbrev pub AreLeft : List (ℕ × Request) → List Entry → ℕ → List Request → Type 0

@@ -11,16 +11,16 @@ use Rattle.liq_types.specs.declared.requests.Command.{Command}
 use Rattle.liq_types.specs.declared.requests.Request.{Request}
 use Rattle.liq_types.specs.declared.requests.Request.TheVariants.{Do}
 use Rattle.liq_types.specs.State.{State}
-use Rattle.liq_rules.specs.Image.{IsSameState}
-use Rattle.liq_rules.specs.Step as rule
-use Rattle.liq_rules.specs.Step.{Allowed, ruling, run}
-use Rattle.liq_pairs.specs.Kept.{IsKept}
-use Rattle.liq_pairs.specs.Pair.{state_on}
-use Rattle.liq_pairs.specs.Unfinished.{HoldsUnfinished}
-use Rattle.liq_ends.specs.declared.halts.Halt.TheVariants.{DiskFault}
-use Rattle.liq_ends.specs.Requests.{IsNext}
-use Rattle.liq_ends.specs.Statuses.{End, status_of}
-use Rattle.liq_ends.specs.Outside.{Outside}
+use Rattle.liq_rule_step.specs.Image.{IsSameState}
+use Rattle.liq_rule_step.specs.Step as rule
+use Rattle.liq_rule_step.specs.Step.{Allowed, ruling, run}
+use Rattle.liq_disk_pair.specs.Kept.{IsKept}
+use Rattle.liq_disk_pair.specs.Pair.{state_on}
+use Rattle.liq_disk_pair.specs.Unfinished.{HoldsUnfinished}
+use Rattle.liq_word_exit.specs.declared.halts.Halt.TheVariants.{DiskFault}
+use Rattle.liq_word_exit.specs.Requests.{IsNext}
+use Rattle.liq_word_exit.specs.Statuses.{End, status_of}
+use Rattle.liq_word_exit.specs.Outside.{Outside}
 use Rattle.liq_serve.specs.Top.{RunsTo}
 
 -- What disks hold behind the requests that a run answered: nothing; or, where a disk met a fault,

@@ -4,22 +4,22 @@ ghost use Rattle.std.specs.Prelude.{◌≡◌, ◌≤◌, ℕ, List, [], Err, le
 ghost use Rattle.liq_outside.specs.Faults.{Rose};
 ghost use Rattle.liq_types.specs.declared.amounts.TheConstants.{LINES_MOST};
 ghost use Rattle.liq_types.specs.declared.requests.Command.{Command};
-ghost use Rattle.liq_lines.specs.Reading.{taken_most, ReadsAtMost};
-ghost use Rattle.liq_ends.specs.Causes.{DisksGoOn, HasCauses, LastCause};
-ghost use Rattle.liq_ends.specs.Output.{last};
-ghost use Rattle.liq_ends.specs.Stops.{Adds};
-ghost use Rattle.liq_tell.specs.Answers.{AreFew, asked_text};
+ghost use Rattle.liq_text_lines.specs.Reading.{taken_most, ReadsAtMost};
+ghost use Rattle.liq_word_exit.specs.Causes.{DisksGoOn, HasCauses, LastCause};
+ghost use Rattle.liq_word_exit.specs.Output.{last};
+ghost use Rattle.liq_word_exit.specs.Stops.{Adds};
+ghost use Rattle.liq_word_state.specs.Answers.{AreFew, asked_text};
 ghost use Rattle.liq_serve.specs.Top.{AnswersLines};
 ghost use Rattle.liq_serve.specs.Finishing.{halt_at};
 
 use crate::serve::halt_at;
-use liq_ends::{Ending, Halt, write_last};
 use liq_fees::{StakeLine, read_stake_line};
-use liq_gathered::{Form, gather};
-use liq_lines::Stop;
 use liq_outside::{Disk, Sink, Source};
 use liq_rewards::{TagLine, read_tag_line};
-use liq_tell::{Asked, Told, tell_on};
+use liq_text_gather::{Form, gather};
+use liq_text_lines::Stop;
+use liq_word_exit::{Ending, Halt, write_last};
+use liq_word_state::{Asked, Told, tell_on};
 use std::alloc::Global;
 
 /// A form of lines that are answered beside the commands on two disks.
@@ -67,7 +67,7 @@ pub(crate) struct StakeForm;
 
 impl Form for StakeForm {
     ghost use Rattle.liq_fees.specs.Lines.{Spells};
-    ghost use Rattle.liq_tell.proofs.StakeLines.{stake_line_short};
+    ghost use Rattle.liq_word_state.proofs.StakeLines.{stake_line_short};
 
     type Item = StakeLine;
 
@@ -82,7 +82,7 @@ impl Form for StakeForm {
 
 /// Each line has its reply, and then it is told what each staker has.
 impl Asking for StakeForm {
-    ghost use Rattle.liq_staking.specs.Staked.{staked_text};
+    ghost use Rattle.liq_text_staking.specs.Staked.{staked_text};
 
     ghost text = { staked_text };
 
@@ -100,7 +100,7 @@ pub(crate) struct TagForm;
 
 impl Form for TagForm {
     ghost use Rattle.liq_rewards.specs.Lines.{Spells};
-    ghost use Rattle.liq_tell.proofs.TagLines.{tag_line_short};
+    ghost use Rattle.liq_word_state.proofs.TagLines.{tag_line_short};
 
     type Item = TagLine;
 
@@ -115,7 +115,7 @@ impl Form for TagForm {
 
 /// All rewards are told.
 impl Asking for TagForm {
-    ghost use Rattle.liq_rewarding.specs.Rewarded.{rewarded_text};
+    ghost use Rattle.liq_text_rewards.specs.Rewarded.{rewarded_text};
 
     ghost text = { rewarded_text };
 

@@ -3,19 +3,19 @@
 
 ghost use Rattle.std.specs.Prelude.{◌≡◌, Contains, List, ℕ, Ok, Some};
 ghost use Rattle.liq_types.specs.State.{State};
-ghost use Rattle.liq_pairs.specs.Kept.{IsKept};
-ghost use Rattle.liq_pairs.specs.Pair.{state_on};
-ghost use Rattle.liq_words.specs.declared.words.Word.{Word};
-ghost use Rattle.liq_words.specs.Words.{Ask};
+ghost use Rattle.liq_disk_pair.specs.Kept.{IsKept};
+ghost use Rattle.liq_disk_pair.specs.Pair.{state_on};
+ghost use Rattle.liq_word_line.specs.declared.words.Word.{Word};
+ghost use Rattle.liq_word_line.specs.Words.{Ask};
 ghost use Rattle.liq_serve.specs.ByStatus.{ByStatus, statuses_of};
 ghost use Rattle.liq_serve.specs.Calm.{IsComplete};
-ghost use Rattle.liq_ends.specs.Outside.{Outside};
+ghost use Rattle.liq_word_exit.specs.Outside.{Outside};
 ghost use Rattle.liq_serve.specs.Top.{Ends};
 ghost use Rattle.liq_serve.specs.Twice.{AreBehind, FollowOn};
 
+use liq_disk_pair::laws::{commands_lead_to_the_state, journals_keep_their_limit};
 use liq_follower::laws::faults_stay;
 use liq_outside::{Disk, Sink, Source};
-use liq_pairs::laws::{commands_lead_to_the_state, journals_keep_their_limit};
 
 /// Whatever the words are, the exit status by itself says whose count of faults rose, and whose did
 /// not; and for both disks time went on. It follows from the clause of the top call.

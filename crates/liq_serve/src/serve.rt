@@ -2,17 +2,17 @@
 
 ghost use Rattle.std.specs.Prelude.{◌≡◌};
 ghost use Rattle.liq_types.specs.declared.amounts.TheConstants.{LINES_MOST};
-ghost use Rattle.liq_lines.specs.Reading.{taken_most, ReadsAtMost};
-ghost use Rattle.liq_ends.specs.Causes.{HasCauses};
+ghost use Rattle.liq_text_lines.specs.Reading.{taken_most, ReadsAtMost};
+ghost use Rattle.liq_word_exit.specs.Causes.{HasCauses};
 ghost use Rattle.liq_serve.specs.Finishing.{end_of, halt_at};
 ghost use Rattle.liq_serve.specs.Top.{ServesTo};
 
-use liq_ends::{Ending, Halt, tell_last};
 use liq_outside::{Disk, Sink, Source};
-use liq_scripts::Stop;
-use liq_serving::{Finish, Finished, serve_input};
 use liq_sessions::Gate;
+use liq_text_scripts::Stop;
 use liq_types::amounts::LINES_MOST;
+use liq_word_exit::{Ending, Halt, tell_last};
+use liq_word_serve::{Finish, Finished, serve_input};
 use std::alloc::Global;
 use std::sync::Wait;
 use std::thread::Threads;

@@ -12,35 +12,35 @@
 //! written, what the disks hold, what a crash at any moment may leave of them, and whose fault
 //! gave that status. What follows from it is in `laws`.
 //!
-//! Each end of a word has its status and its last line (`ending` of `liq_ends`). At 0 all is done,
+//! Each end of a word has its status and its last line (`ending` of `liq_word_exit`). At 0 all is done,
 //! and at 4 the sink met a fault: these two have no last line. Words that are not understood end
 //! with 1 and the usage. Words that the system did not give have clauses of their own, those of
 //! [`without_words`].
 //!
-//! Two names are alike: `liq_serve` is this whole program, and `liq_serving` is the word `serve`.
+//! Two names are alike: `liq_serve` is this whole program, and `liq_word_serve` is the word `serve`.
 
 ghost use Rattle.std.specs.Prelude.{◌≡◌, ◌≢◌, ◌≤◌, ◌↔◌, ◌⊎◌, IfOk, IsTrue, List, ℕ, Ok, Err, map, []};
 ghost use Rattle.std.specs.String.{string_bytes};
 ghost use Rattle.liq_outside.specs.Faults.{Rose};
-ghost use Rattle.liq_words.specs.declared.words.Word.{Word};
-ghost use Rattle.liq_words.specs.Words.{Ask, IsInRange};
-ghost use Rattle.liq_ends.specs.declared.halts.Halt.{Halt};
-ghost use Rattle.liq_ends.specs.Output.{last, usage};
-ghost use Rattle.liq_ends.specs.Statuses.{status_of};
-ghost use Rattle.liq_ends.specs.Stops.{Adds};
+ghost use Rattle.liq_word_line.specs.declared.words.Word.{Word};
+ghost use Rattle.liq_word_line.specs.Words.{Ask, IsInRange};
+ghost use Rattle.liq_word_exit.specs.declared.halts.Halt.{Halt};
+ghost use Rattle.liq_word_exit.specs.Output.{last, usage};
+ghost use Rattle.liq_word_exit.specs.Statuses.{status_of};
+ghost use Rattle.liq_word_exit.specs.Stops.{Adds};
 ghost use Rattle.liq_serve.specs.Top.{Ends};
 
 use crate::answers::{StakeForm, TagForm, answer_on};
 use crate::serve::serve_on;
-use liq_arguments::{WordsFault, read_words};
-use liq_ends::{Ending, Halt, status, write_last, write_usage};
-use liq_follow::follow_on;
-use liq_load::tell_load;
 use liq_outside::{Disk, Sink, Source};
-use liq_run::run_on;
 use liq_sessions::Gate;
-use liq_tell::{Told, tell_on};
-use liq_words::Word;
+use liq_word_arguments::{WordsFault, read_words};
+use liq_word_exit::{Ending, Halt, status, write_last, write_usage};
+use liq_word_follow::follow_on;
+use liq_word_gen::tell_load;
+use liq_word_line::Word;
+use liq_word_run::run_on;
+use liq_word_state::{Told, tell_on};
 use std::alloc::Global;
 use std::io::ErrorKind;
 use std::marker::Brand;

@@ -12,9 +12,9 @@
 //! ```
 //!
 //! A deposit keeps the words as of its owner's last operation, and is read by them. The sum of a
-//! scale that was left stays among the finished sums, for the deposits that began there. No balance
-//! and no gain is more than the exact share, and each falls short of it by a stated allowance at
-//! most.
+//! scale that was left stays among the finished sums, for the deposits that began there. Along
+//! events that a market can bring, no balance and no gain is more than the exact share, and each
+//! falls short of it by a stated allowance at most.
 #![tactic(auto)]
 
 mod deposits;

@@ -12,20 +12,20 @@ use Rattle.liq_types.specs.declared.requests.Request.TheVariants.{Do}
 use Rattle.liq_types.specs.State.{State}
 use Rattle.liq_core.specs.Core.{Core, StandsFor}
 use Rattle.liq_core.specs.Plan.{Plan, IsPlan}
-use Rattle.liq_rules.specs.Step.{Allowed, after, after_ruling, ruling, step}
-use Rattle.liq_rules.specs.Verbs.{unhinted}
+use Rattle.liq_rule_step.specs.Step.{Allowed, after, after_ruling, ruling, step}
+use Rattle.liq_rule_step.specs.Verbs.{unhinted}
 use Rattle.liq_journal.specs.Crash.{BeforeOrAfter, Stands, is_odd}
 use Rattle.liq_journal.specs.Settled.{IsSettled, JournalOn}
 use Rattle.liq_journal.specs.Written.{Open, Written, and_then, found_on, is_rotate, start_of}
-use Rattle.liq_pairs.specs.declared.side.Side.{Side}
-use Rattle.liq_pairs.specs.Kept.{IsKept}
-use Rattle.liq_pairs.specs.Sides.{has_odd, on}
-use Rattle.liq_rules.proofs.AlikeReads.{Alike}
+use Rattle.liq_disk_pair.specs.declared.side.Side.{Side}
+use Rattle.liq_disk_pair.specs.Kept.{IsKept}
+use Rattle.liq_disk_pair.specs.Sides.{has_odd, on}
+use Rattle.liq_rule_step.proofs.AlikeReads.{Alike}
 use Rattle.liq_core.proofs.Alike.{core_alike}
-use Rattle.liq_pairs.proofs.Alike.{settled_alike}
-use Rattle.liq_pairs.proofs.Around.{kept_around, settled_after}
-use Rattle.liq_pairs.proofs.Hints.{heard_after, heard_ruling}
-use Rattle.liq_records.specs.Bodies.{read_back}
+use Rattle.liq_disk_pair.proofs.Alike.{settled_alike}
+use Rattle.liq_disk_pair.proofs.Around.{kept_around, settled_after}
+use Rattle.liq_disk_pair.proofs.Hints.{heard_after, heard_ruling}
+use Rattle.liq_disk_records.specs.Bodies.{read_back}
 use Rattle.liq_store.specs.Calling.{WritesOn}
 use Rattle.liq_store.specs.Keeping.{IsAtRest, IsKeptAround, IsKeptNear}
 use Rattle.liq_store.specs.Rotating.{is_rotation}

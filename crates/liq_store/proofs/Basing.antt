@@ -7,12 +7,12 @@ use Rattle.liq_core.specs.Core.{Core}
 use Rattle.liq_checkpoint.specs.Reading.{image_at}
 use Rattle.liq_journal.specs.declared.damage.Damage.{Damage}
 use Rattle.liq_journal.specs.declared.damage.What.TheVariants as what
-use Rattle.liq_header.specs.Layout.{header_size, layout_with}
+use Rattle.liq_disk_header.specs.Layout.{header_size, layout_with}
 use Rattle.liq_journal.specs.Written.{Written}
-use Rattle.liq_pairs.specs.Replay.{bad_checkpoint, base_of, is_image_of, read_base, sound_base}
-use Rattle.liq_pairs.proofs.Basing.{base_later}
-use Rattle.liq_records.specs.declared.answers.AcceptedFault.{AcceptedFault}
-use Rattle.liq_records.specs.declared.answers.AcceptedFault.TheVariants.{Damaged}
+use Rattle.liq_disk_pair.specs.Replay.{bad_checkpoint, base_of, is_image_of, read_base, sound_base}
+use Rattle.liq_disk_pair.proofs.Basing.{base_later}
+use Rattle.liq_disk_records.specs.declared.answers.AcceptedFault.{AcceptedFault}
+use Rattle.liq_disk_records.specs.declared.answers.AcceptedFault.TheVariants.{Damaged}
 use Rattle.liq_store.specs.Bases.{BeginsTo}
 
 -- a later generation than the first

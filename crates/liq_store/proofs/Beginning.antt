@@ -10,23 +10,23 @@ use Rattle.liq_journal.specs.Opened.{IsUnshut}
 use Rattle.liq_journal.specs.Settled.{IsSettled, JournalOn}
 use Rattle.liq_journal.specs.Written.{Absent, Open, Written, found_on, start_of}
 use Rattle.liq_journal.proofs.Parity.{parity_of}
-use Rattle.liq_pairs.specs.declared.side.Side.{Side}
-use Rattle.liq_pairs.specs.declared.side.Side.TheVariants.{Left, Right}
-use Rattle.liq_pairs.specs.Kept.{IsSettledFor}
-use Rattle.liq_pairs.specs.Pair.{commands_on, state_on}
-use Rattle.liq_pairs.specs.Replay.{outcome}
-use Rattle.liq_pairs.specs.Sides.{beside, has_odd, on, other}
+use Rattle.liq_disk_pair.specs.declared.side.Side.{Side}
+use Rattle.liq_disk_pair.specs.declared.side.Side.TheVariants.{Left, Right}
+use Rattle.liq_disk_pair.specs.Kept.{IsSettledFor}
+use Rattle.liq_disk_pair.specs.Pair.{commands_on, state_on}
+use Rattle.liq_disk_pair.specs.Replay.{outcome}
+use Rattle.liq_disk_pair.specs.Sides.{beside, has_odd, on, other}
 use Rattle.liq_core.proofs.Alike.{core_alike}
-use Rattle.liq_pairs.proofs.Beginning.{created_state}
-use Rattle.liq_pairs.proofs.Commands.{commands_by}
-use Rattle.liq_pairs.proofs.FirstPlace.{IsAside, absent_isnt_open, closed_absent, closed_where, gate_open_or_not, is_behind, open_older, opened_already, unopened_absent}
-use Rattle.liq_pairs.proofs.Keeping.{LeadsTo, first_settled, settled_by}
-use Rattle.liq_pairs.proofs.Standings.{state_none, state_taken}
+use Rattle.liq_disk_pair.proofs.Beginning.{created_state}
+use Rattle.liq_disk_pair.proofs.Commands.{commands_by}
+use Rattle.liq_disk_pair.proofs.FirstPlace.{IsAside, absent_isnt_open, closed_absent, closed_where, gate_open_or_not, is_behind, open_older, opened_already, unopened_absent}
+use Rattle.liq_disk_pair.proofs.Keeping.{LeadsTo, first_settled, settled_by}
+use Rattle.liq_disk_pair.proofs.Standings.{state_none, state_taken}
 use Rattle.liq_store.specs.declared.standing.Stood.{Stood}
 use Rattle.liq_store.specs.declared.standing.Stood.TheVariants.{Nothing, Holding}
 use Rattle.liq_store.specs.Beginning.{IsEarlier, IsStanding, IsStoodOn}
 use Rattle.liq_store.specs.Causes.{counts_of}
-use Rattle.liq_records.specs.Choosing.{later_side}
+use Rattle.liq_disk_records.specs.Choosing.{later_side}
 use Rattle.liq_store.specs.Judging.{disk_of}
 use Rattle.liq_store.specs.Keeping.{IsAtRest}
 use Rattle.liq_store.specs.Opening.{HoldsCommands, OpensOn}

@@ -15,19 +15,19 @@ use Rattle.liq_types.specs.declared.replies.Reply.{Reply}
 use Rattle.liq_types.specs.declared.replies.Answer.TheVariants as answer
 use Rattle.liq_types.specs.State.{State}
 use Rattle.liq_core.specs.Core.{Core, StandsFor}
-use Rattle.liq_rules.specs.Step.{Allowed, Ruling, is_allowed, ruling}
+use Rattle.liq_rule_step.specs.Step.{Allowed, Ruling, is_allowed, ruling}
 use Rattle.liq_journal.specs.Crash.{BeforeOrAfter, CreateLeaves, Stands}
 use Rattle.liq_journal.specs.Settled.{IsSettled, JournalOn}
 use Rattle.liq_journal.specs.Written.{Open, Written, found_on, is_rotate, start_of}
-use Rattle.liq_pairs.specs.declared.side.Side.{Side}
-use Rattle.liq_pairs.specs.declared.side.Side.TheVariants.{Left, Right}
-use Rattle.liq_pairs.specs.Kept.{IsKept}
-use Rattle.liq_pairs.specs.Sides.{has_odd, on, other}
-use Rattle.liq_pairs.proofs.Keeping.{settled_kept}
-use Rattle.liq_records.specs.Bodies.{read_back}
+use Rattle.liq_disk_pair.specs.declared.side.Side.{Side}
+use Rattle.liq_disk_pair.specs.declared.side.Side.TheVariants.{Left, Right}
+use Rattle.liq_disk_pair.specs.Kept.{IsKept}
+use Rattle.liq_disk_pair.specs.Sides.{has_odd, on, other}
+use Rattle.liq_disk_pair.proofs.Keeping.{settled_kept}
+use Rattle.liq_disk_records.specs.Bodies.{read_back}
 use Rattle.liq_store.specs.Calling.{WritesOn}
 use Rattle.liq_store.specs.Keeping.{IsKeptAround}
-use Rattle.liq_rules.specs.Memory.{IsAccepted}
+use Rattle.liq_rule_step.specs.Memory.{IsAccepted}
 use Rattle.liq_store.specs.Rotating.{is_rotation, rotation_of, side_after, start_after}
 use Rattle.liq_store.specs.Stored.{Stored}
 use Rattle.liq_store.specs.Within.{IsWithin, stored}

@@ -2,9 +2,9 @@
 use Rattle.std.proofs.Common.{◌≡◌, ◌+◌, ◌≤◌, inl, inr, ℕ, min, Option, Some, None, sym, ◌∙◌, ap, refl, arith}
 use Rattle.liq_outside.specs.At.{DiskAt}
 use Rattle.liq_outside.specs.Faults.{Rose, count_most}
-use Rattle.liq_pairs.specs.declared.side.Side.{Side}
-use Rattle.liq_pairs.specs.declared.side.Side.TheVariants.{Left, Right}
-use Rattle.liq_pairs.specs.Sides.{on, other}
+use Rattle.liq_disk_pair.specs.declared.side.Side.{Side}
+use Rattle.liq_disk_pair.specs.declared.side.Side.TheVariants.{Left, Right}
+use Rattle.liq_disk_pair.specs.Sides.{on, other}
 use Rattle.liq_store.specs.Causes.{OneRose, counts_of, stopped_by, sum_of}
 
 module _ {D : Type 0} (at : D → DiskAt) where

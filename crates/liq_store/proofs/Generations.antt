@@ -6,12 +6,12 @@ use Rattle.liq_types.specs.declared.requests.Command.{Command}
 use Rattle.liq_types.specs.declared.image.Image.{Image}
 use Rattle.liq_types.specs.State.{State}
 use Rattle.liq_core.specs.Core.{Core, StandsFor}
-use Rattle.liq_rules.specs.Step.{after, effect, records_after}
+use Rattle.liq_rule_step.specs.Step.{after, effect, records_after}
 use Rattle.liq_journal.specs.Written.{is_odd}
 use Rattle.liq_journal.proofs.Parity.{next_parity}
-use Rattle.liq_pairs.specs.declared.side.Side.{Side}
-use Rattle.liq_pairs.specs.declared.side.Side.TheVariants.{Left, Right}
-use Rattle.liq_pairs.specs.Sides.{has_odd, other}
+use Rattle.liq_disk_pair.specs.declared.side.Side.{Side}
+use Rattle.liq_disk_pair.specs.declared.side.Side.TheVariants.{Left, Right}
+use Rattle.liq_disk_pair.specs.Sides.{has_odd, other}
 
 pub next_generation : (old new : Core) (s : State) (c : Command) → c.call ≡ Rotate → StandsFor old s
     → StandsFor new (after s c) → new.image.generation ≡ old.image.generation + 1

@@ -7,11 +7,11 @@ use Rattle.liq_types.specs.declared.image.Image.{Image}
 use Rattle.liq_types.specs.State.{State}
 use Rattle.liq_core.specs.Core.{Core, SameContent, StandsFor}
 use Rattle.liq_journal.specs.Settled.{JournalOn}
-use Rattle.liq_pairs.specs.declared.side.Side.{Side}
-use Rattle.liq_pairs.specs.declared.side.Side.TheVariants.{Left, Right}
-use Rattle.liq_pairs.specs.Kept.{IsSettledFor}
-use Rattle.liq_pairs.specs.Pair.{StandFor}
-use Rattle.liq_pairs.specs.Sides.{beside, on}
+use Rattle.liq_disk_pair.specs.declared.side.Side.{Side}
+use Rattle.liq_disk_pair.specs.declared.side.Side.TheVariants.{Left, Right}
+use Rattle.liq_disk_pair.specs.Kept.{IsSettledFor}
+use Rattle.liq_disk_pair.specs.Pair.{StandFor}
+use Rattle.liq_disk_pair.specs.Sides.{beside, on}
 use Rattle.liq_store.specs.Keeping.{IsAtRest, IsGoing, IsInOrder, IsInOrderWith, IsKeptNear}
 use Rattle.liq_store.specs.Stored.{Stored}
 use Rattle.liq_store.specs.Within.{IsWithin, stored}

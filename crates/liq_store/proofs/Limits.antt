@@ -9,10 +9,10 @@ use Rattle.liq_types.specs.declared.requests.Command.{Command}
 use Rattle.liq_types.specs.Length.{checkpoint_length}
 use Rattle.liq_types.specs.Rules.{Rule, where_above}
 use Rattle.liq_types.specs.State.{State}
-use Rattle.liq_rules.specs.Image.{image}
-use Rattle.liq_rules.specs.Step.{Allowed, after, ruling}
-use Rattle.liq_rules.specs.Verbs.{rotates}
-use Rattle.liq_soundness.proofs.SoundStep.{allowed_has}
+use Rattle.liq_rule_step.specs.Image.{image}
+use Rattle.liq_rule_step.specs.Step.{Allowed, after, ruling}
+use Rattle.liq_rule_step.specs.Verbs.{rotates}
+use Rattle.liq_rule_sound.proofs.SoundStep.{allowed_has}
 use Rattle.liq_journal.specs.Written.{is_size}
 
 -- there may be one generation more, and its checkpoint is no longer than the longest

@@ -11,11 +11,11 @@ use Rattle.liq_journal.specs.Bodies.{IsJournalOf}
 use Rattle.liq_journal.specs.Crash.{is_odd}
 use Rattle.liq_journal.specs.Settled.{IsSettled, JournalOn}
 use Rattle.liq_journal.specs.Written.{Open, Written, found_on, start_of}
-use Rattle.liq_pairs.specs.declared.side.Side.{Side}
-use Rattle.liq_pairs.specs.declared.side.Side.TheVariants.{Left, Right}
-use Rattle.liq_pairs.specs.Kept.{IsKept}
-use Rattle.liq_pairs.specs.Sides.{beside, has_odd, on}
-use Rattle.liq_pairs.proofs.Keeping.{settled_kept}
+use Rattle.liq_disk_pair.specs.declared.side.Side.{Side}
+use Rattle.liq_disk_pair.specs.declared.side.Side.TheVariants.{Left, Right}
+use Rattle.liq_disk_pair.specs.Kept.{IsKept}
+use Rattle.liq_disk_pair.specs.Sides.{beside, has_odd, on}
+use Rattle.liq_disk_pair.proofs.Keeping.{settled_kept}
 use Rattle.liq_store.specs.Keeping.{IsAtRest, IsInOrder, IsKeptNear}
 use Rattle.liq_store.specs.Stored.{Stored, disk_beside, taken_disk}
 use Rattle.liq_store.specs.Within.{HasRecords, IsWithin, stored}

@@ -9,15 +9,15 @@ use Rattle.liq_journal.specs.Settled.{JournalOn}
 use Rattle.liq_journal.specs.Written.{Open, Written, found_on, is_generation}
 use Rattle.liq_journal.specs.declared.damage.Damage.{Damage}
 use Rattle.liq_journal.proofs.Parity.{parity_of}
-use Rattle.liq_pairs.specs.Replay.{base_of, outcome, replay_from}
-use Rattle.liq_pairs.proofs.Standings.{standing_faulty}
-use Rattle.liq_records.specs.declared.answers.AcceptedFault.{AcceptedFault}
-use Rattle.liq_records.specs.declared.answers.AcceptedFault.TheVariants.{DiskFault, Damaged, NoMemory}
+use Rattle.liq_disk_pair.specs.Replay.{base_of, outcome, replay_from}
+use Rattle.liq_disk_pair.proofs.Standings.{standing_faulty}
+use Rattle.liq_disk_records.specs.declared.answers.AcceptedFault.{AcceptedFault}
+use Rattle.liq_disk_records.specs.declared.answers.AcceptedFault.TheVariants.{DiskFault, Damaged, NoMemory}
 use Rattle.liq_store.specs.declared.standing.StandFault.{StandFault}
 use Rattle.liq_store.specs.declared.standing.Stood.{Stood}
 use Rattle.liq_store.specs.declared.standing.Stood.TheVariants.{Nothing, Holding}
-use Rattle.liq_records.specs.Reading.{CountsFault}
-use Rattle.liq_records.specs.Replays.{Replays}
+use Rattle.liq_disk_records.specs.Reading.{CountsFault}
+use Rattle.liq_disk_records.specs.Replays.{Replays}
 use Rattle.liq_store.specs.Bases.{BeginsTo}
 use Rattle.liq_store.specs.Standing.{Continues, FailsTo, HoldsTo, IsFoundOn, IsWhyOn}
 

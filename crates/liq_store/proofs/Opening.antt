@@ -12,27 +12,27 @@ use Rattle.liq_journal.specs.Crash.{CreateLeaves, beginning}
 use Rattle.liq_journal.specs.Opened.{CrashOfOpen, IsUnshut, OpenLeaves, ReadsOfOpen}
 use Rattle.liq_journal.specs.Written.{found_on}
 use Rattle.liq_journal.specs.declared.damage.Damage.{Damage}
-use Rattle.liq_pairs.specs.declared.side.Side.{Side}
-use Rattle.liq_pairs.specs.declared.side.Side.TheVariants.{Left, Right}
-use Rattle.liq_pairs.specs.Pair.{Faulty, standing, state_on}
-use Rattle.liq_pairs.specs.Kept.{IsKept}
-use Rattle.liq_pairs.specs.Unfinished.{IsRecovered, LeftLeaves}
-use Rattle.liq_pairs.proofs.Beginning.{created_from, left_faulty, right_faulty, right_faulty_beside}
-use Rattle.liq_pairs.proofs.Commands.{commands_alike}
-use Rattle.liq_pairs.proofs.Recovering.{recovered}
-use Rattle.liq_pairs.proofs.Standings.{standing_absent, standing_open, state_alike, state_by}
+use Rattle.liq_disk_pair.specs.declared.side.Side.{Side}
+use Rattle.liq_disk_pair.specs.declared.side.Side.TheVariants.{Left, Right}
+use Rattle.liq_disk_pair.specs.Pair.{Faulty, standing, state_on}
+use Rattle.liq_disk_pair.specs.Kept.{IsKept}
+use Rattle.liq_disk_pair.specs.Unfinished.{IsRecovered, LeftLeaves}
+use Rattle.liq_disk_pair.proofs.Beginning.{created_from, left_faulty, right_faulty, right_faulty_beside}
+use Rattle.liq_disk_pair.proofs.Commands.{commands_alike}
+use Rattle.liq_disk_pair.proofs.Recovering.{recovered}
+use Rattle.liq_disk_pair.proofs.Standings.{standing_absent, standing_open, state_alike, state_by}
 use Rattle.liq_store.specs.declared.answers.StoreFault.{StoreFault}
 use Rattle.liq_store.specs.declared.answers.StoreWhy.{StoreWhy}
 use Rattle.liq_store.specs.declared.answers.StoreWhy.TheVariants as why
-use Rattle.liq_records.specs.declared.answers.AcceptedFault.{AcceptedFault}
-use Rattle.liq_records.specs.declared.answers.AcceptedFault.TheVariants as fault
+use Rattle.liq_disk_records.specs.declared.answers.AcceptedFault.{AcceptedFault}
+use Rattle.liq_disk_records.specs.declared.answers.AcceptedFault.TheVariants as fault
 use Rattle.liq_store.specs.declared.standing.StandFault.{StandFault}
 use Rattle.liq_store.specs.declared.standing.Stood.{Stood}
 use Rattle.liq_store.specs.declared.standing.Stood.TheVariants.{Nothing, Holding}
 use Rattle.liq_store.specs.Beginning.{BeginsLeft, Creates, IsStanding, IsStoodOn, IsUnbegun, IsUnbegunBy}
 use Rattle.liq_store.specs.Causes.{CausesWhy, Faults, OneRose, counts_of}
 use Rattle.liq_store.specs.Judging.{IsDamagedBy, IsFine, IsJudged, MetFault, disk_of}
-use Rattle.liq_records.specs.Reading.{CountsFault}
+use Rattle.liq_disk_records.specs.Reading.{CountsFault}
 use Rattle.liq_store.specs.Keeping.{IsAtRest}
 use Rattle.liq_store.specs.Opening.{IsNotOpened, IsWhyOf, OpensOn, left_after, right_after}
 use Rattle.liq_store.specs.Standing.{CountsStand, IsCounted, IsFaultless, IsFoundOn, IsLeftOn, IsWhyOn, OnlyShuts, disk_in}

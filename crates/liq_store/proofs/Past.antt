@@ -14,32 +14,32 @@ use Rattle.liq_types.specs.declared.requests.Request.{Request}
 use Rattle.liq_types.specs.declared.requests.Request.TheVariants.{Do, Ask}
 use Rattle.liq_types.specs.State.{State}
 use Rattle.liq_core.specs.Core.{StandsFor}
-use Rattle.liq_rules.specs.Step.{Allowed, Refused, Repeated, Ruling, accepted, after, is_allowed, ruling, run, step}
-use Rattle.liq_rules.specs.Image.{image}
-use Rattle.liq_rules.proofs.AlikeReads.{Alike}
-use Rattle.liq_rules.proofs.AlikeReplies.{accepted_alike}
-use Rattle.liq_rules.proofs.Runs.{run_state}
+use Rattle.liq_rule_step.specs.Step.{Allowed, Refused, Repeated, Ruling, accepted, after, is_allowed, ruling, run, step}
+use Rattle.liq_rule_step.specs.Image.{image}
+use Rattle.liq_rule_step.proofs.AlikeReads.{Alike}
+use Rattle.liq_rule_step.proofs.AlikeReplies.{accepted_alike}
+use Rattle.liq_rule_step.proofs.Runs.{run_state}
 use Rattle.liq_journal.specs.Crash.{BeforeOrAfter, CreateLeaves, is_odd}
 use Rattle.liq_journal.specs.Opened.{OpenLeaves}
 use Rattle.liq_journal.specs.Written.{Absent, Open, Written, found_on, is_rotate}
-use Rattle.liq_pairs.specs.declared.side.Side.{Side}
-use Rattle.liq_pairs.specs.declared.side.Side.TheVariants.{Left, Right}
-use Rattle.liq_pairs.specs.Kept.{IsKept, IsSettledFor}
-use Rattle.liq_pairs.specs.Past.{AtCommand, Fault, IsAsItStood, IsOfRun, IsTakenFirst, KeptAtEnd, LeavesPast, NoFault, failed_commands, rotations}
-use Rattle.liq_pairs.specs.Pair.{state_on}
-use Rattle.liq_pairs.specs.Sides.{beside, has_odd, on, other}
-use Rattle.liq_pairs.specs.Unfinished.{LeftLeaves}
-use Rattle.liq_pairs.proofs.Alone.{IsOpenFor, first_parity, isnt_absent, later_leads, of_append, of_creation, open_alone, open_with, settled_first, settled_holds_none, settled_open}
-use Rattle.liq_pairs.proofs.FirstPlace.{absent_isnt_open}
-use Rattle.liq_pairs.proofs.Hints.{heard_after, heard_ruling}
-use Rattle.liq_pairs.proofs.Keeping.{LeadsTo, leads_generation, none_alike, settled_kept, settled_leads, settled_parity}
-use Rattle.liq_pairs.proofs.Past.{generation_counts, left_of, left_whole, of_alike, of_halted, of_longer, of_same, opening_of, opening_whole, opening_with, prefix_whole, rotations_failed, rotations_halted, rotations_longer, rotations_more, run_folds}
-use Rattle.liq_pairs.proofs.Standings.{pair_ends}
-use Rattle.liq_records.specs.Bodies.{read_back}
+use Rattle.liq_disk_pair.specs.declared.side.Side.{Side}
+use Rattle.liq_disk_pair.specs.declared.side.Side.TheVariants.{Left, Right}
+use Rattle.liq_disk_pair.specs.Kept.{IsKept, IsSettledFor}
+use Rattle.liq_disk_pair.specs.Past.{AtCommand, Fault, IsAsItStood, IsOfRun, IsTakenFirst, KeptAtEnd, LeavesPast, NoFault, failed_commands, rotations}
+use Rattle.liq_disk_pair.specs.Pair.{state_on}
+use Rattle.liq_disk_pair.specs.Sides.{beside, has_odd, on, other}
+use Rattle.liq_disk_pair.specs.Unfinished.{LeftLeaves}
+use Rattle.liq_disk_pair.proofs.Alone.{IsOpenFor, first_parity, isnt_absent, later_leads, of_append, of_creation, open_alone, open_with, settled_first, settled_holds_none, settled_open}
+use Rattle.liq_disk_pair.proofs.FirstPlace.{absent_isnt_open}
+use Rattle.liq_disk_pair.proofs.Hints.{heard_after, heard_ruling}
+use Rattle.liq_disk_pair.proofs.Keeping.{LeadsTo, leads_generation, none_alike, settled_kept, settled_leads, settled_parity}
+use Rattle.liq_disk_pair.proofs.Past.{generation_counts, left_of, left_whole, of_alike, of_halted, of_longer, of_same, opening_of, opening_whole, opening_with, prefix_whole, rotations_failed, rotations_halted, rotations_longer, rotations_more, run_folds}
+use Rattle.liq_disk_pair.proofs.Standings.{pair_ends}
+use Rattle.liq_disk_records.specs.Bodies.{read_back}
 use Rattle.liq_store.specs.Answering.{Answers}
 use Rattle.liq_store.specs.Calling.{WritesOn}
 use Rattle.liq_store.specs.Keeping.{IsAtRest, IsGoing, IsInOrder, IsKeptAround, LeavesPairs}
-use Rattle.liq_rules.specs.Memory.{IsAccepted}
+use Rattle.liq_rule_step.specs.Memory.{IsAccepted}
 use Rattle.liq_store.specs.Opening.{OpensOn}
 use Rattle.liq_store.specs.Past.{Past}
 use Rattle.liq_store.specs.Rotating.{is_rotation, rotation_of}

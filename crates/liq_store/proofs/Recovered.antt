@@ -7,12 +7,12 @@ use Rattle.liq_types.specs.declared.image.Image.{Image}
 use Rattle.liq_types.specs.State.{State, client_of, no_client}
 use Rattle.liq_types.specs.Tables.{at}
 use Rattle.liq_types.proofs.Lookups.{at-put_same}
-use Rattle.liq_rules.specs.Image.{image}
-use Rattle.liq_rules.specs.Step.{Allowed, after, done_of, effect, ruling}
-use Rattle.liq_rules.proofs.Allowed.{allowed_number}
-use Rattle.liq_pairs.specs.Kept.{IsKept}
-use Rattle.liq_pairs.specs.Pair.{state_on}
-use Rattle.liq_pairs.specs.Unfinished.{HoldsUnfinished, IsRecovered}
+use Rattle.liq_rule_step.specs.Image.{image}
+use Rattle.liq_rule_step.specs.Step.{Allowed, after, done_of, effect, ruling}
+use Rattle.liq_rule_step.proofs.Allowed.{allowed_number}
+use Rattle.liq_disk_pair.specs.Kept.{IsKept}
+use Rattle.liq_disk_pair.specs.Pair.{state_on}
+use Rattle.liq_disk_pair.specs.Unfinished.{HoldsUnfinished, IsRecovered}
 
 -- what was unfinished is accepted
 pub unfinished_is_allowed : (l r : List ℕ) (s : State) (c : Command) → HoldsUnfinished l r s c → ruling s c ≡ Allowed

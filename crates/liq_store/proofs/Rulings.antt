@@ -8,8 +8,8 @@ use Rattle.liq_types.specs.declared.requests.Request.{Request}
 use Rattle.liq_types.specs.declared.requests.Request.TheVariants.{Do}
 use Rattle.liq_types.specs.State.{State}
 use Rattle.liq_core.specs.Core.{Core, StandsFor}
-use Rattle.liq_rules.specs.Rules.{call_changes}
-use Rattle.liq_rules.specs.Step.{Ruling, after_ruling, ruling, step}
+use Rattle.liq_rule_step.specs.Rules.{call_changes}
+use Rattle.liq_rule_step.specs.Step.{Ruling, after_ruling, ruling, step}
 use Rattle.liq_store.specs.Telling.{told, told_by, told_of}
 
 pub ruled : (core : Core) (s : State) (c : Command) (request : Request) (r : Ruling) (reply : Reply) → request ≡ Do c

@@ -4,8 +4,8 @@ use Rattle.liq_outside.specs.Disk.{overwritten}
 use Rattle.liq_journal.specs.Crash.{Stands}
 use Rattle.liq_journal.specs.Opened.{IsUnshut, OpenLeaves}
 use Rattle.liq_journal.specs.Written.{Absent, Open, Written, end_of, found_on}
-use Rattle.liq_pairs.proofs.FirstPlace.{absent_isnt_open}
-use Rattle.liq_pairs.proofs.OneByte.{byte_there}
+use Rattle.liq_disk_pair.proofs.FirstPlace.{absent_isnt_open}
+use Rattle.liq_disk_pair.proofs.OneByte.{byte_there}
 use Rattle.liq_store.specs.Standing.{OnlyShuts}
 
 -- a byte that is written, and has something at its place then, was not written behind the end

@@ -13,11 +13,11 @@ use Rattle.liq_types.specs.State.{State}
 use Rattle.liq_core.specs.Core.{Core, StandsFor}
 use Rattle.liq_core.specs.Plan.{Plan, IsPlan}
 use Rattle.liq_core.proofs.HintsAside.{after_same, ruling_same}
-use Rattle.liq_guided.proofs.Steps.{planned_allowed, stepped}
-use Rattle.liq_rules.specs.Rules.{call_changes}
-use Rattle.liq_rules.specs.Step.{Allowed, Ruling, after, ruling, step}
-use Rattle.liq_rules.specs.Verbs.{unhinted, unhinted_call}
-use Rattle.liq_rules.proofs.Runs.{hints_idle}
+use Rattle.liq_core_hinted.proofs.Steps.{planned_allowed, stepped}
+use Rattle.liq_rule_step.specs.Rules.{call_changes}
+use Rattle.liq_rule_step.specs.Step.{Allowed, Ruling, after, ruling, step}
+use Rattle.liq_rule_step.specs.Verbs.{unhinted, unhinted_call}
+use Rattle.liq_rule_step.proofs.Runs.{hints_idle}
 use Rattle.liq_store.specs.Telling.{told_by, told_of}
 
 pub prepared_allowed : (s : State) (c : Command) (plan : Plan) → (plan.command ≡ unhinted c) × IsPlan s plan

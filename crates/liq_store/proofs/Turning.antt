@@ -15,19 +15,19 @@ use Rattle.liq_types.specs.State.{State}
 use Rattle.liq_core.specs.Core.{Core, SameContent, StandsFor}
 use Rattle.liq_core.specs.Plan.{Plan}
 use Rattle.liq_core.proofs.SameContents.{stands_after}
-use Rattle.liq_rules.specs.Image.{image}
-use Rattle.liq_rules.specs.Step.{after, is_allowed, step}
+use Rattle.liq_rule_step.specs.Image.{image}
+use Rattle.liq_rule_step.specs.Step.{after, is_allowed, step}
 use Rattle.liq_journal.specs.Crash.{CrashOfCreate, CreateLeaves, Stands, beginning, is_odd}
 use Rattle.liq_journal.specs.Settled.{IsSettled, JournalOn}
 use Rattle.liq_journal.specs.Written.{Written, is_rotate, start_of}
-use Rattle.liq_pairs.specs.declared.side.Side.{Side}
-use Rattle.liq_pairs.specs.declared.side.Side.TheVariants.{Left, Right}
-use Rattle.liq_pairs.specs.Kept.{IsKept, IsRotationOf, IsSettledFor}
-use Rattle.liq_pairs.specs.Sides.{has_odd, on, other}
+use Rattle.liq_disk_pair.specs.declared.side.Side.{Side}
+use Rattle.liq_disk_pair.specs.declared.side.Side.TheVariants.{Left, Right}
+use Rattle.liq_disk_pair.specs.Kept.{IsKept, IsRotationOf, IsSettledFor}
+use Rattle.liq_disk_pair.specs.Sides.{has_odd, on, other}
 use Rattle.liq_core.proofs.Alike.{core_alike}
-use Rattle.liq_pairs.proofs.Alike.{settled_alike}
-use Rattle.liq_pairs.proofs.Turning.{rotation_kept, rotation_settled}
-use Rattle.liq_records.specs.Bodies.{read_back}
+use Rattle.liq_disk_pair.proofs.Alike.{settled_alike}
+use Rattle.liq_disk_pair.proofs.Turning.{rotation_kept, rotation_settled}
+use Rattle.liq_disk_records.specs.Bodies.{read_back}
 use Rattle.liq_store.specs.Calling.{WritesOn}
 use Rattle.liq_store.specs.Keeping.{IsAtRest, IsKeptAround, IsKeptNear}
 use Rattle.liq_store.specs.Rotating.{is_rotation, rotation_of, side_after, start_after}

@@ -5,12 +5,12 @@ use Rattle.liq_types.specs.declared.replies.Answer.{Answer}
 use Rattle.liq_types.specs.declared.replies.Answer.TheVariants as answer
 use Rattle.liq_types.specs.State.{State}
 use Rattle.liq_core.specs.Core.{Core, StandsFor}
-use Rattle.liq_rules.specs.Step.{step}
+use Rattle.liq_rule_step.specs.Step.{step}
 use Rattle.liq_journal.specs.declared.answers.LookFault.TheVariants as look
 use Rattle.liq_journal.specs.Bodies.{IsBodyFault, body_at}
-use Rattle.liq_records.specs.declared.answers.AcceptedFault.{AcceptedFault}
-use Rattle.liq_records.specs.declared.answers.AcceptedFault.TheVariants as accepted
-use Rattle.liq_rules.specs.Memory.{IsAccepted, TakesMemory}
+use Rattle.liq_disk_records.specs.declared.answers.AcceptedFault.{AcceptedFault}
+use Rattle.liq_disk_records.specs.declared.answers.AcceptedFault.TheVariants as accepted
+use Rattle.liq_rule_step.specs.Memory.{IsAccepted, TakesMemory}
 
 -- A request in this state, and the protocol after it, of a store that was not stopped: the step's
 -- reply; or no memory, where it may be asked for; or a disk's fault, where an accepted command was

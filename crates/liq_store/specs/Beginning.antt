@@ -6,7 +6,7 @@ use Rattle.liq_journal.specs.Causes.{Counted}
 use Rattle.liq_journal.specs.Crash.{CrashOfCreate, ReadsOfCreate}
 use Rattle.liq_journal.specs.Opened.{IsUnshut}
 use Rattle.liq_journal.specs.Settled.{IsSettled}
-use Rattle.liq_pairs.specs.Pair.{state_on}
+use Rattle.liq_disk_pair.specs.Pair.{state_on}
 use Rattle.liq_store.specs.Causes.{counts_of}
 use Rattle.liq_store.specs.Judging.{disk_of}
 use Rattle.liq_store.specs.Keeping.{IsAtRest}

@@ -11,10 +11,10 @@ use Rattle.liq_types.specs.State.{State}
 use Rattle.liq_core.specs.Core.{StandsFor}
 use Rattle.liq_journal.specs.Crash.{BeforeOrAfter, CreateLeaves}
 use Rattle.liq_journal.specs.Written.{Open, Written, found_on}
-use Rattle.liq_pairs.specs.Sides.{beside, has_odd, on, other}
-use Rattle.liq_records.specs.Bodies.{read_back}
+use Rattle.liq_disk_pair.specs.Sides.{beside, has_odd, on, other}
+use Rattle.liq_disk_records.specs.Bodies.{read_back}
 use Rattle.liq_store.specs.Keeping.{IsKeptAround, LeavesPairs}
-use Rattle.liq_rules.specs.Memory.{IsAccepted}
+use Rattle.liq_rule_step.specs.Memory.{IsAccepted}
 use Rattle.liq_store.specs.Rotating.{is_rotation, rotation_of, side_after, start_after}
 use Rattle.liq_store.specs.Stored.{Stored, disk_beside, taken_disk}
 

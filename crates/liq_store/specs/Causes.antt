@@ -4,8 +4,8 @@ use Rattle.liq_outside.specs.At.{DiskAt}
 use Rattle.liq_outside.specs.Faults.{Rose, count_most}
 use Rattle.liq_types.specs.declared.replies.Answer.{Answer}
 use Rattle.liq_types.specs.declared.replies.Answer.TheVariants as answer
-use Rattle.liq_records.specs.declared.answers.AcceptedFault.{AcceptedFault}
-use Rattle.liq_records.specs.declared.answers.AcceptedFault.TheVariants as accepted
+use Rattle.liq_disk_records.specs.declared.answers.AcceptedFault.{AcceptedFault}
+use Rattle.liq_disk_records.specs.declared.answers.AcceptedFault.TheVariants as accepted
 use Rattle.liq_store.specs.declared.answers.StoreWhy.{StoreWhy}
 use Rattle.liq_store.specs.declared.answers.StoreWhy.TheVariants as why
 

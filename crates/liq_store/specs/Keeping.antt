@@ -6,8 +6,8 @@ use Rattle.liq_types.specs.declared.requests.Command.{Command}
 use Rattle.liq_types.specs.declared.requests.Request.{Request}
 use Rattle.liq_types.specs.State.{State}
 use Rattle.liq_core.specs.Core.{StandsFor}
-use Rattle.liq_rules.specs.Step.{Allowed, after, ruling, step}
-use Rattle.liq_pairs.specs.Kept.{IsKept, IsSettledFor}
+use Rattle.liq_rule_step.specs.Step.{Allowed, after, ruling, step}
+use Rattle.liq_disk_pair.specs.Kept.{IsKept, IsSettledFor}
 use Rattle.liq_store.specs.Stored.{Stored}
 
 -- kept for the state before the request, or after it

@@ -4,8 +4,8 @@ use Rattle.liq_outside.specs.At.{DiskAt}
 use Rattle.liq_outside.specs.Disk.{LeftNow}
 use Rattle.liq_types.specs.declared.requests.Request.{Request}
 use Rattle.liq_types.specs.State.{State}
-use Rattle.liq_pairs.specs.Past.{Fault, KeptAtEnd, LeavesPast, NoFault}
-use Rattle.liq_pairs.specs.Sides.{on}
+use Rattle.liq_disk_pair.specs.Past.{Fault, KeptAtEnd, LeavesPast, NoFault}
+use Rattle.liq_disk_pair.specs.Sides.{on}
 use Rattle.liq_store.specs.Keeping.{IsAtRest}
 
 module _ {D : Type 0} (at : D → DiskAt) where

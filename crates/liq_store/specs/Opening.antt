@@ -5,10 +5,10 @@ use Rattle.liq_types.specs.State.{State}
 use Rattle.liq_outside.specs.At.{DiskAt}
 use Rattle.liq_core.specs.Core.{StandsFor}
 use Rattle.liq_journal.specs.Written.{Open, Written, found_on, start_of}
-use Rattle.liq_pairs.specs.Kept.{IsKept}
-use Rattle.liq_pairs.specs.Pair.{commands_on, state_on}
-use Rattle.liq_pairs.specs.Sides.{has_odd}
-use Rattle.liq_pairs.specs.Unfinished.{IsRecovered}
+use Rattle.liq_disk_pair.specs.Kept.{IsKept}
+use Rattle.liq_disk_pair.specs.Pair.{commands_on, state_on}
+use Rattle.liq_disk_pair.specs.Sides.{has_odd}
+use Rattle.liq_disk_pair.specs.Unfinished.{IsRecovered}
 use Rattle.liq_store.specs.declared.answers.StoreFault.{StoreFault}
 use Rattle.liq_store.specs.declared.answers.StoreWhy.{StoreWhy}
 use Rattle.liq_store.specs.declared.answers.StoreWhy.TheVariants as why

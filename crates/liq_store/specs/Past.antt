@@ -4,11 +4,11 @@ use Rattle.liq_types.specs.declared.requests.Request.{Request}
 use Rattle.liq_types.specs.State.{State}
 use Rattle.liq_outside.specs.At.{DiskAt}
 use Rattle.liq_core.specs.Core.{StandsFor}
-use Rattle.liq_rules.specs.Step.{run}
-use Rattle.liq_pairs.specs.declared.side.Side.{Side}
-use Rattle.liq_pairs.specs.Kept.{IsKept}
-use Rattle.liq_pairs.specs.Past.{IsAsItStood, IsOfRun, LeavesPast, NoFault}
-use Rattle.liq_pairs.specs.Sides.{on, other}
+use Rattle.liq_rule_step.specs.Step.{run}
+use Rattle.liq_disk_pair.specs.declared.side.Side.{Side}
+use Rattle.liq_disk_pair.specs.Kept.{IsKept}
+use Rattle.liq_disk_pair.specs.Past.{IsAsItStood, IsOfRun, LeavesPast, NoFault}
+use Rattle.liq_disk_pair.specs.Sides.{on, other}
 use Rattle.liq_store.specs.Stored.{Stored, disk_beside}
 
 -- The store answered these requests and met no fault, and both its disks tell their bytes. It began

@@ -5,15 +5,15 @@ use Rattle.liq_types.specs.declared.requests.Command.{Command}
 use Rattle.liq_types.specs.declared.requests.Request.TheVariants.{Do}
 use Rattle.liq_types.specs.State.{State}
 use Rattle.liq_types.specs.Ranked.{Ranked}
-use Rattle.liq_guide.specs.Followed.{all_listed}
+use Rattle.liq_list_index.specs.Followed.{all_listed}
 use Rattle.liq_core.specs.Core.{Core}
 use Rattle.liq_core.specs.Plan.{HasRoom, IsPlan}
 use Rattle.liq_core.specs.Steps.{last_put}
-use Rattle.liq_guided.specs.Hints.{IsExact}
-use Rattle.liq_rules.specs.Step.{Refused, Repeated, ruling}
-use Rattle.liq_rules.specs.Verbs.{unhinted}
+use Rattle.liq_core_hinted.specs.Hints.{IsExact}
+use Rattle.liq_rule_step.specs.Step.{Refused, Repeated, ruling}
+use Rattle.liq_rule_step.specs.Verbs.{unhinted}
 use Rattle.liq_journal.specs.Written.{is_rotate}
-use Rattle.liq_rules.specs.Memory.{TakesMemory}
+use Rattle.liq_rule_step.specs.Memory.{TakesMemory}
 use Rattle.liq_store.specs.declared.preparing.Prepared.{Prepared}
 use Rattle.liq_store.specs.declared.preparing.Prepared.TheVariants.{Ready, Again, No, NoMemory}
 

@@ -6,13 +6,13 @@ use Rattle.liq_types.specs.declared.requests.Request.TheVariants.{Do, Ask}
 use Rattle.liq_types.specs.declared.replies.Answer.{Answer}
 use Rattle.liq_types.specs.declared.replies.Answer.TheVariants as answer
 use Rattle.liq_types.specs.State.{State}
-use Rattle.liq_rules.specs.Image.{image}
-use Rattle.liq_rules.specs.Step.{after, is_allowed, ruling}
+use Rattle.liq_rule_step.specs.Image.{image}
+use Rattle.liq_rule_step.specs.Step.{after, is_allowed, ruling}
 use Rattle.liq_checkpoint.specs.Spelling.{spelling}
 use Rattle.liq_journal.specs.Crash.{beginning}
 use Rattle.liq_journal.specs.Written.{Written, is_rotate, start_of}
-use Rattle.liq_pairs.specs.declared.side.Side.{Side}
-use Rattle.liq_pairs.specs.Sides.{other}
+use Rattle.liq_disk_pair.specs.declared.side.Side.{Side}
+use Rattle.liq_disk_pair.specs.Sides.{other}
 
 -- a rotation that the state accepts
 abbrev pub is_rotation : State → Request → Bool

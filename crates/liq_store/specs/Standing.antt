@@ -6,11 +6,11 @@ use Rattle.liq_core.specs.Core.{Core, StandsFor}
 use Rattle.liq_journal.specs.Opened.{IsUnsettled, IsUnshut}
 use Rattle.liq_journal.specs.Settled.{IsSettled, JournalOn}
 use Rattle.liq_journal.specs.Written.{Absent, Open, Written, found_on, is_generation}
-use Rattle.liq_pairs.specs.Pair.{Faulty, standing}
-use Rattle.liq_pairs.specs.Replay.{outcome}
-use Rattle.liq_records.specs.Reading.{CountsFault}
-use Rattle.liq_records.specs.declared.answers.AcceptedFault.{AcceptedFault}
-use Rattle.liq_records.specs.declared.answers.AcceptedFault.TheVariants as fault
+use Rattle.liq_disk_pair.specs.Pair.{Faulty, standing}
+use Rattle.liq_disk_pair.specs.Replay.{outcome}
+use Rattle.liq_disk_records.specs.Reading.{CountsFault}
+use Rattle.liq_disk_records.specs.declared.answers.AcceptedFault.{AcceptedFault}
+use Rattle.liq_disk_records.specs.declared.answers.AcceptedFault.TheVariants as fault
 use Rattle.liq_store.specs.declared.standing.StandFault.{StandFault}
 use Rattle.liq_store.specs.declared.standing.Stood.{Stood}
 use Rattle.liq_store.specs.declared.standing.Stood.TheVariants.{Nothing, Holding}

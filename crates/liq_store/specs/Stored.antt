@@ -2,8 +2,8 @@
 use Rattle.std.specs.Prelude.{List, ℕ, Option}
 use Rattle.liq_types.specs.declared.events.ListChange.{ListChange}
 use Rattle.liq_core.specs.Core.{Core}
-use Rattle.liq_pairs.specs.declared.side.Side.{Side}
-use Rattle.liq_pairs.specs.Sides.{beside, on}
+use Rattle.liq_disk_pair.specs.declared.side.Side.{Side}
+use Rattle.liq_disk_pair.specs.Sides.{beside, on}
 
 -- two disks, and the protocol whose state they keep
 pub record Stored (D : Type 0) : Type 0 where

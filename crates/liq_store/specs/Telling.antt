@@ -6,8 +6,8 @@ use Rattle.liq_types.specs.declared.replies.Answer.TheVariants as answer
 use Rattle.liq_types.specs.declared.requests.Request.{Request}
 use Rattle.liq_types.specs.declared.requests.Request.TheVariants.{Do, Ask}
 use Rattle.liq_types.specs.State.{State}
-use Rattle.liq_rules.specs.Rules.{call_changes}
-use Rattle.liq_rules.specs.Step.{Allowed, Ruling, ruling}
+use Rattle.liq_rule_step.specs.Rules.{call_changes}
+use Rattle.liq_rule_step.specs.Step.{Allowed, Ruling, ruling}
 
 -- a command that is refused or comes again tells nothing
 abbrev pub told_by : Ruling → List ListChange → List ListChange

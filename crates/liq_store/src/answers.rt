@@ -1,6 +1,6 @@
 //! Why no store is opened.
+use liq_disk_pair::Side;
 use liq_journal::Damage;
-use liq_pairs::Side;
 
 /// Why no store was opened.
 #[derive(Clone, Copy)]

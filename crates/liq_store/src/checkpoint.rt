@@ -3,17 +3,17 @@
 ghost use Rattle.std.specs.Prelude.{◌≡◌, ◌≢◌, ◌+◌, ◌<◌, ◌^◌, Ok, Err, IfOk};
 ghost use Rattle.liq_types.specs.Image.{IsLimit};
 ghost use Rattle.liq_types.specs.Soundness.{HasTables};
-ghost use Rattle.liq_header.specs.Layout.{header_size, layout_with};
+ghost use Rattle.liq_disk_header.specs.Layout.{header_size, layout_with};
 ghost use Rattle.liq_journal.specs.Written.{Written};
-ghost use Rattle.liq_pairs.specs.Replay.{base_of, read_base};
+ghost use Rattle.liq_disk_pair.specs.Replay.{base_of, read_base};
 ghost use Rattle.liq_store.specs.Bases.{BeginsTo};
 
 use liq_checkpoint::{ImageBytes, decode};
 use liq_core::laws::protocols_are_sound;
 use liq_core::{ImageFault, Protocol};
-use liq_guided::Guided;
+use liq_core_hinted::Guided;
+use liq_disk_records::{AcceptedFault, is_of};
 use liq_journal::{Damage, What, header_size};
-use liq_records::{AcceptedFault, is_of};
 use liq_types::Image;
 use std::alloc::Global;
 

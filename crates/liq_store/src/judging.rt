@@ -6,9 +6,9 @@ ghost use Rattle.liq_store.specs.Standing.{disk_in};
 
 use crate::answers::{StoreFault, StoreWhy};
 use crate::standing::{StandFault, Stood};
+use liq_disk_pair::Side;
+use liq_disk_records::AcceptedFault;
 use liq_outside::Disk;
-use liq_pairs::Side;
-use liq_records::AcceptedFault;
 
 pub fn disk_of<D: Disk>(stood: Stood<D>) -> D
     ensures { result ≡ disk_of stood }

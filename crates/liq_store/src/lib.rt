@@ -26,6 +26,6 @@ mod store;
 mod telling;
 
 pub use answers::{StoreFault, StoreWhy};
-pub use liq_pairs::Side;
-pub use liq_records::AcceptedFault;
+pub use liq_disk_pair::Side;
+pub use liq_disk_records::AcceptedFault;
 pub use store::Store;

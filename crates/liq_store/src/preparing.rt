@@ -5,12 +5,12 @@ ghost use Rattle.liq_types.specs.declared.replies.Reply.TheVariants.{Said};
 ghost use Rattle.liq_types.specs.declared.requests.Request.TheVariants.{Do};
 ghost use Rattle.liq_core.specs.Core.{SameContent, StandsFor, state_of};
 ghost use Rattle.liq_core.specs.Plan.{HasRoom, IsPlannedOn};
-ghost use Rattle.liq_rules.specs.Step.{step};
+ghost use Rattle.liq_rule_step.specs.Step.{step};
 ghost use Rattle.liq_store.specs.Preparing.{HasRoomBehind, IsGuided, IsPrepared, IsReady};
 
 use liq_core::laws::protocols_stand;
 use liq_core::{PlanFault, Planned, Turn, unhinted};
-use liq_guided::{Guided, Hints};
+use liq_core_hinted::{Guided, Hints};
 use liq_types::{Command, Done, Hint, ListChange, Refusal, Steps};
 use std::sync::ledger::{Blank, Ledger};
 

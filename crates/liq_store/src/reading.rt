@@ -5,13 +5,13 @@ ghost use Rattle.liq_types.specs.declared.requests.Command.{Command};
 ghost use Rattle.liq_journal.specs.Bodies.{IsJournalOf};
 ghost use Rattle.liq_outside.specs.Disk.{Looked};
 ghost use Rattle.liq_journal.specs.Written.{Written, is_rotate};
-ghost use Rattle.liq_records.specs.Reading.{CountsReading, IsReadable, IsRecordNumber};
+ghost use Rattle.liq_disk_records.specs.Reading.{CountsReading, IsReadable, IsRecordNumber};
 ghost use Rattle.liq_store.specs.Answering.{IsUnreadable};
 ghost use Rattle.liq_store.specs.Within.{HasRecords};
 
+use liq_disk_records::AcceptedFault;
 use liq_journal::{Journal, LookFault};
 use liq_outside::Disk;
-use liq_records::AcceptedFault;
 use liq_types::Command;
 use liq_wire::decode;
 use std::alloc::Global;

@@ -7,7 +7,7 @@ ghost use Rattle.liq_core.specs.Core.{StandsFor};
 ghost use Rattle.liq_core.specs.Plan.{IsPlannedOn};
 ghost use Rattle.liq_journal.specs.Crash.{beginning};
 ghost use Rattle.liq_journal.specs.Written.{is_size};
-ghost use Rattle.liq_pairs.specs.Kept.{IsRotationOf};
+ghost use Rattle.liq_disk_pair.specs.Kept.{IsRotationOf};
 
 use liq_checkpoint::encode;
 use liq_core::laws::{protocols_are_sound, protocols_stand};

@@ -9,10 +9,10 @@ ghost use Rattle.liq_store.specs.Keeping.{IsAtRest};
 ghost use Rattle.liq_store.specs.Standing.{Continues, CountsStand, HoldsTo, IsCounted, IsFaultless, IsFoundOn, IsLeftOn, OnlyShuts, disk_in};
 
 use crate::checkpoint::base;
-use liq_guided::Guided;
+use liq_core_hinted::Guided;
+use liq_disk_records::{AcceptedFault, replay};
 use liq_journal::{Journal, OpenFault, OpenWhy};
 use liq_outside::Disk;
-use liq_records::{AcceptedFault, replay};
 use std::alloc::Global;
 use std::marker::Brand;
 use std::sync::ledger::Blank;

@@ -2,10 +2,10 @@
 //! program.
 #![tactic(auto)]
 
-use liq_ends::status;
-use liq_files::{Outside, disks, standard_output};
+use liq_disk_files::{Outside, disks, standard_output};
 use liq_outside::{StdSink, StdSource};
-use liq_run::run_on;
+use liq_word_exit::status;
+use liq_word_run::run_on;
 use std::io;
 use std::process::ExitCode;
 

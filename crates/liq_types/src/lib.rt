@@ -1,5 +1,5 @@
 //! The plain data that every crate of liq speaks of: requests, replies, refusals, amounts and their
-//! limits. Nothing here decides anything: the rules stand in `liq_rules`.
+//! limits. Nothing here decides anything: the rules stand in `liq_rule_step`.
 //!
 //! Debt and LUSD are in micro-LUSD, collateral in gwei, the price in micro-LUSD per ether, time in
 //! whole minutes, and a fraction in 10^18ths.

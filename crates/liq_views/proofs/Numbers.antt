@@ -1,6 +1,6 @@
 -- The numbers of batches, and of the versions that they make.
 use Rattle.std.proofs.Common.{◌≡◌, ℕ, ◌≤◌, ◌+◌, List, [], ◌∷◌, ◌++◌, fold, length, refl, le_refl, le_trans, arith}
-use Rattle.liq_version.specs.Versions.{Numbered, empty_version}
+use Rattle.liq_list_version.specs.Versions.{Numbered, empty_version}
 use Rattle.liq_views.specs.declared.shelf.Shelf.{Shelf}
 use Rattle.liq_views.specs.Batches.{Given, with_batch, version_after, last_from, Rise}
 use Rattle.liq_views.specs.Shelves.{opening, after, after_all}

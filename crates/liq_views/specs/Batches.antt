@@ -2,7 +2,7 @@
 use Rattle.std.specs.Prelude.{◌≡◌, ◌≤◌, ℕ, List, [], ◌∷◌, ◌++◌, fold}
 use Rattle.std.specs.Coded.{×_prop, Unit-prop, le_prop}
 use Rattle.liq_types.specs.declared.events.ListChange.{ListChange}
-use Rattle.liq_version.specs.Versions.{Numbered, empty_version, folded}
+use Rattle.liq_list_version.specs.Versions.{Numbered, empty_version, folded}
 
 -- what one publication adds: changes in order, and the number of the version that they make
 pub record Given : Type 0 where

@@ -5,9 +5,9 @@ use Rattle.liq_types.specs.declared.requests.Call.{Call}
 use Rattle.liq_types.specs.declared.requests.Call.TheVariants as call
 use Rattle.liq_types.specs.declared.requests.Request.{Request}
 use Rattle.liq_types.specs.declared.requests.Request.TheVariants as request
-use Rattle.liq_version.specs.declared.asks.Ask.{Ask}
-use Rattle.liq_version.specs.declared.asks.Ask.TheVariants as ask
-use Rattle.liq_version.specs.Versions.{Numbered, answer_of}
+use Rattle.liq_list_version.specs.declared.asks.Ask.{Ask}
+use Rattle.liq_list_version.specs.declared.asks.Ask.TheVariants as ask
+use Rattle.liq_list_version.specs.Versions.{Numbered, answer_of}
 
 -- an opening is looked up by what it would be, a change of a trove by its owner; no other call
 -- places a trove

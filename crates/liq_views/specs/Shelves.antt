@@ -1,6 +1,6 @@
 -- What is published: the version, and how many batches made it.
 use Rattle.std.specs.Prelude.{◌+◌, List, fold}
-use Rattle.liq_version.specs.Versions.{empty_version}
+use Rattle.liq_list_version.specs.Versions.{empty_version}
 use Rattle.liq_views.specs.declared.shelf.Shelf.{Shelf}
 use Rattle.liq_views.specs.Batches.{Given, with_batch}
 

@@ -1,6 +1,6 @@
 -- What a window shows, and its count of shut looks.
 use Rattle.std.specs.Prelude.{◌≡◌, ◌<◌, ◌≤◌, ◌⊎◌, ℕ, Option, Some, None}
-use Rattle.liq_version.specs.Versions.{Numbered}
+use Rattle.liq_list_version.specs.Versions.{Numbered}
 
 -- the last value of a count, which has 64 bits
 abbrev pub count_most : ℕ

@@ -25,7 +25,7 @@ mod window;
 
 pub use batch::Batch;
 pub use finder::Finder;
-pub use liq_version::{Ask, Version};
+pub use liq_list_version::{Ask, Version};
 pub use pane::Pane;
 pub use publisher::{Publication, Publisher};
 pub use rule::{Published, Sight};

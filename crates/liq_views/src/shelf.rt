@@ -6,7 +6,7 @@ ghost use Rattle.liq_views.specs.Shelves.{opening, after};
 
 use crate::batch::Batch;
 use left_right::Absorb;
-use liq_version::Version;
+use liq_list_version::Version;
 use std::alloc::{AllocError, Global};
 
 /// A version and the number of batches that made it. The number tells one list of batches from a

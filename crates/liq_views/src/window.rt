@@ -1,11 +1,11 @@
 //! What a finder looks through: one version after the other stands behind it, never an older one.
 
 ghost use Rattle.std.specs.Prelude.{◌≡◌, ℕ, Option, Some, IfOk, IfSome, OnOk, OnErr};
-ghost use Rattle.liq_version.specs.Versions.{Numbered, answer_of};
+ghost use Rattle.liq_list_version.specs.Versions.{Numbered, answer_of};
 ghost use Rattle.liq_views.specs.Windows.{GoesOn, Rose};
 
+use liq_list_version::{Ask, Version};
 use liq_types::Hint;
-use liq_version::{Ask, Version};
 
 /// The window is shut: nothing was seen.
 #[derive(Clone, Copy)]

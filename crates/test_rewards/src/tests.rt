@@ -4,10 +4,10 @@ ghost use Rattle.std.specs.Prelude.{◌≡◌, ◌≤◌, [], ◌∷◌, List};
 ghost use Rattle.liq_rewards.specs.Timed.{Timed, timed};
 ghost use Rattle.liq_rewards.specs.Kept.{HasRoomFor, IsKeptOf, MayHappen};
 
-use liq_rewarding::rewards_text;
 use liq_rewards::{
     BadTagLine, RewardRow, Rewards, TagLine, UNITS_MOST, YEAR, YEARS, issued, read_tag_line,
 };
+use liq_text_rewards::rewards_text;
 use liq_types::PoolEvent;
 use std::alloc::Global;
 use std::process::Abort;

@@ -1,7 +1,7 @@
 //! A call at a service: one turn at the lock.
 ghost use Rattle.std.specs.Prelude.{◌≡◌};
 ghost use Rattle.liq_types.specs.Desks.{own_after, faulted_after, EndsKnown};
-ghost use Rattle.liq_rules.specs.History.{IsLegal};
+ghost use Rattle.liq_rule_step.specs.History.{IsLegal};
 ghost use Rattle.liq_book.specs.Answered.{Answered, IsLimited};
 ghost use Rattle.liq_book.specs.Items.{ShowsEnd, calls_of, entries_of, faulted_in};
 ghost use Rattle.liq_book.specs.Seats.{IsSeatOf, calls_at, items_seen, session_at};

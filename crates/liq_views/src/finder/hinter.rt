@@ -6,8 +6,8 @@ ghost use Rattle.liq_views.specs.Windows.{GoesOn, Looked};
 
 use super::Finder;
 use crate::window::Window;
+use liq_list_version::Ask;
 use liq_types::{Call, Hint, Hinter, Request};
-use liq_version::Ask;
 
 /// What a version is asked for a request; none where the request puts no trove into the list.
 fn sought_by(request: &Request) -> Option<Ask>

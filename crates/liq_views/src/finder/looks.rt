@@ -1,14 +1,14 @@
 //! What a finder tells of one look.
 
 ghost use Rattle.std.specs.Prelude.{◌≡◌, ◌≤◌, IfOk, IfSome, IsSome, IfNone, OnOk, OnErr, MatchOption, MatchResult};
-ghost use Rattle.liq_version.specs.declared.asks.Ask.TheVariants.{At, Own};
-ghost use Rattle.liq_version.specs.Versions.{answer_of};
+ghost use Rattle.liq_list_version.specs.declared.asks.Ask.TheVariants.{At, Own};
+ghost use Rattle.liq_list_version.specs.Versions.{answer_of};
 ghost use Rattle.liq_views.specs.Windows.{GoesOn, Looked, Rose};
 
 use super::Finder;
 use crate::window::{Shut, Window};
+use liq_list_version::Ask;
 use liq_types::Hint;
-use liq_version::Ask;
 
 impl<V: Window + Drop> Finder<V> {
     /// A finder that has seen no version yet.

@@ -1,7 +1,7 @@
 //! How a pane is made, and how it looks.
 
 ghost use Rattle.std.specs.Prelude.{◌≡◌, ◌≤◌, ◌+◌, min, IfOk, OnOk, OnErr};
-ghost use Rattle.liq_version.specs.Versions.{answer_of};
+ghost use Rattle.liq_list_version.specs.Versions.{answer_of};
 ghost use Rattle.liq_views.specs.Batches.{StartsWith, last_from, version_after};
 ghost use Rattle.liq_views.specs.Panes.{seen_by};
 ghost use Rattle.liq_views.specs.Windows.{count_most};
@@ -11,8 +11,8 @@ use crate::rule::{Published, Sight};
 use crate::shelf::Shelf;
 use crate::window::Shut;
 use left_right::reader::Reader;
+use liq_list_version::Ask;
 use liq_types::Hint;
-use liq_version::Ask;
 
 impl Pane {
     /// A pane without a reader is shut at each look.

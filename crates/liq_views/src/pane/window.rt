@@ -6,8 +6,8 @@ ghost use Rattle.liq_views.specs.Panes.{seen_by};
 
 use super::Pane;
 use crate::window::{Shut, Window};
+use liq_list_version::Ask;
 use liq_types::Hint;
-use liq_version::Ask;
 
 impl Window for Pane {
     ghost shown = { λ p. Some (version_after (seen_by p)) };

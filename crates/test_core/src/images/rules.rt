@@ -12,7 +12,7 @@ use Turn::{
     TroveAccount, TroveColl, TroveDebt, TroveMarkColl, TroveMarkDebt, TroveStake, WalletAccount,
     WalletColl, WalletLusd,
 };
-use liq_images::entries;
+use liq_image_rules::entries;
 use liq_types::{Image, NoMemory};
 use std::alloc::Global;
 

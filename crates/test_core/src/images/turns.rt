@@ -2,7 +2,7 @@
 
 use crate::checks::NOWHERE;
 use crate::images::parts::{Rows, SOUND, image_of};
-use liq_images::first_unsound;
+use liq_image_rules::first_unsound;
 use liq_types::{Image, NoMemory};
 use std::alloc::Global;
 

@@ -1,7 +1,7 @@
 //! Many entries that come, move and leave, beside a plain sorted list.
 
 use crate::checks::{same, shows};
-use liq_chunks::{Chunks, Entry};
+use liq_list_chunks::{Chunks, Entry};
 use std::process::Abort;
 
 // How many accounts come and go: six times what a chunk holds.

@@ -3,7 +3,7 @@
 
 use crate::checks::{same, shows};
 use ListChange::{Gone, Put, Words};
-use liq_guide::Guide;
+use liq_list_index::Guide;
 use liq_types::{Hint, ListChange};
 use std::alloc::Global;
 use std::process::Abort;

@@ -1,7 +1,7 @@
 //! Accounts that are aimed, settled, kept, opened and taken out, beside a plain map.
 
 use crate::checks::shows;
-use liq_stands::{Kept, Stands};
+use liq_list_keys::{Kept, Stands};
 use std::collections::BTreeMap;
 use std::process::Abort;
 

@@ -1,7 +1,7 @@
 //! Whose hint counts.
 
 use crate::tests::checks::shows;
-use liq_guided::{Hints, words_of};
+use liq_core_hinted::{Hints, words_of};
 use liq_types::{Call, Hint, HintWords};
 
 /// The accounts on both sides of a place.

@@ -2,7 +2,7 @@
 
 use crate::tests::checks::shows;
 use crate::tests::commands::{commands_of, numbered};
-use liq_review::{ReviewFault, review};
+use liq_text_audit::{ReviewFault, review};
 use liq_types::amounts::LIM;
 use std::alloc::{AllocError, Global};
 use std::test::Fail;

@@ -4,7 +4,7 @@ ghost use Rattle.std.specs.Prelude.{◌≡◌, ◌<◌, []};
 
 use crate::tests::checks::{NOWHERE, same, shows};
 use crate::tests::drip::Drip;
-use liq_scripts::{Outbox, Shown, write_served};
+use liq_text_scripts::{Outbox, Shown, write_served};
 use liq_types::{Done, Entry, Info, Query, Refusal, Reply, Request};
 use std::alloc::{AllocError, Global};
 use std::test::Fail;

@@ -2,8 +2,8 @@
 
 use crate::tests::checks::{NOWHERE, same};
 use liq_outside::MemorySource;
-use liq_scripts::{Stop, read_scripts};
 use liq_sessions::Script;
+use liq_text_scripts::{Stop, read_scripts};
 use std::alloc::{AllocError, Global};
 use std::test::Fail;
 

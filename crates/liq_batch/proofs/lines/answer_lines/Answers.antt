@@ -1,7 +1,7 @@
 use Rattle.std.proofs.Common.{◌≡◌, ℕ, ◌+◌, ◌-◌, List, [], take, drop, length, refl, ap, ◌∙◌, subst, arith, inl}
 use Rattle.std.proofs.Common.{sym, length-drop}
 use borrow.Rule.Slice.PartMut.{same_len_mid}
-use Rattle.liq_rules.specs.Step.{run}
+use Rattle.liq_rule_step.specs.Step.{run}
 use Rattle.liq_text.specs.Spelling.{Spells}
 use Rattle.liq_batch.specs.declared.lines.Lines.{Lines}
 use Rattle.liq_batch.specs.Texts.{AnsweredText, HasLineFault}

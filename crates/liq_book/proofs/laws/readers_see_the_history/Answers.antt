@@ -1,5 +1,5 @@
 use Rattle.std.proofs.Common.{List, ◌++◌, map, ap, sym, subst, ◌∙◌, append_assoc}
-use Rattle.liq_rules.specs.Recorded.{recorded}
+use Rattle.liq_rule_step.specs.Recorded.{recorded}
 use Rattle.liq_views.specs.declared.rule.Sight.{Sight}
 use Rattle.liq_views.specs.Batches.{Given, version_after}
 use Rattle.liq_book.specs.Opened.{IsVersionOf}

@@ -1,7 +1,7 @@
 use Rattle.std.proofs.Common.{ap, ◌∙◌}
 use Rattle.liq_types.specs.declared.requests.Call.{Call}
-use Rattle.liq_rules.specs.Rules.{call_events}
-use Rattle.liq_rules.specs.Step.{after, ruling}
+use Rattle.liq_rule_step.specs.Rules.{call_events}
+use Rattle.liq_rule_step.specs.Step.{after, ruling}
 use Rattle.liq_core.proofs.HintsAside.{after_same, events_same, ruling_same}
 use Rattle.liq_core.proofs.hints.unhinted.Goals as goal
 

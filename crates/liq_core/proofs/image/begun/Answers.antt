@@ -8,7 +8,7 @@ use Rattle.liq_types.specs.Tables.{Table}
 use Rattle.liq_troves.specs.Kept.{AreSoundRows}
 use Rattle.liq_order.specs.Listed.{AreDistinct}
 use Rattle.liq_order.specs.Order.{order_by, ranks}
-use Rattle.liq_rules.proofs.AlikeReads.{sums_by}
+use Rattle.liq_rule_step.proofs.AlikeReads.{sums_by}
 use Rattle.liq_core.specs.Parts.{HasKey}
 use Rattle.liq_core.proofs.Beginning.{have_keys, pool_sound, ranks_once, rows_sound}
 use Rattle.liq_core.proofs.Images.{made_again, made_of, with_pools}

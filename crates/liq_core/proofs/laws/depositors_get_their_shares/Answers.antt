@@ -1,6 +1,6 @@
 use Rattle.std.proofs.Common.{sym, ◌∙◌}
 use Rattle.liq_core.specs.Core.{state_of}
-use Rattle.liq_soundness.proofs.SoundPromises.{same_shares}
+use Rattle.liq_rule_sound.proofs.SoundPromises.{same_shares}
 use Rattle.liq_core.proofs.laws.depositors_get_their_shares.Goals as goal
 
 pub returns-clause-same : goal.returns-clause-same

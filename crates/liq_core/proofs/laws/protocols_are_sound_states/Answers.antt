@@ -1,8 +1,8 @@
 use Rattle.std.proofs.Common.{subst}
 use Rattle.liq_core.specs.Core.{Core, state_of}
 use Rattle.liq_core.specs.Sound.{core_of}
-use Rattle.liq_soundness.specs.SoundState.{IsSoundState}
-use Rattle.liq_soundness.proofs.SoundStart.{started_with}
+use Rattle.liq_rule_sound.specs.SoundState.{IsSoundState}
+use Rattle.liq_rule_sound.proofs.SoundStart.{started_with}
 use Rattle.liq_core.proofs.laws.protocols_are_sound_states.Goals as goal
 
 pub returns : goal.returns

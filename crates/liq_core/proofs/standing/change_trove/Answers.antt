@@ -1,8 +1,8 @@
 use Rattle.std.proofs.Common.{ap, ◌∙◌, arith}
 use Rattle.liq_troves.specs.Standing.{Books, place}
 use Rattle.liq_troves.specs.Rows.{set_row}
-use Rattle.liq_standing.specs.Books.{books_kept}
-use Rattle.liq_standing.proofs.Others.{others_of}
+use Rattle.liq_trove_moves.specs.Books.{books_kept}
+use Rattle.liq_trove_moves.proofs.Others.{others_of}
 use Rattle.liq_core.proofs.Lending.{left_absent, left_stand, left_coll, left_debt}
 use Rattle.liq_core.proofs.Placing.{not_listed, placed_list}
 use Rattle.liq_core.proofs.standing.change_trove.Goals as goal

@@ -5,8 +5,8 @@ use Rattle.liq_types.specs.Ranked.{Ranked, key_in, without_ranked}
 use Rattle.liq_types.specs.Tables.{Table}
 use Rattle.liq_order.specs.Order.{order_by}
 use Rattle.liq_order.proofs.Ranking.{listed_where, left_order}
-use Rattle.liq_standing.specs.Books.{books_kept}
-use Rattle.liq_standing.proofs.Others.{others_of}
+use Rattle.liq_trove_moves.specs.Books.{books_kept}
+use Rattle.liq_trove_moves.proofs.Others.{others_of}
 use Rattle.liq_core.proofs.standing.lift_trove.Goals as goal
 
 pub lift-requires-clause-listed : goal.lift-requires-clause-listed

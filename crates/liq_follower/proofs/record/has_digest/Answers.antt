@@ -1,6 +1,6 @@
 use Rattle.std.proofs.Common.{◌∙◌, ap, drop, rules}
 use Rattle.std.specs.Str.{bytes_eq}
-use Rattle.liq_header.specs.RecordDigest.{record_digest}
+use Rattle.liq_disk_header.specs.RecordDigest.{record_digest}
 use Rattle.liq_follower.proofs.Tests.{stored}
 use Rattle.liq_follower.proofs.record.has_digest.Goals as goal
 

@@ -1,5 +1,5 @@
 use Rattle.std.proofs.Common.{◌≡◌, ◌+◌, ◌∙◌, length, option_map, rules}
-use Rattle.liq_header.specs.Layout.{version_2, header_size}
+use Rattle.liq_disk_header.specs.Layout.{version_2, header_size}
 use Rattle.liq_journal.specs.Crash.{IsShut, filled}
 use Rattle.liq_outside.proofs.Moments.{call}
 use Rattle.liq_journal.proofs.Creating.{long_after, filled_told, shut_on}

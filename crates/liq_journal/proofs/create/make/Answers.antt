@@ -2,7 +2,7 @@ use Rattle.std.proofs.Common.{◌≡◌, ◌∙◌, ◌≤◌, List, ℕ, ◌∷
 use Rattle.std.proofs.lemmas.Result.{err_from_is_err_and}
 use Rattle.liq_outside.specs.Disk.{overwritten}
 use Rattle.liq_journal.specs.Crash.{Stands, beginning}
-use Rattle.liq_header.specs.Header.{is_odd}
+use Rattle.liq_disk_header.specs.Header.{is_odd}
 use Rattle.liq_journal.proofs.Creating.{some_is, gate_shut, only_shut, after_shut, after_fill, after_open, made, reads_then}
 use Rattle.liq_journal.proofs.Parity.{of_its_parity}
 use Rattle.liq_journal.proofs.Going.{called_on, on_ok_from}

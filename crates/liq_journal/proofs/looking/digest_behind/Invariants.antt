@@ -1,7 +1,7 @@
 use Rattle.std.proofs.Common.{◌≡◌, ◌+◌, ◌-◌, ◌≤◌, ◌++◌, IfSome, length}
 use Rattle.sha2.specs.Hashers.{Holds256}
 use Rattle.liq_outside.specs.Disk.{Looked}
-use Rattle.liq_header.specs.Layout.{piece}
+use Rattle.liq_disk_header.specs.Layout.{piece}
 use Rattle.liq_journal.proofs.looking.digest_behind.Given as goal
 
 abbrev pub invariant-loop-done : goal.invariant-loop-done

@@ -1,5 +1,5 @@
 use Rattle.std.proofs.Common.{Option, IfSome, subst}
-use Rattle.liq_header.specs.declared.head.Head.{Head}
+use Rattle.liq_disk_header.specs.declared.head.Head.{Head}
 use Rattle.liq_journal.specs.Header.{MaybeSoundHeadOf}
 use Rattle.liq_journal.proofs.Scanning.{told_look}
 use Rattle.liq_journal.proofs.looking.look.Goals as goal

@@ -1,5 +1,5 @@
 use Rattle.std.proofs.Common.{◌∙◌, Option, IfSome, sym, subst}
-use Rattle.liq_header.specs.declared.head.Head.{Head}
+use Rattle.liq_disk_header.specs.declared.head.Head.{Head}
 use Rattle.liq_journal.specs.Header.{MaybeHeadOf}
 use Rattle.liq_journal.proofs.Looks.{looked_on}
 use Rattle.liq_journal.proofs.Scanning.{told_digest, told_sound}

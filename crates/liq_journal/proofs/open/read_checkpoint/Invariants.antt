@@ -1,6 +1,6 @@
 use Rattle.std.proofs.Common.{◌≡◌, ◌+◌, ◌-◌, ◌≤◌, IfSome, length}
 use Rattle.liq_outside.specs.Disk.{Looked}
-use Rattle.liq_header.specs.Layout.{piece}
+use Rattle.liq_disk_header.specs.Layout.{piece}
 use Rattle.liq_journal.proofs.open.read_checkpoint.Given as goal
 
 abbrev pub invariant-loop-at : goal.invariant-loop-at

@@ -3,7 +3,7 @@ use Rattle.std.specs.Result.{MatchResult}
 use Rattle.liq_journal.specs.declared.scanned.Scanned.{Scanned}
 use Rattle.liq_journal.specs.declared.answers.OpenWhy.{OpenWhy}
 use Rattle.liq_journal.specs.Opened.{IsScanOf, IsWhyOf}
-use Rattle.liq_header.specs.Layout.{StartsWithin}
+use Rattle.liq_disk_header.specs.Layout.{StartsWithin}
 use Rattle.liq_journal.specs.Written.{Absent, found_on}
 use Rattle.liq_journal.proofs.Opening.{told_inside, told_stands, leaves_behind, leaves_absent}
 use Rattle.liq_journal.proofs.open.settle_scanned.Goals as goal

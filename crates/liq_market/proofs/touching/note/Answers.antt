@@ -1,5 +1,5 @@
 use Rattle.std.proofs.Common.{arith}
-use Rattle.liq_rules.specs.Step.{accounts}
+use Rattle.liq_rule_step.specs.Step.{accounts}
 use Rattle.liq_market.proofs.Moves.{moves_on}
 use Rattle.liq_market.proofs.touching.note.Goals as goal
 

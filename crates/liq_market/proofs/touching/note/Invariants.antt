@@ -1,6 +1,6 @@
 use Rattle.std.proofs.Common.{◌≡◌, ◌+◌, ◌≤◌, ◌++◌, length, take}
 use Rattle.std.specs.Vec.{vec_capacity, vec_len}
-use Rattle.liq_rules.specs.Step.{accounts}
+use Rattle.liq_rule_step.specs.Step.{accounts}
 use Rattle.liq_market.specs.Touching.{others}
 use Rattle.liq_market.proofs.touching.note.Given as goal
 

@@ -1,10 +1,10 @@
 use Rattle.std.proofs.Common.{◌≡◌, ◌-◌, ℕ, ℤ, Bool, true, false, Some, Option, refl, sym, ap, ◌∙◌, subst, arith}
 use Rattle.std.specs.Prelude.{option_map}
 use Rattle.liq_types.specs.Ranked.{Ranked}
-use Rattle.liq_standing.specs.Steps.{TakesFew}
+use Rattle.liq_trove_moves.specs.Steps.{TakesFew}
 use Rattle.liq_troves.proofs.Standing.{lift_stands}
 use Rattle.liq_troves.specs.Standing.{Books, TrovesStand}
-use Rattle.liq_standing.specs.Books.{books_kept}
+use Rattle.liq_trove_moves.specs.Books.{books_kept}
 use Rattle.liq_redemption.specs.Parts.{Parts, parts_of, placed_parts, closed_parts}
 use Rattle.liq_redemption.proofs.Parts.{cut_closed, cut_placed, lifted_is, placed_is, trove_there}
 use Rattle.liq_redemption.proofs.applying.take_down.Goals as goal

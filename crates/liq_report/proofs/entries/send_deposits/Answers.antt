@@ -3,7 +3,7 @@ use Rattle.std.proofs.lemmas.Result.{on_ok_weaker}
 use Rattle.serde_json.specs.Events.{SendsItems}
 use Rattle.liq_types.specs.declared.amounts.TheConstants.{ACCOUNTS}
 use Rattle.liq_types.specs.State.{DepositEntry}
-use Rattle.liq_soundness.proofs.SoundTests.{sound_facts}
+use Rattle.liq_rule_sound.proofs.SoundTests.{sound_facts}
 use Rattle.liq_core.specs.Core.{state_of}
 use Rattle.liq_report.specs.Values.{deposit_data, deposit_of, position}
 use Rattle.liq_report.proofs.Rows.{rest, rest_ended, rest_whole, rest_with, rest_without}

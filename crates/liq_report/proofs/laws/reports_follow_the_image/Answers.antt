@@ -1,4 +1,4 @@
-use Rattle.liq_rules.proofs.AlikeReads.{Alike}
+use Rattle.liq_rule_step.proofs.AlikeReads.{Alike}
 use Rattle.liq_report.proofs.Alike.{report_alike}
 use Rattle.liq_report.proofs.laws.reports_follow_the_image.Goals as goal
 

@@ -1,7 +1,7 @@
 use Rattle.std.proofs.Common.{[], Some, sym, ◌∙◌}
 use Rattle.serde.specs.Event.{Log}
 use Rattle.serde_json.specs.Sent.{IsTextOf}
-use Rattle.liq_rules.specs.Image.{IsSameState}
+use Rattle.liq_rule_step.specs.Image.{IsSameState}
 use Rattle.liq_core.specs.Core.{state_of}
 use Rattle.liq_report.specs.Sent.{SendsReport}
 use Rattle.liq_report.proofs.Sending.{text_of_report}

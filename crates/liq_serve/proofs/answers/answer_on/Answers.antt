@@ -1,12 +1,12 @@
 use Rattle.std.proofs.Common.{◌≡◌, ℕ, List, refl, sym, subst, ap, arith, length}
 use Rattle.liq_types.specs.State.{State}
 use Rattle.liq_types.specs.declared.requests.Command.{Command}
-use Rattle.liq_ends.specs.declared.ending.Ending.{Ending}
-use Rattle.liq_ends.specs.Causes.{ReadCause}
-use Rattle.liq_ends.proofs.Causes.{unread_causes}
-use Rattle.liq_ends.specs.Outside.{Outside}
-use Rattle.liq_tell.specs.Answers.{IsAnswerOf, asked_text}
-use Rattle.liq_tell.specs.declared.telling.Told.TheVariants.{Answers}
+use Rattle.liq_word_exit.specs.declared.ending.Ending.{Ending}
+use Rattle.liq_word_exit.specs.Causes.{ReadCause}
+use Rattle.liq_word_exit.proofs.Causes.{unread_causes}
+use Rattle.liq_word_exit.specs.Outside.{Outside}
+use Rattle.liq_word_state.specs.Answers.{IsAnswerOf, asked_text}
+use Rattle.liq_word_state.specs.declared.telling.Told.TheVariants.{Answers}
 use Rattle.liq_serve.specs.Top.{AnswersLines}
 use Rattle.liq_serve.proofs.Found.{tells_found}
 use Rattle.liq_serve.proofs.Gathered.{lines_stopped, lines_whole, stop_source, source_kept}

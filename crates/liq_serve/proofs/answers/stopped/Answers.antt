@@ -1,7 +1,7 @@
 use Rattle.std.proofs.Common.{sym, subst, Err}
 use Rattle.liq_store.specs.Causes.{counts_of}
-use Rattle.liq_ends.specs.declared.halts.Halt.{Halt}
-use Rattle.liq_ends.specs.Causes.{DisksGoOn, LastCause}
+use Rattle.liq_word_exit.specs.declared.halts.Halt.{Halt}
+use Rattle.liq_word_exit.specs.Causes.{DisksGoOn, LastCause}
 use Rattle.liq_serve.proofs.Gathered.{stop_disks, stop_sink}
 use Rattle.liq_serve.proofs.Telling.{same_go_on}
 use Rattle.liq_serve.proofs.answers.stopped.Goals as goal

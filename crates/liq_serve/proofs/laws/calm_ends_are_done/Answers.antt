@@ -1,7 +1,7 @@
 use Rattle.std.proofs.Common.{ℕ, ap, ◌∙◌}
 use Rattle.liq_types.specs.State.{opening_with}
-use Rattle.liq_pairs.specs.Pair.{commands_on}
-use Rattle.liq_pairs.specs.Replay.{replay}
+use Rattle.liq_disk_pair.specs.Pair.{commands_on}
+use Rattle.liq_disk_pair.specs.Replay.{replay}
 use Rattle.liq_serve.proofs.Calm.{complete}
 use Rattle.liq_serve.proofs.laws.calm_ends_are_done.Goals as goal
 

@@ -1,17 +1,17 @@
 use Rattle.std.proofs.Common.{◌∷◌, [], subst}
 use Rattle.std.specs.Prelude.{Contains}
-use Rattle.liq_ends.specs.Statuses.{End, status_of}
-use Rattle.liq_rules.specs.History.{requests_of}
+use Rattle.liq_word_exit.specs.Statuses.{End, status_of}
+use Rattle.liq_rule_step.specs.History.{requests_of}
 use Rattle.liq_serve.specs.Finishing.{end_of}
 use Rattle.liq_serve.specs.Top.{Tells}
-use Rattle.liq_ends.specs.Outside.{Outside}
-use Rattle.liq_ends.proofs.Causes.{write_no_fewer}
-use Rattle.liq_pairs.specs.Pair.{state_on}
-use Rattle.liq_scripts.specs.Output.{served as text_of}
+use Rattle.liq_word_exit.specs.Outside.{Outside}
+use Rattle.liq_word_exit.proofs.Causes.{write_no_fewer}
+use Rattle.liq_disk_pair.specs.Pair.{state_on}
+use Rattle.liq_text_scripts.specs.Output.{served as text_of}
 use Rattle.liq_serve.proofs.Found.{untold_then}
 use Rattle.liq_serve.proofs.Served.{all_served, came_by, causes_kept, if_found, rests_by, safe_by}
-use Rattle.liq_ends.proofs.Opened.{state_formed}
-use Rattle.liq_ends.proofs.Shares.{all_shares}
+use Rattle.liq_word_exit.proofs.Opened.{state_formed}
+use Rattle.liq_word_exit.proofs.Shares.{all_shares}
 use Rattle.liq_serve.proofs.serve.serve_on.Goals as goal
 
 pub returns-clause-served : goal.returns-clause-served

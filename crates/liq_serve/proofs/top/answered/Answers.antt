@@ -1,11 +1,11 @@
 use Rattle.std.proofs.Common.{◌≡◌, Err, Result, sym, subst}
 use Rattle.std.specs.Prelude.{◌↔◌, map}
 use Rattle.std.specs.String.{string_bytes}
-use Rattle.liq_words.specs.declared.words.Word.{Word}
-use Rattle.liq_arguments.specs.declared.reading.WordsFault.{WordsFault}
-use Rattle.liq_arguments.specs.declared.reading.WordsFault.TheVariants.{Usage}
-use Rattle.liq_words.specs.Words.{Ask}
-use Rattle.liq_ends.specs.Outside.{Outside}
+use Rattle.liq_word_line.specs.declared.words.Word.{Word}
+use Rattle.liq_word_arguments.specs.declared.reading.WordsFault.{WordsFault}
+use Rattle.liq_word_arguments.specs.declared.reading.WordsFault.TheVariants.{Usage}
+use Rattle.liq_word_line.specs.Words.{Ask}
+use Rattle.liq_word_exit.specs.Outside.{Outside}
 use Rattle.liq_serve.specs.Top.{Ends}
 use Rattle.liq_serve.specs.declared.top.Ended.{Ended}
 use Rattle.liq_serve.proofs.Words.{is_read, unread_ends}

@@ -1,19 +1,19 @@
 use Rattle.std.proofs.Common.{ℕ, List, refl, subst}
 use Rattle.liq_types.specs.State.{State}
 use Rattle.liq_types.specs.declared.requests.Command.{Command}
-use Rattle.liq_words.specs.declared.words.Word.{Word}
-use Rattle.liq_words.specs.declared.words.Word.TheVariants as word
-use Rattle.liq_words.specs.Words.{IsInRange}
-use Rattle.liq_ends.specs.Outside.{Outside}
-use Rattle.liq_tell.specs.Audit.{IsAuditOf}
-use Rattle.liq_tell.specs.Report.{reported}
-use Rattle.liq_tell.specs.State.{standing}
-use Rattle.liq_tell.specs.declared.telling.Told.TheVariants as which
+use Rattle.liq_word_line.specs.declared.words.Word.{Word}
+use Rattle.liq_word_line.specs.declared.words.Word.TheVariants as word
+use Rattle.liq_word_line.specs.Words.{IsInRange}
+use Rattle.liq_word_exit.specs.Outside.{Outside}
+use Rattle.liq_word_state.specs.Audit.{IsAuditOf}
+use Rattle.liq_word_state.specs.Report.{reported}
+use Rattle.liq_word_state.specs.State.{standing}
+use Rattle.liq_word_state.specs.declared.telling.Told.TheVariants as which
 use Rattle.liq_serve.proofs.Found.{tells_found, tells_state}
 use Rattle.liq_serve.proofs.Ran.{run_found}
 use Rattle.liq_serve.proofs.Words.{IsRead, telling_ends, word_ends}
 use Rattle.liq_serve.proofs.top.carry_out.Goals as goal
-use Rattle.liq_lines.proofs.Readings.{takes_none}
+use Rattle.liq_text_lines.proofs.Readings.{takes_none}
 use Rattle.liq_serve.proofs.StatusLaws.{goes_on_known}
 use Rattle.liq_serve.proofs.Telling.{disks_unasked, disks_unfollowed, same_go_on, source_unasked, taken_followed}
 

@@ -1,8 +1,8 @@
 use Rattle.std.proofs.Common.{sym, subst}
 use Rattle.std.specs.Prelude.{map}
 use Rattle.std.specs.String.{string_bytes}
-use Rattle.liq_words.specs.declared.words.Word.TheVariants.{Serve}
-use Rattle.liq_ends.specs.Outside.{Outside}
+use Rattle.liq_word_line.specs.declared.words.Word.TheVariants.{Serve}
+use Rattle.liq_word_exit.specs.Outside.{Outside}
 use Rattle.liq_serve.specs.Top.{Ends}
 use Rattle.liq_serve.specs.declared.top.Ended.{Ended}
 use Rattle.liq_serve.proofs.Words.{is_read, word_ends}

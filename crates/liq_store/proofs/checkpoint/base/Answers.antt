@@ -1,8 +1,8 @@
 use Rattle.std.proofs.Common.{◌∙◌, ℕ, Ok, Err, ap, sym, subst}
 use Rattle.liq_types.specs.State.{opening_with}
 use Rattle.liq_core.specs.Core.{StandsFor}
-use Rattle.liq_pairs.specs.Replay.{bad_checkpoint}
-use Rattle.liq_pairs.proofs.Basing.{base_first}
+use Rattle.liq_disk_pair.specs.Replay.{bad_checkpoint}
+use Rattle.liq_disk_pair.proofs.Basing.{base_first}
 use Rattle.liq_store.proofs.Basing.{begins_badly, begins_later}
 use Rattle.liq_store.proofs.checkpoint.base.Goals as goal
 

@@ -2,7 +2,7 @@ use Rattle.std.proofs.Common.{◌≡◌, ◌∙◌, None, Ok, Err, sym, subst}
 use Rattle.liq_types.specs.Soundness.{first_unsound}
 use Rattle.liq_types.specs.State.{started}
 use Rattle.liq_core.specs.Core.{Core, StandsFor}
-use Rattle.liq_pairs.specs.Replay.{read_base}
+use Rattle.liq_disk_pair.specs.Replay.{read_base}
 use Rattle.liq_store.proofs.Basing.{begins_badly, foreign_base, own_base, tested_image, unsound_base}
 use Rattle.liq_store.proofs.checkpoint.begun.Goals as goal
 

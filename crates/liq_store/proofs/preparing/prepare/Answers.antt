@@ -1,8 +1,8 @@
 use Rattle.std.proofs.Common.{◌∙◌, arith, inl, subst, sym}
 use Rattle.liq_core.specs.Core.{Core, StandsFor, state_of}
-use Rattle.liq_rules.proofs.Allowed.{allowed_few}
-use Rattle.liq_guided.proofs.Steps.{planned_allowed}
-use Rattle.liq_pairs.proofs.Generations.{never_rotates}
+use Rattle.liq_rule_step.proofs.Allowed.{allowed_few}
+use Rattle.liq_core_hinted.proofs.Steps.{planned_allowed}
+use Rattle.liq_disk_pair.proofs.Generations.{never_rotates}
 use Rattle.liq_store.proofs.preparing.prepare.Goals as goal
 
 pub returns-in-Ok-reserve-clause-ready : goal.returns-in-Ok-reserve-clause-ready

@@ -5,10 +5,10 @@ use Rattle.liq_types.specs.declared.requests.Command.{Command}
 use Rattle.liq_journal.specs.Settled.{JournalOn}
 use Rattle.liq_journal.specs.Written.{is_rotate}
 use Rattle.liq_journal.proofs.Looks.{looked_on}
-use Rattle.liq_records.specs.Reading.{CountsFault}
+use Rattle.liq_disk_records.specs.Reading.{CountsFault}
 use Rattle.liq_store.specs.Answering.{IsUnreadable}
 use Rattle.liq_store.proofs.Listing.{one_more}
-use Rattle.liq_records.proofs.Replaying.{journal_still}
+use Rattle.liq_disk_records.proofs.Replaying.{journal_still}
 use Rattle.liq_store.proofs.reading.read_commands.Goals as goal
 
 pub returns-in-Err-clause-looked : goal.returns-in-Err-clause-looked

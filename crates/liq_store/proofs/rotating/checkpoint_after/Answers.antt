@@ -4,10 +4,10 @@ use Rattle.liq_types.specs.Length.{checkpoint_length}
 use Rattle.liq_types.specs.Soundness.{first_unsound}
 use Rattle.liq_core.specs.Core.{state_of}
 use Rattle.liq_core.proofs.SoundCores.{core_facts}
-use Rattle.liq_rules.specs.Image.{image}
-use Rattle.liq_rules.specs.Step.{after}
+use Rattle.liq_rule_step.specs.Image.{image}
+use Rattle.liq_rule_step.specs.Step.{after}
 use Rattle.liq_checkpoint.specs.Spelling.{spelling}
-use Rattle.liq_pairs.proofs.Turning.{made_rotation}
+use Rattle.liq_disk_pair.proofs.Turning.{made_rotation}
 use Rattle.liq_store.proofs.Limits.{rotation_fits, size_fits}
 use Rattle.liq_store.proofs.rotating.checkpoint_after.Goals as goal
 

@@ -4,8 +4,8 @@ use Rattle.liq_outside.specs.Disk.{LeftNow}
 use Rattle.liq_journal.specs.declared.answers.OpenWhy.{OpenWhy}
 use Rattle.liq_journal.specs.Opened.{IsKept, IsUnshut, IsWhyOf, OpenLeaves}
 use Rattle.liq_journal.specs.Written.{found_on}
-use Rattle.liq_pairs.proofs.Beginning.{still_absent}
-use Rattle.liq_pairs.proofs.Standings.{standing_damaged}
+use Rattle.liq_disk_pair.proofs.Beginning.{still_absent}
+use Rattle.liq_disk_pair.proofs.Standings.{standing_damaged}
 use Rattle.liq_store.specs.Standing.{OnlyShuts, disk_in}
 use Rattle.liq_store.proofs.OneDisk.{found_by, opened_as, some_same}
 use Rattle.liq_store.proofs.Shutting.{shut_behind, shut_first}

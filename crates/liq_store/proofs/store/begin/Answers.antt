@@ -2,9 +2,9 @@ use Rattle.std.proofs.Common.{◌≡◌, ◌∙◌, inl, inr, IfSome, false, tru
 use Rattle.liq_outside.specs.At.{DiskAt}
 use Rattle.liq_journal.specs.Opened.{IsUnshut}
 use Rattle.liq_journal.specs.Written.{Absent, found_on}
-use Rattle.liq_pairs.specs.declared.side.Side.{Side}
-use Rattle.liq_pairs.specs.declared.side.Side.TheVariants.{Left, Right}
-use Rattle.liq_pairs.specs.Sides.{has_odd, other}
+use Rattle.liq_disk_pair.specs.declared.side.Side.{Side}
+use Rattle.liq_disk_pair.specs.declared.side.Side.TheVariants.{Left, Right}
+use Rattle.liq_disk_pair.specs.Sides.{has_odd, other}
 use Rattle.liq_store.specs.declared.standing.Stood.{Stood}
 use Rattle.liq_store.specs.Beginning.{IsStoodOn}
 use Rattle.liq_store.specs.Judging.{disk_of}

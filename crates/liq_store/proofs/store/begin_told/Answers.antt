@@ -2,10 +2,10 @@ use Rattle.std.proofs.Common.{◌≡◌, ◌∙◌, IfSome, sym, subst}
 use Rattle.liq_types.specs.State.{State, opening}
 use Rattle.liq_core.specs.Core.{StandsFor}
 use Rattle.liq_core.specs.Entries.{told_whole}
-use Rattle.liq_rules.specs.View.{all_followed, view_of}
+use Rattle.liq_rule_step.specs.View.{all_followed, view_of}
 use Rattle.liq_journal.specs.Opened.{IsUnshut}
 use Rattle.liq_journal.specs.Written.{Absent, found_on}
-use Rattle.liq_pairs.specs.Sides.{has_odd, other}
+use Rattle.liq_disk_pair.specs.Sides.{has_odd, other}
 use Rattle.liq_store.specs.Beginning.{BeginsLeft}
 use Rattle.liq_store.specs.Stored.{disk_beside}
 use Rattle.liq_store.specs.Judging.{disk_of}

@@ -2,7 +2,7 @@ use Rattle.std.proofs.Common.{◌≡◌, [], length, Ok, Err, Result, sym, ap, �
 use Rattle.std.proofs.lemmas.List.{length-map}
 use Rattle.liq_lock.specs.Seats.{seen_in, seen_of}
 use Rattle.liq_lock.proofs.Histories.{nothing_in_nil}
-use Rattle.liq_rules.specs.Recorded.{recorded}
+use Rattle.liq_rule_step.specs.Recorded.{recorded}
 use Rattle.liq_book.proofs.Chronicles.{entries_of-chronicle, own_behind}
 use Rattle.liq_book.specs.Booked.{Booked}
 use Rattle.liq_book.specs.Entered.{IsAsBefore}

@@ -14,7 +14,7 @@ use Rattle.std_heap.specs.declared.Global.{Global}
 use Rattle.std_heap.specs.contracts.Global.{the_field as GF}
 use Rattle.std_heap.specs.contracts.GlobalAllocator.TheImpl.{ghosts}
 use Rattle.liq_c.specs.Held.{holds}
-use Rattle.liq_guided.specs.contracts.guided.Guided.{the_row as UR}
+use Rattle.liq_core_hinted.specs.contracts.guided.Guided.{the_row as UR}
 use Rattle.liq_market.specs.contracts.market.Market.{the_row as CR}
 use Rattle.liq_c.specs.contracts.inside.Inside.{the_row, the_type}
 

@@ -7,10 +7,10 @@ use Rattle.liq_types.specs.Ranked.{Ranked}
 use Rattle.liq_types.specs.Rules.{first_refusal}
 use Rattle.liq_types.specs.State.{State}
 use Rattle.liq_order.specs.Order.{trove_order}
-use Rattle.liq_standing.specs.Steps.{TakesFew}
+use Rattle.liq_trove_moves.specs.Steps.{TakesFew}
 use Rattle.liq_core.specs.Steps.{entry_put, last_put, used_hint, words_of}
 use Rattle.liq_core.proofs.Stepping.{planned_puts, strikes_none, takes_same}
-use Rattle.liq_rules.specs.Verbs.{liquidates, rotates}
+use Rattle.liq_rule_step.specs.Verbs.{liquidates, rotates}
 use Rattle.liq_types.specs.Soundness.{IsSoundImage}
 use Rattle.liq_liquidation.specs.declared.one.Victim.{Victim}
 use Rattle.liq_core.specs.declared.turns.Planned.TheInside.{Inside}
@@ -19,8 +19,8 @@ use Rattle.liq_core.specs.Plan.{Plan, IsPlan, IsPlannedOn, IsSoundPlan, HasRoom,
 use Rattle.liq_core.specs.Sound.{IsKeptRow}
 use Rattle.liq_core.specs.Terms.{AreTerms, victims_in}
 use Rattle.liq_types.specs.declared.requests.Request.TheVariants.{Do}
-use Rattle.liq_rules.specs.Step.{Allowed, Ruling, step, after, done_of, rules, effect, noted, after_ruling, ruling}
-use Rattle.liq_rules.proofs.Allowed.{allowed_number, allowed_rules, allowed_few}
+use Rattle.liq_rule_step.specs.Step.{Allowed, Ruling, step, after, done_of, rules, effect, noted, after_ruling, ruling}
+use Rattle.liq_rule_step.proofs.Allowed.{allowed_number, allowed_rules, allowed_few}
 use Rattle.liq_core.proofs.KeptReplies.{kept_reply}
 use Rattle.liq_core.proofs.Rotating.{stays_so}
 use Rattle.liq_core.proofs.Liquidating.{IsLiquidation, LiquidatesBy, liquidation_planned}

@@ -4,7 +4,7 @@ use Rattle.liq_liquidation.specs.declared.one.Victim.{Victim}
 use Rattle.liq_core.specs.Core.{Core, state_of}
 use Rattle.liq_core.specs.Sound.{core_of}
 use Rattle.liq_core.proofs.Liquidating.{IsAsked, begun, counted_stands, counted_sound}
-use Rattle.liq_soundness.proofs.SoundStart.{started_with}
+use Rattle.liq_rule_sound.proofs.SoundStart.{started_with}
 use Rattle.liq_core.proofs.engine.Protocol.apply_liquidate.Goals as goal
 
 pub strike-requires-clause-planned : goal.strike-requires-clause-planned

@@ -1,8 +1,8 @@
 use Rattle.std.proofs.Common.{arith, ap, length}
 use Rattle.liq_troves.specs.Rows.{set_row}
 use Rattle.liq_troves.specs.Standing.{Books}
-use Rattle.liq_standing.specs.Books.{books_kept}
-use Rattle.liq_standing.proofs.Others.{others_of}
+use Rattle.liq_trove_moves.specs.Books.{books_kept}
+use Rattle.liq_trove_moves.proofs.Others.{others_of}
 use Rattle.liq_core.specs.Core.{Core}
 use Rattle.liq_core.proofs.Lending.{books_stand, opens_so, open_changes, open_sound}
 use Rattle.liq_core.proofs.Placing.{not_listed, placed_list}

@@ -1,7 +1,7 @@
 use Rattle.std.proofs.Common.{◌≡◌, ◌∙◌, sym, subst, ap}
-use Rattle.liq_turns.specs.Generations.{next_generation}
+use Rattle.liq_core_limits.specs.Generations.{next_generation}
 use Rattle.liq_core.specs.Core.{Core, current, state_of}
-use Rattle.liq_rules.specs.Step.{Allowed, done_of, ruling}
+use Rattle.liq_rule_step.specs.Step.{Allowed, done_of, ruling}
 use Rattle.liq_core.proofs.Rotating.{turned_sound, turned_stands}
 use Rattle.liq_core.proofs.engine.Protocol.apply_rotate.Goals as goal
 

@@ -13,12 +13,12 @@ use Rattle.liq_core.specs.declared.turns.Terms.{Terms}
 use Rattle.liq_core.specs.declared.turns.Terms.TheVariants as kind
 use Rattle.liq_core.specs.declared.turns.Terms.TheVariants.{Trove}
 use Rattle.liq_core.specs.Core.{AreAmong, Changes, state_of}
-use Rattle.liq_rules.specs.Step.{rules}
+use Rattle.liq_rule_step.specs.Step.{rules}
 use Rattle.liq_core.specs.Terms.{AreTerms, IsTrove, IsRedeeming, claimants, closed_in}
 use Rattle.liq_core.proofs.Stepping.{takes_none}
 use Rattle.liq_core.specs.Steps.{cuts_in, entry_put, used_hint, words_of}
 use Rattle.liq_redemption.specs.Last.{last_entry}
-use Rattle.liq_standing.specs.Steps.{TakesFew, entry_in}
+use Rattle.liq_trove_moves.specs.Steps.{TakesFew, entry_in}
 use Rattle.liq_types.specs.declared.hints.Hint.{Hint}
 use Rattle.liq_core.proofs.engine.Protocol.change.Goals as goal
 

@@ -3,9 +3,9 @@ use Rattle.liq_types.specs.declared.figures.Market.{Market}
 use Rattle.liq_types.specs.Totals.{market_of}
 use Rattle.liq_troves.specs.declared.sums.Sums.{Sums}
 use Rattle.liq_stability.specs.declared.words.PoolWords.{PoolWords}
-use Rattle.liq_victims.specs.declared.course.Course.{Course}
+use Rattle.liq_core_lowest.specs.declared.course.Course.{Course}
 use Rattle.liq_core.specs.Core.{Core, state_of}
-use Rattle.liq_victims.specs.Victims.{course_of}
+use Rattle.liq_core_lowest.specs.Victims.{course_of}
 use Rattle.liq_core.proofs.Planning.{its_coll, its_course}
 use Rattle.liq_core.proofs.engine.Protocol.course.Goals as goal
 

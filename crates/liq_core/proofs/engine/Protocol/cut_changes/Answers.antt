@@ -4,8 +4,8 @@ use Rattle.std.proofs.lemmas.List.{map_more, take_all}
 use Rattle.std.proofs.lemmas.List.Elements.{All-from_recursion}
 use Rattle.liq_redemption.specs.declared.cut.Cut.{Cut}
 use Rattle.liq_core.specs.Core.{state_of}
-use Rattle.liq_rules.specs.Redemption.{cut_told}
-use Rattle.liq_soundness.specs.SoundState.{CutIsCovered}
+use Rattle.liq_rule_step.specs.Redemption.{cut_told}
+use Rattle.liq_rule_sound.specs.SoundState.{CutIsCovered}
 use Rattle.liq_core.proofs.engine.Protocol.cut_changes.Goals as goal
 
 abbrev nothing : Cut

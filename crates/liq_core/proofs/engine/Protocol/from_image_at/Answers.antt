@@ -1,8 +1,8 @@
 use Rattle.std.proofs.Common.{sym, ◌∙◌}
 use Rattle.liq_types.specs.Soundness.{IsSoundImage}
-use Rattle.liq_rules.proofs.Started.{started_image, started_formed}
-use Rattle.liq_soundness.proofs.SoundStart.{finished_before}
-use Rattle.liq_soundness.proofs.SoundTests.{stakes_added}
+use Rattle.liq_rule_step.proofs.Started.{started_image, started_formed}
+use Rattle.liq_rule_sound.proofs.SoundStart.{finished_before}
+use Rattle.liq_rule_sound.proofs.SoundTests.{stakes_added}
 use Rattle.liq_core.proofs.engine.Protocol.from_image_at.Goals as goal
 
 pub returns-in-Ok-clause-stands : goal.returns-in-Ok-clause-stands

@@ -4,8 +4,8 @@ use Rattle.liq_types.specs.declared.figures.Client.{Client}
 use Rattle.liq_types.specs.declared.image.Image.{Image}
 use Rattle.liq_types.specs.Soundness.{HasTables, IsSoundImage, first_unsound}
 use Rattle.liq_types.specs.Tables.{Table, put}
-use Rattle.liq_turns.specs.declared.generation.Generation.{Generation}
-use Rattle.liq_turns.specs.Generations.{next_generation}
+use Rattle.liq_core_limits.specs.declared.generation.Generation.{Generation}
+use Rattle.liq_core_limits.specs.Generations.{next_generation}
 use Rattle.liq_core.specs.Core.{Core, current}
 use Rattle.liq_core.specs.Plan.{Plan, plan_of}
 use Rattle.liq_core.specs.declared.turns.Planned.TheInside.{Inside}

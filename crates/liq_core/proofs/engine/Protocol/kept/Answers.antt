@@ -1,6 +1,6 @@
 use Rattle.std.proofs.Common.{ap, arith, sym, subst, ◌∙◌}
 use Rattle.liq_types.specs.declared.figures.Client.{Client}
-use Rattle.liq_turns.specs.Numbers.{kept_by}
+use Rattle.liq_core_limits.specs.Numbers.{kept_by}
 use Rattle.liq_core.specs.Core.{state_of}
 use Rattle.liq_core.specs.Turn.{IsKept}
 use Rattle.liq_core.proofs.Numbering.{kept_so}

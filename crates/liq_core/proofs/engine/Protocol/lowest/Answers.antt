@@ -4,7 +4,7 @@ use Rattle.liq_types.specs.Totals.{market_of}
 use Rattle.liq_stability.specs.declared.words.PoolWords.{PoolWords}
 use Rattle.liq_liquidation.specs.Lowest.{AreParts}
 use Rattle.liq_liquidation.specs.Moment.{IsSoundMoment, moment_by}
-use Rattle.liq_victims.specs.Lowest.{AreLowest, IsNoPlan}
+use Rattle.liq_core_lowest.specs.Lowest.{AreLowest, IsNoPlan}
 use Rattle.liq_core.specs.Core.{Core, state_of}
 use Rattle.liq_core.specs.Sound.{core_of}
 use Rattle.liq_core.proofs.Planning.{its_parts, its_moment, troves_sound}

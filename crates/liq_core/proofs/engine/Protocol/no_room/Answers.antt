@@ -1,7 +1,7 @@
 use Rattle.std.proofs.Common.{sym, ap, ◌∙◌}
 use Rattle.liq_types.specs.Rules.{first_refusal}
-use Rattle.liq_turns.specs.declared.generation.Generation.{Generation}
-use Rattle.liq_turns.specs.Generations.{record_rules}
+use Rattle.liq_core_limits.specs.declared.generation.Generation.{Generation}
+use Rattle.liq_core_limits.specs.Generations.{record_rules}
 use Rattle.liq_core.specs.Core.{state_of}
 use Rattle.liq_core.proofs.Rotating.{other_rules, stays_so}
 use Rattle.liq_core.proofs.engine.Protocol.no_room.Goals as goal

@@ -9,7 +9,7 @@ use Rattle.liq_order.specs.Order.{last_trove, last_account}
 use Rattle.liq_troves.specs.StakeSums.{entire_of}
 use Rattle.liq_core.specs.declared.engine.Protocol.TheInside.{Inside}
 use Rattle.liq_core.specs.Core.{Core, state_of}
-use Rattle.liq_rules.specs.Pool.{trove_under}
+use Rattle.liq_rule_step.specs.Pool.{trove_under}
 use Rattle.liq_core.specs.Sound.{IsSound, core_of}
 use Rattle.liq_core.proofs.Pooling.{last_is, is_under, not_under}
 use Rattle.liq_core.proofs.engine.Protocol.no_trove_under.Goals as goal

@@ -2,13 +2,13 @@ use Rattle.std.proofs.Common.{◌∙◌, refl, subst, sym}
 use Rattle.std.specs.Prelude.{Result, Err}
 use Rattle.liq_types.specs.Soundness.{IsSoundImage}
 use Rattle.liq_core.specs.Core.{Core, state_of}
-use Rattle.liq_rules.specs.Rules.{rules}
+use Rattle.liq_rule_step.specs.Rules.{rules}
 use Rattle.liq_core.specs.declared.turns.Forecast.{Forecast}
 use Rattle.liq_core.specs.declared.turns.PlanFault.{PlanFault}
 use Rattle.liq_core.specs.Turn.{ForecastsCall}
-use Rattle.liq_rules.specs.Verbs.{accounts}
-use Rattle.liq_rules.proofs.AlikeLists.{plans_list_alike}
-use Rattle.liq_rules.proofs.Ruled.{accounts_within, allowed_call, refused_call, refused_room}
+use Rattle.liq_rule_step.specs.Verbs.{accounts}
+use Rattle.liq_rule_step.proofs.AlikeLists.{plans_list_alike}
+use Rattle.liq_rule_step.proofs.Ruled.{accounts_within, allowed_call, refused_call, refused_room}
 use Rattle.liq_core.proofs.Stands.{planned_alike, standing_alike, standing_ruling, terms_fit}
 use Rattle.liq_core.proofs.engine.Protocol.plan.Goals as goal
 

@@ -3,9 +3,9 @@ use Rattle.std.proofs.lemmas.Result.{err_from_is_err_and}
 use Rattle.liq_types.specs.Soundness.{IsSoundImage}
 use Rattle.liq_borrow.specs.declared.change.Plan.{Plan}
 use Rattle.liq_core.specs.Core.{Core, state_of}
-use Rattle.liq_rules.specs.Verbs.{no_hint}
+use Rattle.liq_rule_step.specs.Verbs.{no_hint}
 use Rattle.liq_core.proofs.Forecasting.{adjust_refused, adjust_allowed, adjust_forecast}
-use Rattle.liq_soundness.proofs.SoundBorrow.{adjust_allows_own}
+use Rattle.liq_rule_sound.proofs.SoundBorrow.{adjust_allows_own}
 use Rattle.liq_core.proofs.SoundCores.{core_finds}
 use Rattle.liq_core.proofs.engine.Protocol.plan_adjust.Goals as goal
 

@@ -3,13 +3,13 @@ use Rattle.std.specs.Prelude.{sum_by}
 use Rattle.liq_types.specs.declared.amounts.TheConstants.{LOWEST_MOST}
 use Rattle.liq_liquidation.specs.declared.one.Victim.{Victim}
 use Rattle.liq_core.specs.Core.{Core, state_of}
-use Rattle.liq_rules.specs.Liquidation.{lowest_values, offset_events, victim_changes}
-use Rattle.liq_rules.specs.Rules.{six}
-use Rattle.liq_soundness.specs.SoundState.{IsSoundState}
-use Rattle.liq_victims.specs.Lowest.{IsNoPlan}
-use Rattle.liq_victims.specs.Victims.{AreVictims}
+use Rattle.liq_rule_step.specs.Liquidation.{lowest_values, offset_events, victim_changes}
+use Rattle.liq_rule_step.specs.Rules.{six}
+use Rattle.liq_rule_sound.specs.SoundState.{IsSoundState}
+use Rattle.liq_core_lowest.specs.Lowest.{IsNoPlan}
+use Rattle.liq_core_lowest.specs.Victims.{AreVictims}
 use Rattle.liq_core.proofs.Planning.{lowest_fits, lowest_ruled}
-use Rattle.liq_soundness.proofs.SoundStart.{started_with}
+use Rattle.liq_rule_sound.proofs.SoundStart.{started_with}
 use Rattle.liq_core.proofs.engine.Protocol.plan_liquidate_lowest.Goals as goal
 
 pub told-requires-clause-few : goal.told-requires-clause-few

@@ -5,11 +5,11 @@ use Rattle.liq_types.specs.declared.figures.Trove.{Trove}
 use Rattle.liq_types.specs.Soundness.{IsSoundImage}
 use Rattle.liq_types.specs.Tables.{at}
 use Rattle.liq_borrow.specs.declared.change.Plan.{Plan}
-use Rattle.liq_rules.specs.Verbs.{no_hint}
+use Rattle.liq_rule_step.specs.Verbs.{no_hint}
 use Rattle.liq_core.specs.Core.{Core, state_of}
 use Rattle.liq_core.proofs.Forecasting.{open_refused, open_allowed, open_forecast}
 use Rattle.liq_core.proofs.Reading.{exists_read}
-use Rattle.liq_soundness.proofs.SoundBorrow.{open_allows}
+use Rattle.liq_rule_sound.proofs.SoundBorrow.{open_allows}
 use Rattle.liq_core.proofs.engine.Protocol.plan_open.Goals as goal
 
 -- whether the table has a row is whether the state has a trove

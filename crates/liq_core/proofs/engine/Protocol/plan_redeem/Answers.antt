@@ -13,15 +13,15 @@ use Rattle.liq_redemption.specs.declared.cut.Cut.{Cut}
 use Rattle.liq_redemption.specs.Answers.{Answers}
 use Rattle.liq_redemption.specs.Redemption.{RedeemTerms, Visit, asking_rules, first_net, redeem_plan, redeem_rules, redeeming_terms, taking_rules, visited}
 use Rattle.liq_core.specs.Core.{Core, state_of}
-use Rattle.liq_rules.specs.Redemption.{cut_told}
-use Rattle.liq_soundness.specs.SoundState.{CutIsCovered}
-use Rattle.liq_rules.specs.Step.{rules}
-use Rattle.liq_rules.specs.Verbs.{no_hint}
+use Rattle.liq_rule_step.specs.Redemption.{cut_told}
+use Rattle.liq_rule_sound.specs.SoundState.{CutIsCovered}
+use Rattle.liq_rule_step.specs.Step.{rules}
+use Rattle.liq_rule_step.specs.Verbs.{no_hint}
 use Rattle.liq_core.proofs.Cutting.{redeem_told}
 use Rattle.liq_core.proofs.Reading.{allowed_so, refused_so}
 use Rattle.liq_core.proofs.SoundCores.{core_finds}
-use Rattle.liq_rules.proofs.Ruled.{some_first}
-use Rattle.liq_soundness.proofs.SoundRedeem.{cuts_covered}
+use Rattle.liq_rule_step.proofs.Ruled.{some_first}
+use Rattle.liq_rule_sound.proofs.SoundRedeem.{cuts_covered}
 use Rattle.liq_core.proofs.engine.Protocol.plan_redeem.Goals as goal
 
 pub cut_changes-requires : goal.cut_changes-requires

@@ -4,7 +4,7 @@ use Rattle.liq_types.specs.declared.replies.Info.TheVariants as info
 use Rattle.liq_types.specs.declared.image.Image.{Image}
 use Rattle.liq_stability.specs.declared.words.PoolWords.{PoolWords}
 use Rattle.liq_core.specs.Core.{Core, state_of}
-use Rattle.liq_rules.specs.Queries.{pools}
+use Rattle.liq_rule_step.specs.Queries.{pools}
 use Rattle.liq_core.specs.Sound.{core_of}
 use Rattle.liq_core.proofs.SoundCores.{image_back}
 use Rattle.liq_core.proofs.engine.Protocol.pools_info.Goals as goal

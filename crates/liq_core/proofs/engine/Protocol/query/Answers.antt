@@ -1,7 +1,7 @@
 use Rattle.std.proofs.Common.{sym, subst, ◌∙◌}
 use Rattle.liq_types.specs.Soundness.{IsSoundImage}
 use Rattle.liq_core.specs.Core.{Core}
-use Rattle.liq_rules.proofs.AlikeReplies.{answer_alike}
+use Rattle.liq_rule_step.proofs.AlikeReplies.{answer_alike}
 use Rattle.liq_core.proofs.Stands.{standing_alike}
 use Rattle.liq_core.proofs.engine.Protocol.query.Goals as goal
 

@@ -5,7 +5,7 @@ use Rattle.liq_types.specs.Soundness.{IsSoundImage}
 use Rattle.liq_troves.specs.declared.sums.Sums.{Sums}
 use Rattle.liq_troves.specs.Rows.{key_by, set_row}
 use Rattle.liq_core.specs.Core.{Core}
-use Rattle.liq_rules.proofs.AlikeReads.{sums_by}
+use Rattle.liq_rule_step.proofs.AlikeReads.{sums_by}
 use Rattle.liq_core.proofs.Reading.{sums_read}
 use Rattle.liq_core.proofs.engine.Protocol.standing.Goals as goal
 use mir.Syntax.{w128}

@@ -2,10 +2,10 @@ use Rattle.std.proofs.Common.{List, ap, ◌∙◌, subst}
 use Rattle.std.proofs.lemmas.List.{take_all}
 use Rattle.liq_liquidation.specs.declared.one.Victim.{Victim}
 use Rattle.liq_core.specs.Core.{Core, state_of}
-use Rattle.liq_rules.specs.Liquidation.{offset_events, victim_changes}
-use Rattle.liq_soundness.specs.SoundState.{IsSoundState}
-use Rattle.liq_soundness.proofs.SoundStart.{started_with}
-use Rattle.liq_victims.proofs.ToldVictims.{next_at, others_at, course_at, events_at, changes_at}
+use Rattle.liq_rule_step.specs.Liquidation.{offset_events, victim_changes}
+use Rattle.liq_rule_sound.specs.SoundState.{IsSoundState}
+use Rattle.liq_rule_sound.proofs.SoundStart.{started_with}
+use Rattle.liq_core_lowest.proofs.ToldVictims.{next_at, others_at, course_at, events_at, changes_at}
 use Rattle.liq_core.proofs.engine.Protocol.told.Goals as goal
 
 pub pass-event-requires-clause-next : goal.pass-event-requires-clause-next

@@ -1,7 +1,7 @@
 use Rattle.std.proofs.Common.{◌≡◌, take}
 use Rattle.liq_core.specs.Core.{state_of}
-use Rattle.liq_rules.specs.Liquidation.{all_liquidated, offset_events, victim_changes}
-use Rattle.liq_victims.specs.Victims.{course_of}
+use Rattle.liq_rule_step.specs.Liquidation.{all_liquidated, offset_events, victim_changes}
+use Rattle.liq_core_lowest.specs.Victims.{course_of}
 use Rattle.liq_core.proofs.engine.Protocol.told.Given as goal
 
 abbrev pub invariant-loop-victim : goal.invariant-loop-victim

@@ -5,9 +5,9 @@ use Rattle.liq_types.specs.Tables.{at}
 use Rattle.liq_troves.specs.declared.sums.Sums.{Sums}
 use Rattle.liq_troves.specs.Rows.{entire_by}
 use Rattle.liq_core.specs.Core.{Core, state_of}
-use Rattle.liq_rules.specs.Queries.{trove_info}
+use Rattle.liq_rule_step.specs.Queries.{trove_info}
 use Rattle.liq_core.specs.Sound.{core_of}
-use Rattle.liq_rules.proofs.AlikeReads.{sums_by}
+use Rattle.liq_rule_step.proofs.AlikeReads.{sums_by}
 use Rattle.liq_core.proofs.Telling.{told_none, told_some, entire_fits}
 use Rattle.liq_core.proofs.engine.Protocol.trove_info.Goals as goal
 

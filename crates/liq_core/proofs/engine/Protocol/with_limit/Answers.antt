@@ -4,7 +4,7 @@ use Rattle.liq_types.specs.Soundness.{IsSoundImage}
 use Rattle.liq_order.specs.Order.{order_by}
 use Rattle.liq_types.specs.Image.{opening_image_with}
 use Rattle.liq_core.proofs.Images.{made_again}
-use Rattle.liq_soundness.proofs.SoundStart.{opening_image_sound}
+use Rattle.liq_rule_sound.proofs.SoundStart.{opening_image_sound}
 use Rattle.liq_core.proofs.engine.Protocol.with_limit.Goals as goal
 
 pub invariant_of-result : goal.invariant_of-result

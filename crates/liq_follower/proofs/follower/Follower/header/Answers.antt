@@ -1,5 +1,5 @@
 use Rattle.std.proofs.Common.{◌≡◌, ◌++◌, ◌∷◌, [], ℕ, List, get_or, sym, ◌∙◌, ap, subst}
-use Rattle.liq_header.specs.Layout.{header_size, layout_on}
+use Rattle.liq_disk_header.specs.Layout.{header_size, layout_on}
 use Rattle.liq_follower.specs.declared.phase.Phase.TheVariants as phase
 use Rattle.liq_follower.specs.Fed.{begun_limit}
 use Rattle.liq_follower.specs.Judging.{IsJudged}

@@ -1,5 +1,5 @@
 use Rattle.std.proofs.Common.{◌≡◌, ◌++◌, List, ℕ, IfSome, length, take, drop, sym, subst, rules}
-use Rattle.liq_header.specs.Layout.{piece}
+use Rattle.liq_disk_header.specs.Layout.{piece}
 use Rattle.liq_journal.proofs.Parting.{copied, front_of}
 use Rattle.liq_journal.proofs.block.Block.copy.Goals as goal
 

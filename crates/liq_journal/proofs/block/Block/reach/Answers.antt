@@ -1,7 +1,7 @@
 use Rattle.std.proofs.Common.{◌≡◌, IfSome, length, take, ap, arith}
 use Rattle.liq_journal.specs.declared.block.TheConstants.{BLOCK_BYTES}
 use Rattle.liq_journal.specs.Parts.{bytes_from}
-use Rattle.liq_header.specs.Layout.{piece}
+use Rattle.liq_disk_header.specs.Layout.{piece}
 use Rattle.liq_journal.proofs.Going.{on_ok_from}
 use Rattle.liq_journal.proofs.Parting.{told_there, told_begun}
 use Rattle.liq_journal.proofs.block.Block.reach.Goals as goal

@@ -1,7 +1,7 @@
 use Rattle.std.proofs.Common.{Some, ap, subst}
-use Rattle.liq_pairs.specs.Sides.{on}
-use Rattle.liq_records.specs.Reading.{CountsFault}
-use Rattle.liq_records.specs.declared.answers.AcceptedFault.{AcceptedFault}
+use Rattle.liq_disk_pair.specs.Sides.{on}
+use Rattle.liq_disk_records.specs.Reading.{CountsFault}
+use Rattle.liq_disk_records.specs.declared.answers.AcceptedFault.{AcceptedFault}
 use Rattle.liq_store.specs.Causes.{OneRose, counts_of}
 use Rattle.liq_store.specs.Stored.{Stored}
 use Rattle.liq_store.proofs.Appending.{some_isnt_none}

@@ -1,7 +1,7 @@
 use Rattle.std.proofs.Common.{refl, ap, subst}
 use Rattle.liq_types.specs.declared.replies.Answer.TheVariants as answer
 use Rattle.liq_types.specs.declared.requests.Request.{Request}
-use Rattle.liq_rules.specs.Memory.{IsAccepted}
+use Rattle.liq_rule_step.specs.Memory.{IsAccepted}
 use Rattle.liq_store.specs.Calling.{WritesOn}
 use Rattle.liq_store.specs.Rotating.{is_rotation}
 use Rattle.liq_store.specs.Stored.{Stored}

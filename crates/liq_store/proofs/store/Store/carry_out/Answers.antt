@@ -7,19 +7,19 @@ use Rattle.liq_types.specs.declared.replies.Reply.TheVariants.{No, Said}
 use Rattle.liq_types.specs.State.{State}
 use Rattle.liq_core.specs.Core.{Core, StandsFor, state_of}
 use Rattle.liq_core.proofs.SameContents.{stands_after, stands_before}
-use Rattle.liq_rules.specs.Rules.{call_changes}
-use Rattle.liq_rules.specs.Step.{Allowed, Refused, Repeated, after}
-use Rattle.liq_guided.proofs.Steps.{counts_on, generation_stays}
+use Rattle.liq_rule_step.specs.Rules.{call_changes}
+use Rattle.liq_rule_step.specs.Step.{Allowed, Refused, Repeated, after}
+use Rattle.liq_core_hinted.proofs.Steps.{counts_on, generation_stays}
 use Rattle.liq_journal.specs.Settled.{JournalOn}
 use Rattle.liq_journal.specs.Written.{is_odd, is_size}
 use Rattle.liq_journal.proofs.Testing.{not_rotate}
-use Rattle.liq_pairs.specs.declared.side.Side.{Side}
-use Rattle.liq_pairs.specs.Sides.{on, other}
-use Rattle.liq_pairs.proofs.Generations.{never_rotates}
+use Rattle.liq_disk_pair.specs.declared.side.Side.{Side}
+use Rattle.liq_disk_pair.specs.Sides.{on, other}
+use Rattle.liq_disk_pair.proofs.Generations.{never_rotates}
 use Rattle.liq_store.specs.Calling.{WritesOn}
 use Rattle.liq_store.specs.Causes.{OneRose, counts_of}
 use Rattle.liq_store.specs.Keeping.{IsInOrder}
-use Rattle.liq_rules.specs.Memory.{IsAccepted, TakesMemory}
+use Rattle.liq_rule_step.specs.Memory.{IsAccepted, TakesMemory}
 use Rattle.liq_store.specs.Rotating.{is_rotation}
 use Rattle.liq_store.specs.Stored.{Stored, taken_disk}
 use Rattle.liq_store.specs.Within.{IsWithin, stored}

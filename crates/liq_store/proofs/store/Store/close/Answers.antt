@@ -1,6 +1,6 @@
 use Rattle.std.proofs.Common.{◌∙◌, sym, ap}
-use Rattle.liq_pairs.specs.declared.side.Side.{Side}
-use Rattle.liq_pairs.specs.Sides.{on}
+use Rattle.liq_disk_pair.specs.declared.side.Side.{Side}
+use Rattle.liq_disk_pair.specs.Sides.{on}
 use Rattle.liq_store.specs.Within.{stored}
 use Rattle.liq_store.proofs.Going.{closed_stands}
 use Rattle.liq_store.proofs.store.Store.close.Goals as goal

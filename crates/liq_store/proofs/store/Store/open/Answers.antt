@@ -1,6 +1,6 @@
 use Rattle.std.proofs.Common.{◌≡◌, ℕ, List, Some, true, false, Ok, rules}
 use Rattle.liq_outside.specs.Disk.{LeftNow, Only}
-use Rattle.liq_pairs.proofs.Recovering.{recovered}
+use Rattle.liq_disk_pair.proofs.Recovering.{recovered}
 use Rattle.liq_store.specs.Opening.{left_after, right_after}
 use Rattle.liq_store.proofs.Opening.{begun_not, begun_opened, begun_reads_kept, begun_undamaged, both_fine, judged_not, judged_rests, judged_shuts, left_begun, left_opened, right_opened, same_disk, stood_on}
 use Rattle.liq_store.proofs.store.Store.open.Goals as goal

@@ -1,6 +1,6 @@
 use Rattle.std.proofs.Common.{ap, ◌∙◌}
 use Rattle.left_right.specs.Sides.{view}
-use Rattle.liq_version.specs.Versions.{Numbered}
+use Rattle.liq_list_version.specs.Versions.{Numbered}
 use Rattle.liq_views.proofs.Keeping.{shows}
 use Rattle.liq_views.proofs.pane.Pane.number.Goals as goal
 

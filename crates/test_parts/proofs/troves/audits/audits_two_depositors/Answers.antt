@@ -3,7 +3,7 @@ use Rattle.liq_types.specs.Product.{least_from}
 use Rattle.liq_types.specs.State.{opening}
 use Rattle.liq_stability.specs.Examples.{shared_again}
 use Rattle.liq_stability.specs.Lawful.{IsLawful}
-use Rattle.liq_shares.proofs.Auditing.{auditable}
+use Rattle.liq_audit_laws.proofs.Auditing.{auditable}
 use Rattle.test_parts.proofs.troves.audits.audits_two_depositors.Goals as goal
 
 lawful : IsLawful opening shared_again

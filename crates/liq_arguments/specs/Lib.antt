@@ -1,4 +1,0 @@
--- A reader of the top call's clause needs neither: the words stand in liq_words. These are for the
--- contracts of reading.
-pub mod Line
-pub mod Reading

@@ -1,5 +1,0 @@
-use Rattle.liq_changes.proofs.Following.{view_again}
-use Rattle.liq_changes.proofs.laws.changes_given_again.Goals as goal
-
-pub returns : goal.returns
-returns c = view_again

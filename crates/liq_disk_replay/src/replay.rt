@@ -1,0 +1,117 @@
+//! A list of commands, made again one after the other: each is shown to the onlooker, and then
+//! made.
+
+ghost use Rattle.std.specs.Prelude.{◌≡◌, All, [], false, Err, IfOk};
+ghost use Rattle.liq_types.specs.declared.requests.Command.{Command};
+ghost use Rattle.liq_types.specs.Image.{IsLimit};
+ghost use Rattle.liq_types.specs.State.{State, opening_with};
+ghost use Rattle.liq_core.specs.Core.{StandsFor};
+ghost use Rattle.liq_journal.specs.declared.damage.Damage.{Damage};
+ghost use Rattle.liq_journal.specs.Written.{is_rotate};
+ghost use Rattle.liq_disk_pair.specs.Replay.{replay};
+ghost use Rattle.liq_disk_replay.specs.Retold.{HasCome, IsRetold};
+ghost use Rattle.liq_disk_replay.specs.Making.{PlansNext, MakesNext};
+
+use crate::fault::ReplayFault;
+use crate::onlooker::Onlooker;
+use liq_core::{PlanFault, Planned, Protocol, Turn, unhinted};
+use liq_core_hinted::{Guided, Hints};
+use liq_journal::{Damage, What};
+use liq_types::{Command, Steps, code_of};
+use std::alloc::Global;
+use std::marker::Brand;
+use std::sync::ledger::{Blank, Ledger};
+
+/// Makes the commands, one after the other, on a protocol of their own that begins with the opening
+/// under this limit, and gives the protocol after them. The onlooker notes each.
+/// [`ReplayFault::Damaged`] comes exactly where the replay does not accept a command, where there
+/// is memory.
+pub fn retold<O: Onlooker>(
+    alloc: Global,
+    limit: u64,
+    commands: &[Command],
+    onlooker: &mut O,
+) -> Result<Protocol, ReplayFault>
+    requires limit { IsLimit limit }
+    // The commands of one generation hold no rotation.
+    requires no_rotation { All (λ (c : Command). is_rotate c.call ≡ false) commands.now }
+    requires fresh { O.notes onlooker.old ≡ [] }
+    ensures done { IfOk result (λ protocol. IsRetold O.adds limit commands.now protocol
+        (O.notes onlooker.new)) }
+    ensures damaged { (damage : Damage) → result ≡ Err (ReplayFault.Damaged damage)
+        → replay 1 (opening_with limit) commands.now ≡ Err damage }
+{
+    // odd: steps counted
+    retold_on::<O, Brand>(alloc, limit, commands, onlooker, Blank::new(1))
+}
+
+/// The same, on a ledger of its own.
+fn retold_on<O: Onlooker, L: Ledger>(
+    alloc: Global,
+    limit: u64,
+    commands: &[Command],
+    onlooker: &mut O,
+    blank: Blank,
+) -> Result<Protocol, ReplayFault>
+    requires limit { IsLimit limit }
+    requires no_rotation { All (λ (c : Command). is_rotate c.call ≡ false) commands.now }
+    requires fresh { O.notes onlooker.old ≡ [] }
+    requires name { blank.name ≡ L.name }
+    requires parts { blank.parts ≡ L.parts }
+    requires one { L.parts ≡ 1 }
+    ensures done { IfOk result (λ protocol. IsRetold O.adds limit commands.now protocol
+        (O.notes onlooker.new)) }
+    ensures damaged { (damage : Damage) → result ≡ Err (ReplayFault.Damaged damage)
+        → replay 1 (opening_with limit) commands.now ≡ Err damage }
+{
+    let mut steps = Steps::<L>::new(blank);
+    let mut protocol = Guided::with_limit(alloc, limit);
+    for (i, command) in commands.iter().enumerate() {
+        // Its own hint words change nothing.
+        let command = unhinted(command);
+        make(&mut protocol, onlooker, &command, i as u64 + 1, &mut steps)?;
+    }
+    Ok(protocol.into_protocol())
+}
+
+/// Makes a command, which has this number among the commands.
+fn make<O: Onlooker, L: Ledger>(
+    protocol: &mut Guided,
+    onlooker: &mut O,
+    command: &Command,
+    index: u64,
+    steps: &mut Steps<L>,
+) -> Result<(), ReplayFault>
+    requires { HasCome O.adds protocol.old (O.notes onlooker.old) }
+    ensures { (s : State) → StandsFor protocol.old s
+        → MakesNext O.adds s command.now index protocol.new (O.notes onlooker.old)
+        (O.notes onlooker.new) result }
+{
+    let planned = plan(protocol, command, index)?;
+    onlooker.see(protocol.protocol(), &planned)?;
+    let exact = protocol.reserve(&planned)?;
+    protocol.apply(planned, &Hints::of_guide(exact), steps);
+    Ok(())
+}
+
+/// Plans a command, which must be new and allowed.
+fn plan(protocol: &Guided, command: &Command, index: u64) -> Result<Planned, ReplayFault>
+    ensures { (s : State) → StandsFor protocol.now s → PlansNext s command.now index result }
+{
+    match protocol.plan(command) {
+        Ok(Turn::New(planned)) => Ok(planned),
+        Ok(Turn::Again(_)) => Err(damaged(index, 0)),
+        Err(PlanFault::No(refusal)) => Err(damaged(index, code_of(&refusal))),
+        Err(PlanFault::NoMemory) => Err(ReplayFault::NoMemory),
+    }
+}
+
+/// The command of this number is not accepted, for this reason.
+fn damaged(index: u64, code: u8) -> ReplayFault
+    ensures { result ≡ ReplayFault.Damaged (record { index = index; what = What.Replay code }) }
+{
+    ReplayFault::Damaged(Damage {
+        index,
+        what: What::Replay { code },
+    })
+}

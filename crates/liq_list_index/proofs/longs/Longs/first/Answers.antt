@@ -1,0 +1,18 @@
+use Rattle.std.proofs.Common.{ap, ◌∙◌, Option}
+use Rattle.std.specs.Prelude.{List, option_map}
+use Rattle.liq_types.specs.Ranked.{Ranked, first_of}
+use Rattle.liq_list_index.specs.declared.longs.Long.{Long}
+use Rattle.liq_list_index.specs.Places.{ranked_long, IsHalved}
+use Rattle.liq_list_index.proofs.Halves.{halved_order, long_order}
+use Rattle.liq_list_index.proofs.Stored.{first_is}
+use Rattle.liq_list_index.proofs.longs.Longs.first.Goals as goal
+
+pub returns : goal.returns
+returns c = record {
+  first = c.place_of.ensures.place
+      ∙ ap (λ (o : Option Long). option_map ranked_long o) c.copied.ensures
+      ∙ first_is halved_order ranked_long IsHalved long_order c.self.inside.entries.keys c.first.result
+      c.first.ensures.variant c.first.ensures.first
+      ∙ ap (λ (l : List Ranked). first_of l) c.self.view_is;
+  least = c.place_of.ensures.least;
+}

@@ -1,5 +1,0 @@
-use Rattle.liq_load.proofs.Loads.{next_is}
-use Rattle.liq_load.proofs.load.Load.next_number.Goals as goal
-
-pub returns : goal.returns
-returns c s stands = next_is c.args.self.now.protocol c.args.self.now.counts s c.requires.few c.requires.numbered stands

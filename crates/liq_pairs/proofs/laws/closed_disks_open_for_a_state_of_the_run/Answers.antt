@@ -1,5 +1,0 @@
-use Rattle.liq_pairs.proofs.Past.{closed_stands}
-use Rattle.liq_pairs.proofs.laws.closed_disks_open_for_a_state_of_the_run.Goals as goal
-
-pub returns : goal.returns
-returns c = closed_stands

@@ -1,8 +1,0 @@
-use Rattle.liq_pairs.proofs.Turning.{rotation_kept, rotation_settled}
-use Rattle.liq_pairs.proofs.laws.rotations_keep_pairs.Goals as goal
-
-pub returns-clause-kept : goal.returns-clause-kept
-returns-clause-kept c = rotation_kept
-
-pub returns-clause-settled : goal.returns-clause-settled
-returns-clause-settled c = rotation_settled

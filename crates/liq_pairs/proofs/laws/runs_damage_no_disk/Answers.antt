@@ -1,5 +1,0 @@
-use Rattle.liq_pairs.proofs.Past.{damaged_stood}
-use Rattle.liq_pairs.proofs.laws.runs_damage_no_disk.Goals as goal
-
-pub returns : goal.returns
-returns c = damaged_stood

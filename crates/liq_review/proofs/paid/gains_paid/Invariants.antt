@@ -1,6 +1,0 @@
-use Rattle.std.proofs.Common.{◌≡◌, take}
-use Rattle.liq_review.specs.Paid.{paid_table}
-use Rattle.liq_review.proofs.paid.gains_paid.Given as goal
-
-abbrev pub invariant-loop-event : goal.invariant-loop-event
-invariant-loop-event l = l.paid.entries ≡ paid_table (take l.event-index l.events)

@@ -1,7 +1,0 @@
-use Rattle.std.proofs.Common.{◌≡◌, ◌++◌, drop}
-use Rattle.liq_rewarding.specs.Telling.{notes_in}
-use Rattle.liq_rewarding.proofs.happened.note.Given as goal
-
-abbrev pub invariant-loop-event : goal.invariant-loop-event
-invariant-loop-event l = l.notes.items ++ notes_in l.minute (drop l.event-index l.events) ≡ l.initial.notes.items
-    ++ notes_in l.minute l.events

@@ -1,8 +1,0 @@
-use Rattle.std.proofs.Common.{refl}
-use Rattle.liq_num.specs.Power.{power_of, digits_product, squared}
-use Rattle.liq_types.specs.Product.{least_from}
-use Rattle.liq_rules.proofs.examples.redemption_example.Goals as goal
-
-pub returns : goal.returns
-unfolding least_from power_of digits_product squared
-returns c = refl

@@ -1,8 +1,0 @@
-use Rattle.liq_rules.proofs.Runs.{replays}
-use Rattle.liq_rules.proofs.laws.accepted_commands_replay.Goals as goal
-
-pub returns-clause-state : goal.returns-clause-state
-returns-clause-state c s requests = (replays s requests).state
-
-pub returns-clause-again : goal.returns-clause-again
-returns-clause-again c s requests = (replays s requests).again

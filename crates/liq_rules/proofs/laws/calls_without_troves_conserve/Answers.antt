@@ -1,5 +1,0 @@
-use Rattle.liq_rules.proofs.Conserving.{call_conserves}
-use Rattle.liq_rules.proofs.laws.calls_without_troves_conserve.Goals as goal
-
-pub returns : goal.returns
-returns c = call_conserves

@@ -1,8 +1,0 @@
-use Rattle.liq_rules.proofs.Started.{started_image, started_formed}
-use Rattle.liq_rules.proofs.laws.images_begin_states.Goals as goal
-
-pub returns-clause-same : goal.returns-clause-same
-returns-clause-same c = started_image
-
-pub returns-clause-formed : goal.returns-clause-formed
-returns-clause-formed c = started_formed

@@ -1,5 +1,0 @@
-use Rattle.liq_rules.proofs.Counting.{values_count}
-use Rattle.liq_rules.proofs.laws.replies_have_their_values.Goals as goal
-
-pub returns : goal.returns
-returns c = values_count

@@ -1,5 +1,0 @@
-use Rattle.liq_rules.proofs.SoundRules.{sound_at_home}
-use Rattle.liq_rules.proofs.laws.sound_images_conserve.Goals as goal
-
-pub returns : goal.returns
-returns c = sound_at_home

@@ -1,5 +1,0 @@
-use Rattle.std.proofs.Common.{vec_len}
-use Rattle.liq_serving.proofs.seats.+seats_back.Given as goal
-
-abbrev pub decreases-seats_back : goal.decreases-seats_back
-decreases-seats_back g l = vec_len l.done

@@ -1,9 +1,0 @@
-use Rattle.liq_core.specs.Core.{state_of}
-use Rattle.liq_serving.proofs.serving.serve_sessions.Given as goal
-
-abbrev pub ghosts-serve_from : goal.ghosts-serve_from
-ghosts-serve_from g a = record {
-  state = state_of a.store.core;
-  left = g.D.Disk.at a.store.left;
-  right = g.D.Disk.at a.store.right;
-}

@@ -1,5 +1,0 @@
-use Rattle.liq_shares.proofs.Auditing.{auditable}
-use Rattle.liq_shares.proofs.laws.lawful_events_can_be_audited.Goals as goal
-
-pub returns : goal.returns
-returns c events lawful gains few = auditable events lawful gains few

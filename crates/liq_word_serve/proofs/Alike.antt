@@ -1,0 +1,134 @@
+-- Serving says the same of each state for which the store's protocol stands.
+use Rattle.std.proofs.Common.{ℕ, inl, inr, ⊎_elim, List, map, Option, Some, None, ◌∙◌, ◌≡◌, sym, subst, refl}
+use Rattle.liq_types.specs.declared.requests.Command.{Command}
+use Rattle.liq_types.specs.declared.requests.Request.{Request}
+use Rattle.liq_types.specs.declared.requests.Request.TheVariants.{Do, Ask}
+use Rattle.liq_types.specs.State.{State}
+use Rattle.liq_outside.specs.At.{DiskAt}
+use Rattle.liq_rule_step.specs.History as history
+use Rattle.liq_rule_step.specs.History.{IsLegal, requests_of}
+use Rattle.liq_rule_step.specs.Memory.{IsAccepted}
+use Rattle.liq_rule_step.proofs.AlikeReads.{Alike}
+use Rattle.liq_rule_step.proofs.AlikeReplies.{after_alike, replies_alike, ruling_alike, run_alike, step_alike}
+use Rattle.liq_disk_pair.specs.Past.{AtCommand, Fault, LeavesPast, NoFault}
+use Rattle.liq_disk_pair.proofs.Alike.{kept_alike, settled_alike}
+use Rattle.liq_store.proofs.Past.{past_alike}
+use Rattle.liq_sessions.specs.declared.script.Script.{Script}
+use Rattle.liq_store.specs.Keeping.{IsKeptAround}
+use Rattle.liq_store.specs.Leaving.{RestAtEnd}
+use Rattle.liq_rule_step.specs.Recorded.{recorded}
+use Rattle.liq_book.specs.declared.items.Halt.{Halt}
+use Rattle.liq_book.specs.Past.{IsFaultOf, LeavesFrom, since_origin}
+use Rattle.liq_word_serve.specs.Ends.{halt_of}
+use Rattle.liq_word_serve.specs.declared.served.End.{End}
+use Rattle.liq_word_serve.specs.declared.served.End.TheVariants as end
+use Rattle.liq_word_serve.specs.declared.served.Served.{Served}
+use Rattle.liq_word_serve.specs.Serves.{AreSettled, LeavesDisks, Serves}
+
+legal_alike : {s t : State} → Alike s t → (entries : List history.Entry) → IsLegal s entries → IsLegal t entries
+legal_alike alike entries legal = record {
+  replies = legal.replies ∙ replies_alike (requests_of entries) alike;
+  indices = legal.indices;
+}
+
+accepted_alike : {s t : State} → Alike s t → (request : Request) → IsAccepted s request → IsAccepted t request
+accepted_alike alike (Do c) is = sym (ruling_alike alike c) ∙ is
+accepted_alike alike (Ask query) is = is
+
+around_alike : {s t : State} → Alike s t → (request : Request) (l r : List ℕ) → IsKeptAround s request l r
+    → IsKeptAround t request l r
+around_alike alike request l r kept = ⊎_elim (λ before. inl (kept_alike alike l r before))
+    (λ after. inr (kept_alike (step_alike alike request) l r after)) kept
+
+module _ {D : Type 0} (at : D → DiskAt) where
+  settles_alike : {s t : State} → Alike s t → (left right : D) → AreSettled at s left right → AreSettled at t left right
+  settles_alike alike left right settled = record {
+    left_rests = settled.left_rests;
+    right_rests = settled.right_rests;
+    side = settled.side;
+    settled = λ l r told_left told_right. settled_alike alike settled.side l r
+        (settled.settled l r told_left told_right);
+  }
+
+  disks_alike : (scripts : List Script) (entries : List history.Entry) {s t : State} → Alike s t
+      → (e : End) (left right : D)
+      → LeavesDisks at scripts entries s e left right → LeavesDisks at scripts entries t e left right
+  disks_alike scripts entries alike end.All left right disks = settles_alike alike left right disks
+  disks_alike scripts entries alike end.NoMemory left right disks = settles_alike alike left right disks
+  disks_alike scripts entries alike (end.DiskFault halt) left right disks = (
+    disks.0,
+    accepted_alike alike halt.request disks.1,
+    λ l r told_left told_right.
+        let around = disks.2 l r told_left told_right in (
+          around_alike alike halt.request l r around.0,
+          λ a b in_left in_right. around_alike alike halt.request a b
+              (around.1 a b in_left in_right),
+        ),
+  )
+
+  abbrev LeavesBy : DiskAt → DiskAt → List ℕ → List ℕ → State → List Request → Option Halt → D → D → Type 0
+  LeavesBy left_origin right_origin l r s requests halt left right =
+      (fault : Fault) × IsFaultOf halt fault
+      × LeavesPast at (since_origin left_origin right_origin) l r s requests fault left right
+      × RestAtEnd at l r s requests fault left right
+
+  from_alike : {s t : State} → Alike s t → (left_origin right_origin : DiskAt) (requests : List Request)
+      (halt : Option Halt) (left right : D)
+      → LeavesFrom at left_origin right_origin s requests halt left right
+      → LeavesFrom at left_origin right_origin t requests halt left right
+  from_alike {s} {t} alike left_origin right_origin requests halt left right from l r told_left told_right =
+      by halt (from l r told_left told_right) where
+        leaves_at : (fault now : Fault) → fault ≡ now
+            → LeavesPast at (since_origin left_origin right_origin) l r s requests fault left right
+            → LeavesPast at (since_origin left_origin right_origin) l r t requests now left right
+        leaves_at fault now is leaves =
+            past_alike at (since_origin left_origin right_origin) l r s t requests now left right alike
+            (subst (λ (f : Fault). LeavesPast at
+            (since_origin left_origin right_origin) l r s requests f left right) is leaves)
+
+        rests_at : (fault now : Fault) → fault ≡ now → RestAtEnd at l r s requests fault left right
+            → RestAtEnd at l r s requests now left right
+        rests_at fault now is rests = subst (λ (f : Fault). RestAtEnd at l r s requests f left right) is rests
+
+        by : (h : Option Halt) → LeavesBy left_origin right_origin l r s requests h left right
+            → LeavesBy left_origin right_origin l r t requests h left right
+        by None from = (NoFault, refl, leaves_at from.0 NoFault from.1 from.2, rests_at from.0 NoFault from.1 from.3)
+        by (Some halt) from =
+            let c : Command = from.1.0 in (
+              AtCommand c,
+              (c, from.1.1, refl),
+              leaves_at from.0 (AtCommand c) from.1.2 from.2,
+              around c (rests_at from.0 (AtCommand c) from.1.2 from.3),
+            ) where
+              around : (c : Command) → RestAtEnd at l r s requests (AtCommand c) left right
+                  → RestAtEnd at l r t requests (AtCommand c) left right
+              around c kept a b in_left in_right = ⊎_elim
+                  (λ before. inl (kept_alike (run_alike requests alike) a b before))
+                  (λ later. inr (
+                    sym (ruling_alike (run_alike requests alike) c)
+                        ∙ later.0,
+                    kept_alike (after_alike (run_alike requests alike) c) a b later.1,
+                  ))
+                  (kept a b in_left in_right)
+
+  pub serves_alike : {s t : State} → Alike s t → (left_origin right_origin : DiskAt) (scripts : List Script)
+      (served : Served D)
+      → Serves at s left_origin right_origin scripts served → Serves at t left_origin right_origin scripts served
+  serves_alike alike left_origin right_origin scripts served it =
+      let entries : List history.Entry = map recorded served.history in
+      record {
+        legal = legal_alike alike entries it.legal;
+        fronts = it.fronts;
+        whole = it.whole;
+        memory = it.memory;
+        sessions = it.sessions;
+        disks = disks_alike scripts entries (run_alike (requests_of entries) alike) served.end served.left served.right
+            it.disks;
+        since = record {
+          cause = it.since.cause;
+          left_time = it.since.left_time;
+          right_time = it.since.right_time;
+          past = from_alike alike left_origin right_origin (requests_of entries) (halt_of served.end) served.left
+              served.right it.since.past;
+        };
+      }

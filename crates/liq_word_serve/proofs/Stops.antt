@@ -1,0 +1,226 @@
+-- What a stop leaves of the disks, at any moment of serving an input.
+use Rattle.std.proofs.Common.{ℕ, ◌≡◌, ◌≢◌, ◌≤◌, inl, inr, List, [], map, Option, Some, None, Ok, refl, sym, subst, arith}
+use Rattle.std.specs.Prelude.{IfSome, IsSome, ◌↔◌, false}
+use Rattle.liq_outside.specs.At.{DiskAt}
+use Rattle.liq_outside.specs.Disk.{GoesOn, LeavesOnly, LeftNow, Only}
+use Rattle.liq_outside.proofs.Moments.{started}
+use Rattle.liq_types.specs.declared.requests.Command.{Command}
+use Rattle.liq_types.specs.declared.requests.Request.{Request}
+use Rattle.liq_types.specs.declared.requests.Request.TheVariants.{Do, Ask}
+use Rattle.liq_types.specs.State.{State}
+use Rattle.liq_types.proofs.Tests.{value_of}
+use Rattle.liq_rule_step.specs.History as history
+use Rattle.liq_rule_step.specs.History.{requests_of, state_after}
+use Rattle.liq_rule_step.specs.Recorded.{recorded}
+use Rattle.liq_journal.specs.Opened.{OpenLeaves}
+use Rattle.liq_disk_pair.specs.declared.side.Side.{Side}
+use Rattle.liq_disk_pair.specs.declared.side.Side.TheVariants.{Left, Right}
+use Rattle.liq_disk_pair.specs.Kept.{IsKept}
+use Rattle.liq_disk_pair.specs.Pair.{state_on}
+use Rattle.liq_disk_pair.specs.Past.{AtCommand, Fault, InOpening, LeavesPast, NoFault}
+use Rattle.liq_disk_pair.specs.Sides.{on}
+use Rattle.liq_disk_pair.specs.Unfinished.{IsRecovered, LeftLeaves}
+use Rattle.liq_store.specs.declared.answers.StoreWhy.{StoreWhy}
+use Rattle.liq_store.specs.declared.answers.StoreWhy.TheVariants as why
+use Rattle.liq_store.specs.Keeping.{IsAtRest, IsInOrder, LeavesPairs}
+use Rattle.liq_store.specs.Leaving.{LeavesBoth, RestAtEnd}
+use Rattle.liq_store.specs.Opening.{OpensOn}
+use Rattle.liq_store.specs.Past.{Past}
+use Rattle.liq_store.specs.Stored.{Stored}
+use Rattle.liq_store.proofs.Past.{begins, joins, opening_leaves}
+use Rattle.liq_text_lines.specs.declared.stops.Stop.{Stop}
+use Rattle.liq_book.specs.Past.{IsFaultOf, since_origin}
+use Rattle.liq_sessions.specs.declared.script.Script.{Script}
+use Rattle.liq_word_serve.specs.declared.input.Finish.{Finish}
+use Rattle.liq_word_serve.specs.declared.input.Finish.TheVariants as finish
+use Rattle.liq_word_serve.specs.declared.served.End.{End}
+use Rattle.liq_word_serve.specs.declared.served.End.TheVariants as end
+use Rattle.liq_word_serve.specs.declared.served.Served.{Served}
+use Rattle.liq_word_serve.specs.Ends.{halt_of}
+use Rattle.liq_word_serve.specs.Input.{IsFaultAt, IsFinishOf}
+use Rattle.liq_word_serve.specs.Serves.{Serves}
+
+-- a session and its command
+abbrev pub called : ℕ → Request → Option (ℕ × Command)
+called session (Do c) = Some (session, c)
+called session (Ask query) = None
+
+-- the call that met a disk's fault
+abbrev pub halted_in : End → Option (ℕ × Command)
+halted_in (end.DiskFault halt) = called halt.session halt.request
+halted_in end.All = None
+halted_in end.NoMemory = None
+
+module _ {D : Type 0} (at : D → DiskAt) (left right : D) where
+  -- what a stop leaves of these disks, when serving them finished so
+  abbrev pub LeavesAt : Finish → Option (ℕ × Command) → List history.Entry → D → D → Type 0
+  LeavesAt how halted entries now_left now_right =
+      (l r : List ℕ) (start : State) → (at left).seen ≡ Some l → (at right).seen ≡ Some r
+      → Only l (LeftNow at left) → Only r (LeftNow at right)
+      → state_on l r ≡ Ok start → IsKept l r start
+      → LeavesBoth at left right (IsFaultAt how halted) l r start (requests_of entries) now_left now_right
+
+  -- what an opening says of each disk, and of both
+  pub record LeavesOpening (now_left now_right : D) : Type 0 where
+    pub left_leaves : (l r : List ℕ) → (at left).seen ≡ Some l → (at right).seen ≡ Some r → Only l (LeftNow at left)
+        → LeavesOnly at left now_left (LeftLeaves l r)
+    pub right_leaves : (r : List ℕ) → (at right).seen ≡ Some r → Only r (LeftNow at right)
+        → LeavesOnly at right now_right (OpenLeaves false r)
+    pub recovers : (l r : List ℕ) (s : State) → (at left).seen ≡ Some l → (at right).seen ≡ Some r
+        → Only l (LeftNow at left) → Only r (LeftNow at right) → IsKept l r s
+        → LeavesPairs at left right now_left now_right (IsRecovered l r s)
+
+module _ {D : Type 0} (at : D → DiskAt)
+    (may_stay : (disk : D) (held : List ℕ) → (at disk).seen ≡ Some held → LeftNow at disk held) (left right : D) where
+  abbrev At : Finish → Option (ℕ × Command) → List history.Entry → D → D → Type 0
+  At = LeavesAt at left right
+
+  -- ---- nothing was opened
+
+  -- nothing is pending on a disk of which a crash leaves what it tells
+  rests_as : (disk : D) (held : List ℕ) → (at disk).seen ≡ Some held → Only held (LeftNow at disk) → IsAtRest at disk
+  rests_as disk held told only =
+      subst (λ (o : Option (List ℕ)). IfSome o (λ h. Only h (LeftNow at disk))) (sym told) only
+
+  -- the input was not read to its end, and nobody touched the disks
+  pub leaves_unread : (stop : Stop) → At (finish.NotRead stop) None [] left right
+  leaves_unread stop l r start told_l told_r only_l only_r is kept = record {
+    fault = NoFault;
+    fault_is = refl;
+    images =
+        opening_leaves at may_stay l r start left right left right kept
+        (started at left (LeftLeaves l r) (λ image there. inl (inl (only_l image there))))
+        (started at right (OpenLeaves false r) (λ image there. inl (only_r image there)))
+        NoFault;
+    rests = (rests_as left l told_l only_l, rests_as right r told_r only_r);
+  }
+
+  -- no store was opened
+  pub leaves_unopened : (why_not : StoreWhy) (now_left now_right : D) → LeavesOpening at left right now_left now_right
+      → GoesOn at left now_left → GoesOn at right now_right
+      → (why_not ≢ why.DiskFault → IsAtRest at now_left × IsAtRest at now_right)
+      → At (finish.NotOpened why_not) None [] now_left now_right
+  leaves_unopened why_not now_left now_right opening left_time right_time rest l r start told_l told_r only_l only_r is
+      kept = by why_not rest where
+        images : (fault : Fault) → LeavesPast at (λ side. (at (on side left right)).moment) l r start
+            [] fault now_left now_right
+        images fault =
+            opening_leaves at may_stay l r start left right now_left now_right kept
+            (opening.left_leaves l r told_l told_r only_l) (opening.right_leaves r told_r only_r) fault
+
+        by : (w : StoreWhy) → (w ≢ why.DiskFault → IsAtRest at now_left × IsAtRest at now_right)
+            → LeavesBoth at left right (IsFaultAt (finish.NotOpened w) None) l r start [] now_left now_right
+        by why.DiskFault rest = record {
+          fault = InOpening;
+          fault_is = refl;
+          images = images InOpening;
+          rests = λ a b in_left in_right. (
+            refl,
+            opening.recovers l r start told_l told_r only_l only_r kept a b
+                ((at now_left).moment, left_time.later, omega arith, in_left)
+                ((at now_right).moment, right_time.later, omega arith, in_right),
+          );
+        }
+        by (why.Damaged side damage) rest = record {
+          fault = NoFault;
+          fault_is = refl;
+          images = images NoFault;
+          rests = rest (λ e. cc);
+        }
+        by why.NoMemory rest = record { fault = NoFault; fault_is = refl; images = images NoFault; rests = rest (λ e. cc) }
+
+  -- ---- the sessions were served
+
+  module _ (store : Stored D) (scripts : List Script) (served : Served D) where
+    abbrev entries : List history.Entry
+    entries = map recorded served.history
+
+    -- what was left by the book, whose disks told a and b at its origin
+    abbrev LeftBy : List ℕ → List ℕ → State → Fault → Type 0
+    LeftBy a b start fault =
+        LeavesPast at (since_origin (at store.left) (at store.right)) a b start
+        (requests_of entries) fault served.left served.right
+        × RestAtEnd at a b start (requests_of entries) fault served.left served.right
+
+    -- what is left at the finish, by the disks that there were at first
+    abbrev Finishes : List ℕ → List ℕ → State → Finish → Option (ℕ × Command) → Type 0
+    Finishes l r start h halted =
+        LeavesBoth at left right (IsFaultAt h halted) l r start (requests_of entries) served.left served.right
+
+    -- images are counted from the same moments
+    leaves_since : (l r : List ℕ) (start : State) (requests : List Request) (fault : Fault)
+        → LeavesPast at (since_origin (at store.left) (at store.right)) l r start requests fault
+        served.left served.right
+        → LeavesPast at (λ side. (at (on side store.left store.right)).moment) l r start requests fault
+        served.left served.right
+    leaves_since l r start requests fault leaves = record {
+      images = λ side image there. leaves.images side image (
+        there.0,
+        subst (λ k. k ≤ there.0) (same side) there.1,
+        there.2,
+        there.3,
+      );
+      whole = λ side first few image there. leaves.whole side first few image (
+        there.0,
+        subst (λ k. k ≤ there.0) (same side) there.1,
+        there.2,
+        there.3,
+      );
+    } where
+      same : (side : Side) → (at (on side store.left store.right)).moment
+          ≡ on side (at store.left).moment (at store.right).moment
+      same Left = refl
+      same Right = refl
+
+    pub leaves_served : LeavesOpening at left right store.left store.right → OpensOn at left right store
+        → IsInOrder at store
+        → (IsSome (at store.left).seen ↔ IsSome (at left).seen)
+        → (IsSome (at store.right).seen ↔ IsSome (at right).seen)
+        → GoesOn at store.left served.left → GoesOn at store.right served.right
+        → ((l r : List ℕ) (start : State) → (at left).seen ≡ Some l → (at right).seen ≡ Some r → state_on l r ≡ Ok start
+        → Serves at start (at store.left) (at store.right) scripts served)
+        → (how : Finish) → IsFinishOf served.end how → At how (halted_in served.end) entries served.left served.right
+    leaves_served opening opened order left_telling right_telling left_time right_time serves how how_is l r start
+        told_l told_r only_l only_r is kept =
+        let from = (serves l r start told_l told_r is).since.past a.0 b.0 a.1 b.1 in
+        by_end served.end (from.0, from.1, (from.2, from.3)) how how_is where
+          past : Past at (λ side. (at (on side left right)).moment) l r start [] store
+          past =
+              begins at may_stay l r start left right store told_l told_r kept
+              (opening.left_leaves l r told_l told_r only_l) (opening.right_leaves r told_r only_r) left_telling
+              right_telling opened order
+
+          a : (held : List ℕ) × ((at store.left).seen ≡ Some held)
+          a = value_of (at store.left).seen past.left_tells
+
+          b : (held : List ℕ) × ((at store.right).seen ≡ Some held)
+          b = value_of (at store.right).seen past.right_tells
+
+          along : (fault : Fault) → LeavesPast at (since_origin (at store.left) (at store.right)) a.0 b.0 start
+              (requests_of entries) fault served.left served.right
+              → LeavesPast at (λ side. (at (on side left right)).moment) l r start
+              (requests_of entries) fault served.left served.right
+          along fault leaves =
+              joins at may_stay (λ side. (at (on side left right)).moment) l r start
+              (requests_of entries) fault store served.left served.right a.0 b.0
+              past order a.1 b.1 left_time right_time (leaves_since a.0 b.0 start (requests_of entries) fault leaves)
+
+          calm : LeftBy a.0 b.0 start NoFault → (h : Finish) → IsFaultAt h None NoFault → Finishes l r start h None
+          calm from h so = record { fault = NoFault; fault_is = so; images = along NoFault from.0; rests = from.1 }
+
+          by_end : (e : End) → (fault : Fault) × IsFaultOf (halt_of e) fault × LeftBy a.0 b.0 start fault → (h : Finish)
+              → IsFinishOf e h → Finishes l r start h (halted_in e)
+          by_end end.All from h (inl h_is) = subst (λ (h : Finish). Finishes l r start h None) (sym h_is)
+              (calm (subst (LeftBy a.0 b.0 start) from.1 from.2) finish.All refl)
+          by_end end.All from h (inr h_is) = subst (λ (h : Finish). Finishes l r start h None) (sym h_is)
+              (calm (subst (LeftBy a.0 b.0 start) from.1 from.2) finish.WriteFault refl)
+          by_end end.NoMemory from h h_is = subst (λ (h : Finish). Finishes l r start h None) (sym h_is)
+              (calm (subst (LeftBy a.0 b.0 start) from.1 from.2) finish.NoMemory refl)
+          by_end (end.DiskFault halt) from h h_is =
+              let c : Command = from.1.0 in
+              let at_c : LeftBy a.0 b.0 start (AtCommand c) = subst (LeftBy a.0 b.0 start) from.1.2 from.2 in
+              let here : IsFaultAt finish.DiskFault (called halt.session halt.request) (AtCommand c) =
+              subst (λ (q : Request). IsFaultAt finish.DiskFault (called halt.session q) (AtCommand c))
+              (sym from.1.1) refl in
+              subst (λ (h : Finish). Finishes l r start h (called halt.session halt.request)) (sym h_is)
+              (record { fault = AtCommand c; fault_is = here; images = along (AtCommand c) at_c.0; rests = at_c.1 })

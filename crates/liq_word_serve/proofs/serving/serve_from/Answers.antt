@@ -1,0 +1,62 @@
+use Rattle.std.proofs.Common.{◌≡◌, length, arith}
+use Rattle.liq_word_serve.proofs.Assembling.{came_many, came_own, serves_came, serves_none}
+use Rattle.liq_word_serve.proofs.Counting.{each_short}
+use Rattle.liq_word_serve.proofs.serving.serve_from.Goals as goal
+
+pub returns-in-Err : goal.returns-in-Err
+returns-in-Err g c =
+    let none = c.unserved.ensures in
+    let back = c.in-Err.ensures.err in
+    serves_none _ _ _ _ _ (g.met.D.Disk g.world.𝓛 g.world.𝓜 g.world.𝓡 (
+      (λ s x. x),
+      (λ x. x),
+      (λ x. x),
+      λ x. x,
+    )).seen_may_stay c.in-Err.store c.unserved.result none.left none.right none.history none.end
+    (rw back c.requires.servable.going) none.order (rw back c.requires.origin)
+
+pub run_at-seats-requires-clause-short : goal.run_at-seats-requires-clause-short
+run_at-seats-requires-clause-short g c κs within = each_short c.args.scripts.items c.requires.servable.total
+
+pub finished-requires-clause-own : goal.finished-requires-clause-own
+finished-requires-clause-own g c =
+    rw (← c.new-desk.ensures) (came_own _ _ _ _ _ _ c.run_at-seats.ensures (λ k d within. rw c.new-desk.ensures
+    ((c.in-Ok.ensures.seats k d within).own)))
+
+pub finished-requires-clause-all : goal.finished-requires-clause-all
+finished-requires-clause-all g c =
+    let same : length c.in-Ok.made.1.items ≡ length c.args.scripts.items = omega (
+      arith,
+      c.in-Ok.ensures.count,
+      c.len-count.ensures,
+      c.args.scripts.ok.0,
+    ) in
+    omega (
+      arith,
+      came_many _ _ c.args.scripts.items c.in-Ok.made.1.items c.run_at-seats.result.0.items _
+          c.run_at-seats.ensures same,
+      c.in-Ok.ensures.sessions,
+      c.len-count.ensures,
+      c.args.scripts.ok.0,
+    )
+
+pub returns : goal.returns
+returns g c =
+    let same : length c.in-Ok.made.1.items ≡ length c.args.scripts.items = omega (
+      arith,
+      c.in-Ok.ensures.count,
+      c.len-count.ensures,
+      c.args.scripts.ok.0,
+    ) in
+    serves_came _ _ c.args.scripts.items c.in-Ok.made.1.items c.run_at-seats.result.0.items c.run_at-seats.result.1 _ _
+    _ _ c.in-Ok.made.0.lock _ c.finished.result
+    c.requires.servable.numbered c.in-Ok.ensures.seats same c.requires.servable.total (omega (
+      arith,
+      c.in-Ok.ensures.sessions,
+      c.len-count.ensures,
+      c.args.scripts.ok.0,
+    )) c.finished.ensures c.run_at-seats.ensures
+
+pub run_at-seats-requires-clause-belong : goal.run_at-seats-requires-clause-belong
+run_at-seats-requires-clause-belong g c κs within k d less =
+    rw c.new-desk.ensures ((c.in-Ok.ensures.seats k d less).own)
