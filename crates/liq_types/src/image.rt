@@ -3,8 +3,8 @@
 //! pushed in the order of their keys.
 
 ghost use Rattle.std.specs.Prelude.{◌≡◌, [], ◌∷◌, ◌++◌, map, OnOk, OnErr};
-ghost use Rattle.liq_types.specs.ImageRows.{wallet_row, trove_row, surplus_row, finished_row, deposit_row, client_row};
 
+use crate::figures::{Client, Deposit, Trove, Wallet};
 use crate::replies::NoMemory;
 use std::alloc::Global;
 use std::marker::Model;
@@ -111,276 +111,120 @@ pub struct ClientRow {
     pub values: [u64; 6],
 }
 
-/// The wallets of an image, in ascending accounts. Contracts see them as a table.
-#[derive(Drop)]
-pub struct WalletRows {
-    rows: Vec<WalletRow>,
+/// A row of one of an image's tables.
+pub trait ImageRow: Copy {
+    /// An entry of the table.
+    type Entry;
+
+    /// The entry for which a row stands.
+    ghost entry: { Self → Self.Entry };
 }
 
-impl Model for WalletRows {
-    ghost use Rattle.std.specs.Prelude.{map};
-    ghost use Rattle.liq_types.specs.declared.figures.Wallet.{Wallet};
-    ghost use Rattle.liq_types.specs.Tables.{Table};
+/// The rows of one of an image's tables, in ascending keys. Contracts see their entries.
+#[derive(Drop)]
+pub struct ImageRows<R: ImageRow> {
+    rows: Vec<R>,
+}
+
+impl<R: ImageRow> Model for ImageRows<R> {
+    ghost use Rattle.std.specs.Prelude.{List, map};
+
+    ghost Value = { List R.Entry };
+
+    ghost view = { λ t. map R.entry t.rows.items };
+}
+
+impl<R: ImageRow> ImageRows<R> {
+    /// No rows.
+    pub fn new(alloc: Global) -> ImageRows<R>
+        ensures { result ≡ [] }
+    {
+        ImageRows {
+            rows: Vec::new(alloc),
+        }
+    }
+
+    /// One more row, behind the others. Where there is no memory nothing changes.
+    pub fn push(&mut self, row: R) -> Result<(), NoMemory>
+        ensures ok { OnOk result (self.new ≡ self.old ++ R.entry row ∷ []) }
+        ensures err { OnErr result (self.new ≡ self.old) }
+    {
+        match self.rows.push(row) {
+            Ok(()) => Ok(()),
+            Err(_) => Err(NoMemory),
+        }
+    }
+
+    /// The rows, in their order.
+    pub fn rows(&self) -> &[R]
+        ensures { map R.entry result.now ≡ self.now }
+    {
+        self.rows.as_slice()
+    }
+}
+
+impl ImageRow for WalletRow {
     ghost use Rattle.liq_types.specs.ImageRows.{wallet_row};
 
-    ghost Value = { Table Wallet };
+    type Entry = (u32, Wallet);
 
-    ghost view = { λ t. map wallet_row t.rows.items };
+    ghost entry = { wallet_row };
 }
 
-impl WalletRows {
-    /// No rows.
-    pub fn new(alloc: Global) -> WalletRows
-        ensures { result ≡ [] }
-    {
-        WalletRows {
-            rows: Vec::new(alloc),
-        }
-    }
+/// The wallets of an image, in ascending accounts.
+pub type WalletRows = ImageRows<WalletRow>;
 
-    /// One more row, behind the others. Where there is no memory nothing changes.
-    pub fn push(&mut self, row: WalletRow) -> Result<(), NoMemory>
-        ensures ok { OnOk result (self.new ≡ self.old ++ wallet_row row ∷ []) }
-        ensures err { OnErr result (self.new ≡ self.old) }
-    {
-        match self.rows.push(row) {
-            Ok(()) => Ok(()),
-            Err(_) => Err(NoMemory),
-        }
-    }
-
-    /// The rows, in their order.
-    pub fn rows(&self) -> &[WalletRow]
-        ensures { map wallet_row result.now ≡ self.now }
-    {
-        self.rows.as_slice()
-    }
-}
-
-/// The troves of an image, in ascending accounts. Contracts see them as a table.
-#[derive(Drop)]
-pub struct TroveRows {
-    rows: Vec<TroveRow>,
-}
-
-impl Model for TroveRows {
-    ghost use Rattle.std.specs.Prelude.{map};
-    ghost use Rattle.liq_types.specs.declared.figures.Trove.{Trove};
-    ghost use Rattle.liq_types.specs.Tables.{Table};
+impl ImageRow for TroveRow {
     ghost use Rattle.liq_types.specs.ImageRows.{trove_row};
 
-    ghost Value = { Table Trove };
+    type Entry = (u32, Trove);
 
-    ghost view = { λ t. map trove_row t.rows.items };
+    ghost entry = { trove_row };
 }
 
-impl TroveRows {
-    /// No rows.
-    pub fn new(alloc: Global) -> TroveRows
-        ensures { result ≡ [] }
-    {
-        TroveRows {
-            rows: Vec::new(alloc),
-        }
-    }
+/// The troves of an image, in ascending accounts.
+pub type TroveRows = ImageRows<TroveRow>;
 
-    /// One more row, behind the others. Where there is no memory nothing changes.
-    pub fn push(&mut self, row: TroveRow) -> Result<(), NoMemory>
-        ensures ok { OnOk result (self.new ≡ self.old ++ trove_row row ∷ []) }
-        ensures err { OnErr result (self.new ≡ self.old) }
-    {
-        match self.rows.push(row) {
-            Ok(()) => Ok(()),
-            Err(_) => Err(NoMemory),
-        }
-    }
-
-    /// The rows, in their order.
-    pub fn rows(&self) -> &[TroveRow]
-        ensures { map trove_row result.now ≡ self.now }
-    {
-        self.rows.as_slice()
-    }
-}
-
-/// The surplus of each owner, in ascending accounts. Contracts see it as a table.
-#[derive(Drop)]
-pub struct SurplusRows {
-    rows: Vec<SurplusRow>,
-}
-
-impl Model for SurplusRows {
-    ghost use Rattle.std.specs.Prelude.{ℕ, map};
-    ghost use Rattle.liq_types.specs.Tables.{Table};
+impl ImageRow for SurplusRow {
     ghost use Rattle.liq_types.specs.ImageRows.{surplus_row};
 
-    ghost Value = { Table ℕ };
+    type Entry = (u32, u64);
 
-    ghost view = { λ t. map surplus_row t.rows.items };
+    ghost entry = { surplus_row };
 }
 
-impl SurplusRows {
-    /// No rows.
-    pub fn new(alloc: Global) -> SurplusRows
-        ensures { result ≡ [] }
-    {
-        SurplusRows {
-            rows: Vec::new(alloc),
-        }
-    }
+/// The surplus of each owner, in ascending accounts.
+pub type SurplusRows = ImageRows<SurplusRow>;
 
-    /// One more row, behind the others. Where there is no memory nothing changes.
-    pub fn push(&mut self, row: SurplusRow) -> Result<(), NoMemory>
-        ensures ok { OnOk result (self.new ≡ self.old ++ surplus_row row ∷ []) }
-        ensures err { OnErr result (self.new ≡ self.old) }
-    {
-        match self.rows.push(row) {
-            Ok(()) => Ok(()),
-            Err(_) => Err(NoMemory),
-        }
-    }
-
-    /// The rows, in their order.
-    pub fn rows(&self) -> &[SurplusRow]
-        ensures { map surplus_row result.now ≡ self.now }
-    {
-        self.rows.as_slice()
-    }
-}
-
-/// The finished sums of an image, in ascending places. Contracts see each beside its place.
-#[derive(Drop)]
-pub struct FinishedRows {
-    rows: Vec<FinishedSum>,
-}
-
-impl Model for FinishedRows {
-    ghost use Rattle.std.specs.Prelude.{ℕ, List, map};
-    ghost use Rattle.liq_types.specs.Tables.{Place};
+impl ImageRow for FinishedSum {
     ghost use Rattle.liq_types.specs.ImageRows.{finished_row};
 
-    ghost Value = { List (Place × ℕ) };
+    type Entry = ((u64, u64), u128);
 
-    ghost view = { λ t. map finished_row t.rows.items };
+    ghost entry = { finished_row };
 }
 
-impl FinishedRows {
-    /// No rows.
-    pub fn new(alloc: Global) -> FinishedRows
-        ensures { result ≡ [] }
-    {
-        FinishedRows {
-            rows: Vec::new(alloc),
-        }
-    }
+/// The finished sums of an image, in ascending places.
+pub type FinishedRows = ImageRows<FinishedSum>;
 
-    /// One more row, behind the others. Where there is no memory nothing changes.
-    pub fn push(&mut self, row: FinishedSum) -> Result<(), NoMemory>
-        ensures ok { OnOk result (self.new ≡ self.old ++ finished_row row ∷ []) }
-        ensures err { OnErr result (self.new ≡ self.old) }
-    {
-        match self.rows.push(row) {
-            Ok(()) => Ok(()),
-            Err(_) => Err(NoMemory),
-        }
-    }
-
-    /// The rows, in their order.
-    pub fn rows(&self) -> &[FinishedSum]
-        ensures { map finished_row result.now ≡ self.now }
-    {
-        self.rows.as_slice()
-    }
-}
-
-/// The deposits of an image, in ascending accounts. Contracts see them as a table.
-#[derive(Drop)]
-pub struct DepositRows {
-    rows: Vec<DepositRow>,
-}
-
-impl Model for DepositRows {
-    ghost use Rattle.std.specs.Prelude.{map};
-    ghost use Rattle.liq_types.specs.declared.figures.Deposit.{Deposit};
-    ghost use Rattle.liq_types.specs.Tables.{Table};
+impl ImageRow for DepositRow {
     ghost use Rattle.liq_types.specs.ImageRows.{deposit_row};
 
-    ghost Value = { Table Deposit };
+    type Entry = (u32, Deposit);
 
-    ghost view = { λ t. map deposit_row t.rows.items };
+    ghost entry = { deposit_row };
 }
 
-impl DepositRows {
-    /// No rows.
-    pub fn new(alloc: Global) -> DepositRows
-        ensures { result ≡ [] }
-    {
-        DepositRows {
-            rows: Vec::new(alloc),
-        }
-    }
+/// The deposits of an image, in ascending accounts.
+pub type DepositRows = ImageRows<DepositRow>;
 
-    /// One more row, behind the others. Where there is no memory nothing changes.
-    pub fn push(&mut self, row: DepositRow) -> Result<(), NoMemory>
-        ensures ok { OnOk result (self.new ≡ self.old ++ deposit_row row ∷ []) }
-        ensures err { OnErr result (self.new ≡ self.old) }
-    {
-        match self.rows.push(row) {
-            Ok(()) => Ok(()),
-            Err(_) => Err(NoMemory),
-        }
-    }
-
-    /// The rows, in their order.
-    pub fn rows(&self) -> &[DepositRow]
-        ensures { map deposit_row result.now ≡ self.now }
-    {
-        self.rows.as_slice()
-    }
-}
-
-/// The clients of an image, in ascending numbers. Contracts see them as a table.
-#[derive(Drop)]
-pub struct ClientRows {
-    rows: Vec<ClientRow>,
-}
-
-impl Model for ClientRows {
-    ghost use Rattle.std.specs.Prelude.{map};
-    ghost use Rattle.liq_types.specs.declared.figures.Client.{Client};
-    ghost use Rattle.liq_types.specs.Tables.{Table};
+impl ImageRow for ClientRow {
     ghost use Rattle.liq_types.specs.ImageRows.{client_row};
 
-    ghost Value = { Table Client };
+    type Entry = (u32, Client);
 
-    ghost view = { λ t. map client_row t.rows.items };
+    ghost entry = { client_row };
 }
 
-impl ClientRows {
-    /// No rows.
-    pub fn new(alloc: Global) -> ClientRows
-        ensures { result ≡ [] }
-    {
-        ClientRows {
-            rows: Vec::new(alloc),
-        }
-    }
-
-    /// One more row, behind the others. Where there is no memory nothing changes.
-    pub fn push(&mut self, row: ClientRow) -> Result<(), NoMemory>
-        ensures ok { OnOk result (self.new ≡ self.old ++ client_row row ∷ []) }
-        ensures err { OnErr result (self.new ≡ self.old) }
-    {
-        match self.rows.push(row) {
-            Ok(()) => Ok(()),
-            Err(_) => Err(NoMemory),
-        }
-    }
-
-    /// The rows, in their order.
-    pub fn rows(&self) -> &[ClientRow]
-        ensures { map client_row result.now ≡ self.now }
-    {
-        self.rows.as_slice()
-    }
-}
+/// The clients of an image, in ascending numbers.
+pub type ClientRows = ImageRows<ClientRow>;

@@ -32,8 +32,8 @@ pub use events::{ListChange, PoolEvent};
 pub use figures::{Client, Deposit, Market, Trove, Wallet};
 pub use hints::{Hint, HintWords};
 pub use image::{
-    ClientRow, ClientRows, DepositRow, DepositRows, FinishedRows, FinishedSum, Image, SurplusRow,
-    SurplusRows, TroveRow, TroveRows, WalletRow, WalletRows,
+    ClientRow, ClientRows, DepositRow, DepositRows, FinishedRows, FinishedSum, Image, ImageRow,
+    ImageRows, SurplusRow, SurplusRows, TroveRow, TroveRows, WalletRow, WalletRows,
 };
 pub use lengths::RowCounts;
 pub use replies::{Answer, Done, Info, NoMemory, Refusal, Reply};
