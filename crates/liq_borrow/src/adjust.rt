@@ -20,27 +20,27 @@ use liq_types::{Market, Refusal, Wallet};
 /// Mode only where it borrows; `RatioFalls`, where it borrows in Recovery Mode; `SystemRatioLow`,
 /// in Normal Mode.
 pub fn plan_adjust(
-    m: &Market,
+    market: &Market,
     wallet: &Wallet,
     entire: Option<(u64, u64)>,
     account: u32,
     change: &Change,
     bound: u64,
 ) -> Result<Plan, Refusal>
-    requires market { IsMarket m.now }
+    requires market { IsMarket market.now }
     // What was brought in is within the limit, and so are the trove's part of it and the wallet's
     // together.
     requires coll { (or_nothing entire).0 + wallet.now.coll ≤ LIM }
-    requires debt { (or_nothing entire).1 ≤ m.now.total_debt }
-    ensures { result ≡ adjust_plan m.now wallet.now entire account change.now bound }
+    requires debt { (or_nothing entire).1 ≤ market.now.total_debt }
+    ensures { result ≡ adjust_plan market.now wallet.now entire account change.now bound }
 {
     let Some(had) = entire else {
         return Err(Refusal::NoTrove { account });
     };
-    let (fee, rate) = borrowing(m, change.borrow);
-    check_asked(m, change, fee, bound)?;
-    let (coll, debt) = left_of(m, wallet, had, change, fee)?;
-    check_ratios(m, change, fee, had, (coll, debt))?;
+    let (fee, rate) = borrowing(market, change.borrow);
+    check_asked(market, change, fee, bound)?;
+    let (coll, debt) = left_of(market, wallet, had, change, fee)?;
+    check_ratios(market, change, fee, had, (coll, debt))?;
     Ok(Plan {
         coll,
         debt,
@@ -50,15 +50,20 @@ pub fn plan_adjust(
 }
 
 /// What is refused of a change with this fee by itself, whatever the trove has.
-fn check_asked(m: &Market, change: &Change, fee: u64, bound: u64) -> Result<(), Refusal>
-    requires { IsMarket m.now }
-    ensures { result ≡ outcome (first_refusal (asked_rules m.now change.now fee bound)) tt }
+fn check_asked(market: &Market, change: &Change, fee: u64, bound: u64) -> Result<(), Refusal>
+    requires { IsMarket market.now }
+    ensures { result ≡ outcome (first_refusal (asked_rules market.now change.now fee bound)) tt }
 {
-    checks::bound(change.borrow > 0, bound, least_bound(m))?;
+    checks::bound(change.borrow > 0, bound, least_bound(market))?;
     checks::one_way(change.coll_in, change.coll_out)?;
     checks::one_way(change.borrow, change.repay)?;
     checks::some_change(change)?;
-    checks::no_recovery(change.coll_out > 0, m.total_coll, m.total_debt, m.price)?;
+    checks::no_recovery(
+        change.coll_out > 0,
+        market.total_coll,
+        market.total_debt,
+        market.price,
+    )?;
     checks::fee(fee, change.borrow, bound)?;
     Ok(())
 }
@@ -66,15 +71,15 @@ fn check_asked(m: &Market, change: &Change, fee: u64, bound: u64) -> Result<(), 
 /// The collateral and the debt that a change with this fee leaves a trove that had so much, or what
 /// is refused since the wallet or the trove has too little, or all troves too much.
 fn left_of(
-    m: &Market,
+    market: &Market,
     wallet: &Wallet,
     had: (u64, u64),
     change: &Change,
     fee: u64,
 ) -> Result<(u64, u64), Refusal>
     requires coll { had.0 + wallet.now.coll ≤ LIM }
-    requires debt { had.1 ≤ m.now.total_debt }
-    ensures { result ≡ outcome (first_refusal (held_rules m.now wallet.now had change.now fee))
+    requires debt { had.1 ≤ market.now.total_debt }
+    ensures { result ≡ outcome (first_refusal (held_rules market.now wallet.now had change.now fee))
         (left_with had change.now fee) }
 {
     checks::collateral(change.coll_in, wallet.coll)?;
@@ -82,8 +87,8 @@ fn left_of(
     checks::tokens(change.repay, wallet.lusd)?;
     let net = had.1.saturating_sub(RESERVE).saturating_sub(change.repay);
     checks::net_debt(change.repay > 0, u128::from(net))?;
-    let sum = u128::from(m.total_debt) + u128::from(change.borrow) + u128::from(fee);
-    checks::supply(sum, m.limit)?;
+    let sum = u128::from(market.total_debt) + u128::from(change.borrow) + u128::from(fee);
+    checks::supply(sum, market.limit)?;
     let coll = had.0 + change.coll_in - change.coll_out;
     let debt = (had.1 + change.borrow + fee).saturating_sub(change.repay);
     Ok((coll, debt))
@@ -92,29 +97,29 @@ fn left_of(
 /// What is refused by the ratios of a trove that had so much and of all troves, after a change with
 /// this fee.
 fn check_ratios(
-    m: &Market,
+    market: &Market,
     change: &Change,
     fee: u64,
     had: (u64, u64),
     left: (u64, u64),
 ) -> Result<(), Refusal>
-    requires { IsMarket m.now }
-    ensures { result ≡ outcome (first_refusal (ratio_rules m.now change.now fee had left)) tt }
+    requires { IsMarket market.now }
+    ensures { result ≡ outcome (first_refusal (ratio_rules market.now change.now fee had left)) tt }
 {
-    let recovery = is_recovery(m);
+    let recovery = is_recovery(market);
     let borrows = change.borrow > 0;
     checks::ratio(
         !recovery || borrows,
         left.0,
         left.1,
-        m.price,
-        least_ratio(m),
+        market.price,
+        least_ratio(market),
     )?;
     checks::no_fall(recovery && borrows, left, had)?;
-    let total_coll = u128::from(m.total_coll) + u128::from(change.coll_in);
+    let total_coll = u128::from(market.total_coll) + u128::from(change.coll_in);
     let total_coll = total_coll.saturating_sub(u128::from(change.coll_out));
-    let total_debt = u128::from(m.total_debt) + u128::from(change.borrow) + u128::from(fee);
+    let total_debt = u128::from(market.total_debt) + u128::from(change.borrow) + u128::from(fee);
     let total_debt = total_debt.saturating_sub(u128::from(change.repay));
-    checks::totals(!recovery, total_coll, total_debt, m.price)?;
+    checks::totals(!recovery, total_coll, total_debt, market.price)?;
     Ok(())
 }

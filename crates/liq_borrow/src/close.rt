@@ -14,28 +14,28 @@ use liq_types::{Market, Refusal, Wallet};
 /// `RecoveryForbids`; `ShortTokens`, where the wallet has less than the debt beside the reserve;
 /// `SystemRatioLow`.
 pub fn plan_close(
-    m: &Market,
+    market: &Market,
     wallet: &Wallet,
     entire: Option<(u64, u64)>,
     account: u32,
 ) -> Result<(u64, u64), Refusal>
-    requires { IsMarket m.now }
-    ensures { result ≡ close_plan m.now wallet.now entire account }
+    requires { IsMarket market.now }
+    ensures { result ≡ close_plan market.now wallet.now entire account }
 {
     let Some(had) = entire else {
         return Err(Refusal::NoTrove { account });
     };
-    checks::not_last(m.troves)?;
-    checks::no_recovery(true, m.total_coll, m.total_debt, m.price)?;
+    checks::not_last(market.troves)?;
+    checks::no_recovery(true, market.total_coll, market.total_debt, market.price)?;
     let repaid = had.1.saturating_sub(RESERVE);
     checks::tokens(repaid, wallet.lusd)?;
-    let total_coll = m.total_coll.saturating_sub(had.0);
-    let total_debt = m.total_debt.saturating_sub(had.1);
+    let total_coll = market.total_coll.saturating_sub(had.0);
+    let total_debt = market.total_debt.saturating_sub(had.1);
     checks::totals(
-        !is_recovery(m),
+        !is_recovery(market),
         u128::from(total_coll),
         u128::from(total_debt),
-        m.price,
+        market.price,
     )?;
     Ok((repaid, had.0))
 }

@@ -14,16 +14,16 @@ use liq_types::{Market, Refusal};
 /// collateral (gwei) and debt (micro-LUSD) are given. It is no borrowing: there is no fee, and the
 /// base rate stays. Refused, in this order: `NoTrove`; `NoGain`; `RatioLow`, in Normal Mode.
 pub fn plan_gain(
-    m: &Market,
+    market: &Market,
     entire: Option<(u64, u64)>,
     account: u32,
     gain: u64,
 ) -> Result<Plan, Refusal>
-    requires market { IsMarket m.now }
+    requires market { IsMarket market.now }
     // What was brought in is within the limit, and so are the trove's part of it and the gain
     // together.
     requires coll { (or_nothing entire).0 + gain ≤ LIM }
-    ensures { result ≡ gain_plan m.now entire account gain }
+    ensures { result ≡ gain_plan market.now entire account gain }
 {
     let Some(had) = entire else {
         return Err(Refusal::NoTrove { account });
@@ -32,11 +32,11 @@ pub fn plan_gain(
         return Err(Refusal::NoGain { account });
     }
     let coll = had.0 + gain;
-    checks::ratio(!is_recovery(m), coll, had.1, m.price, MCR)?;
+    checks::ratio(!is_recovery(market), coll, had.1, market.price, MCR)?;
     Ok(Plan {
         coll,
         debt: had.1,
         fee: 0,
-        rate: rate_kept(m),
+        rate: rate_kept(market),
     })
 }

@@ -15,7 +15,7 @@ use liq_types::{Market, Refusal, Wallet};
 /// `NetDebtLow`, where what is borrowed and the fee are too low; `AmountLimit` of all debt;
 /// `ShortCollateral`; `RatioLow`; `SystemRatioLow`, in Normal Mode.
 pub fn plan_open(
-    m: &Market,
+    market: &Market,
     wallet: &Wallet,
     exists: bool,
     account: u32,
@@ -23,24 +23,24 @@ pub fn plan_open(
     borrow: u64,
     bound: u64,
 ) -> Result<Plan, Refusal>
-    requires { IsMarket m.now }
-    ensures { result ≡ open_plan m.now wallet.now exists account coll borrow bound }
+    requires { IsMarket market.now }
+    ensures { result ≡ open_plan market.now wallet.now exists account coll borrow bound }
 {
     if exists {
         return Err(Refusal::TroveExists { account });
     }
-    let (fee, rate) = borrowing(m, borrow);
+    let (fee, rate) = borrowing(market, borrow);
     let net = u128::from(borrow) + u128::from(fee);
-    let sum = u128::from(m.total_debt) + net + u128::from(RESERVE);
-    checks::bound(true, bound, least_bound(m))?;
+    let sum = u128::from(market.total_debt) + net + u128::from(RESERVE);
+    checks::bound(true, bound, least_bound(market))?;
     checks::fee(fee, borrow, bound)?;
     checks::net_debt(true, net)?;
-    checks::supply(sum, m.limit)?;
+    checks::supply(sum, market.limit)?;
     checks::collateral(coll, wallet.coll)?;
     let debt = borrow + fee + RESERVE;
-    checks::ratio(true, coll, debt, m.price, least_ratio(m))?;
-    let total_coll = u128::from(m.total_coll) + u128::from(coll);
-    checks::totals(!is_recovery(m), total_coll, sum, m.price)?;
+    checks::ratio(true, coll, debt, market.price, least_ratio(market))?;
+    let total_coll = u128::from(market.total_coll) + u128::from(coll);
+    checks::totals(!is_recovery(market), total_coll, sum, market.price)?;
     Ok(Plan {
         coll,
         debt,

@@ -21,7 +21,7 @@ use crate::payments::plan_price;
 use crate::ranges::check_accounts;
 use crate::turns::{Forecast, PlanFault, Planned, Terms, Turn};
 use liq_borrow::Change;
-use liq_core_limits::{Generation, kept};
+use liq_core_limits::{Generation, repeated_reply};
 use liq_ledger::{Pools, Surplus, Wallets};
 use liq_order::Order;
 use liq_rate::Rate;
@@ -233,7 +233,7 @@ impl Protocol {
             let value = command.client;
             return Err(Refusal::AccountRange { value });
         }
-        kept(&self.client(command.client), command.number)
+        repeated_reply(&self.client(command.client), command.number)
     }
 
     /// Rules on a call, whatever its client and number: first on its accounts.

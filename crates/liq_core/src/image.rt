@@ -221,7 +221,7 @@ fn pool_of(alloc: Global, image: &Image) -> Result<Stability, NoMemory>
         total: image.total,
         coll: image.pool_coll,
     };
-    let finished = entries::finished(alloc, &image.finished)?;
+    let finished = entries::finished_sums(alloc, &image.finished)?;
     let deposits = entries::deposits(alloc, &image.deposits)?;
     Stability::from_parts(alloc, words, finished, deposits)
 }
@@ -250,7 +250,7 @@ fn clients_of(alloc: Global, image: &Image) -> Result<Reserved<Client>, NoMemory
     ensures { IfOk result (λ clients. clients.rows ≡ image.now.clients) }
 {
     let rows = entries::clients(alloc, &image.clients)?;
-    Reserved::filled(alloc, &rows)
+    Reserved::from_entries(alloc, &rows)
 }
 
 /// The clients, as rows of an image.

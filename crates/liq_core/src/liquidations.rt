@@ -19,7 +19,7 @@ ghost use Rattle.liq_core_lowest.specs.Victims.{AreVictims, course_of};
 use crate::engine::Protocol;
 use crate::told::{ListChanges, PoolEvents};
 use crate::turns::{Forecast, PlanFault, Terms};
-use liq_core_lowest::{Course, Told, lowest_done, plan_victims, reserve_owners, strike};
+use liq_core_lowest::{CallEvents, Course, lowest_done, plan_victims, reserve_owners, strike};
 use liq_liquidation::{LowestFault, One, Victim, plan_one};
 use liq_stability::Stability;
 use liq_types::amounts::{ACCOUNTS, LOWEST_MOST};
@@ -134,7 +134,7 @@ impl Protocol {
     }
 
     /// What is told of liquidations, one after the other.
-    fn told(&self, victims: &[Victim]) -> Result<Told, NoMemory>
+    fn told(&self, victims: &[Victim]) -> Result<CallEvents, NoMemory>
         requires few { length victims.now ≤ LOWEST_MOST }
         requires victims { AreVictims (state_of self.now) 0 victims.now }
         ensures events { IfOk result (λ told. told.events.items
@@ -143,7 +143,7 @@ impl Protocol {
             ≡ victim_changes (state_of self.now) victims.now) }
     {
         let mut course = self.course();
-        let mut told = Told {
+        let mut told = CallEvents {
             events: Vec::new(self.alloc),
             changes: Vec::new(self.alloc),
         };

@@ -112,7 +112,7 @@ impl Protocol {
         ensures { IfOk result (λ rows. rows ≡ put self.now.image.clients client row) }
     {
         let rows = self.clients.rows(self.alloc)?;
-        let mut clients = Reserved::filled(self.alloc, &rows)?;
+        let mut clients = Reserved::from_entries(self.alloc, &rows)?;
         clients.reserve(client)?;
         clients.write(client, row);
         client_rows(self.alloc, &clients)

@@ -18,4 +18,4 @@ mod numbers;
 
 pub use clients::clients_with;
 pub use generation::Generation;
-pub use numbers::kept;
+pub use numbers::repeated_reply;

@@ -7,7 +7,7 @@ use liq_types::{Client, Done, Refusal};
 
 /// The reply that was kept of a command that comes again; nothing, where the number is the client's
 /// next one. Any other number is refused.
-pub fn kept(client: &Client, number: u64) -> Result<Option<Done>, Refusal>
+pub fn repeated_reply(client: &Client, number: u64) -> Result<Option<Done>, Refusal>
     ensures { result ≡ kept_by client.now number }
 {
     if number == client.last && number != 0 {

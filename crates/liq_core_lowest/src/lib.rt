@@ -11,5 +11,5 @@ mod liquidations;
 mod lowest;
 
 pub use course::Course;
-pub use liquidations::{Told, lowest_done, reserve_owners, strike};
+pub use liquidations::{CallEvents, lowest_done, reserve_owners, strike};
 pub use lowest::plan_victims;

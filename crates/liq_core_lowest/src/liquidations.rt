@@ -21,14 +21,14 @@ use liq_types::{Done, ListChange, NoMemory, PoolEvent};
 
 /// What the liquidations of a plan do to the Stability Pool and to the ordered list, in order.
 #[derive(Drop)]
-pub struct Told {
+pub struct CallEvents {
     /// The pool's events.
     pub events: Vec<PoolEvent>,
     /// The list's changes.
     pub changes: Vec<ListChange>,
 }
 
-impl Told {
+impl CallEvents {
     /// A trove is gone, and what goes with it.
     pub fn add(
         &mut self,

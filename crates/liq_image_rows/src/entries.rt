@@ -47,7 +47,7 @@ pub fn clients(alloc: Global, rows: &ClientRows) -> Result<Vec<(u32, Client)>, N
 }
 
 /// The finished sums of an image, in their order.
-pub fn finished(alloc: Global, rows: &FinishedRows) -> Result<Vec<FinishedSum>, NoMemory>
+pub fn finished_sums(alloc: Global, rows: &FinishedRows) -> Result<Vec<FinishedSum>, NoMemory>
     ensures { IfOk result (λ made. map finished_row made.items ≡ rows.now) }
 {
     Ok(rows.rows().iter().copied().collect(alloc)?)

@@ -46,7 +46,7 @@ impl Surplus {
         requires { Ascends amounts.items }
         ensures { IfOk result (λ made. made.rows ≡ rows is_used_amount amounts.items) }
     {
-        let table = Reserved::filled(alloc, &amounts)?;
+        let table = Reserved::from_entries(alloc, &amounts)?;
         Ok(Surplus { table })
     }
 

@@ -45,7 +45,7 @@ impl Wallets {
         requires { Ascends wallets.items }
         ensures { IfOk result (λ made. made.rows ≡ rows is_used_wallet wallets.items) }
     {
-        let table = Reserved::filled(alloc, &wallets)?;
+        let table = Reserved::from_entries(alloc, &wallets)?;
         Ok(Wallets { table })
     }
 

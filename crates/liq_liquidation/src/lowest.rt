@@ -30,7 +30,7 @@ pub enum LowestFault {
 /// no memory only where the first may be liquidated. Nothing is changed.
 pub fn plan_lowest(
     alloc: Global,
-    m: &Market,
+    market: &Market,
     troves: &Troves,
     order: &Order,
     words: &PoolWords,
@@ -39,17 +39,18 @@ pub fn plan_lowest(
     requires some { 1 ≤ n }
     requires most { n ≤ 64 }
     requires order { order.now.entries ≡ order_by troves.now.table.rows }
-    requires sound { IsSoundMoment (moment_by m.now troves.now.sums troves.now.table.rows
+    requires sound { IsSoundMoment (moment_by market.now troves.now.sums troves.now.table.rows
         words.now) }
-    ensures moment { let plan = plan_from (moment_by m.now troves.now.sums troves.now.table.rows
+    ensures moment { let plan = plan_from
+        (moment_by market.now troves.now.sums troves.now.table.rows
         words.now) n in MatchResult result (λ v. plan ≡ Ok v.items) (IsFaultOf plan) }
     ensures state { (s : State)
-        → AreParts s m.now troves.now.sums troves.now.table.rows order.now.entries words.now
+        → AreParts s market.now troves.now.sums troves.now.table.rows order.now.entries words.now
         → TrovesAreSound s → MatchResult result (λ v. lowest_plan s n ≡ Ok v.items)
         (IsFaultOf (lowest_plan s n)) }
 {
     let figures = Figures {
-        market: *m,
+        market: *market,
         sums: *troves.sums(),
         pool_total: words.total,
     };

@@ -29,16 +29,23 @@ use std::cmp::Ordering;
 /// Stability Pool has so much LUSD (micro-LUSD). Refused, in this order: `LastTrove`;
 /// `NotLiquidatable`, by the mode and the trove's own ratio; `PoolTooSmall`, where the pool would
 /// take over all; `SumLimit`, where the other troves would take over too much.
-pub fn plan_one(m: &Market, sums: &Sums, trove: &Trove, pool_total: u64) -> Result<One, Refusal>
-    requires market { IsMarket m.now }
-    requires trove { IsTroveOf m.now sums.now trove.now }
-    ensures { result ≡ rules.one_by m.now sums.now trove.now pool_total }
+pub fn plan_one(
+    market: &Market,
+    sums: &Sums,
+    trove: &Trove,
+    pool_total: u64,
+) -> Result<One, Refusal>
+    requires market { IsMarket market.now }
+    requires trove { IsTroveOf market.now sums.now trove.now }
+    ensures { result ≡ rules.one_by market.now sums.now trove.now pool_total }
 {
-    if m.troves <= 1 {
-        return Err(Refusal::LastTrove { troves: m.troves });
+    if market.troves <= 1 {
+        return Err(Refusal::LastTrove {
+            troves: market.troves,
+        });
     }
     let (coll, debt) = entire(trove, sums);
-    let one = treated(m, coll, debt, pool_total)?;
+    let one = treated(market, coll, debt, pool_total)?;
     let stakes = sums.stakes - trove.stake;
     raised(sums.coll, one.spread_coll, stakes)?;
     raised(sums.debt, one.spread_debt, stakes)?;
@@ -46,26 +53,26 @@ pub fn plan_one(m: &Market, sums: &Sums, trove: &Trove, pool_total: u64) -> Resu
 }
 
 /// What becomes of a trove with these entire amounts, by the table of treatments.
-fn treated(m: &Market, coll: u64, debt: u64, pool_total: u64) -> Result<One, Refusal>
-    requires { IsMarket m.now }
-    ensures { result ≡ rules.treated_of m.now coll debt pool_total }
+fn treated(market: &Market, coll: u64, debt: u64, pool_total: u64) -> Result<One, Refusal>
+    requires { IsMarket market.now }
+    ensures { result ≡ rules.treated_of market.now coll debt pool_total }
 {
-    let low = ratio_below(coll, debt, m.price, MCR);
-    if is_normal(m) {
+    let low = ratio_below(coll, debt, market.price, MCR);
+    if is_normal(market) {
         return if low {
             Ok(plain(coll, debt, pool_total))
         } else {
-            Err(kept(m, coll, debt))
+            Err(not_liquidatable(market, coll, debt))
         };
     }
-    if is_at_most_whole(coll, debt, m.price) {
+    if is_at_most_whole(coll, debt, market.price) {
         return Ok(redistributed(coll, debt));
     }
     if low {
         return Ok(plain(coll, debt, pool_total));
     }
-    if ratio_cmp(coll, debt, m.total_coll, m.total_debt) != Ordering::Less {
-        return Err(kept(m, coll, debt));
+    if ratio_cmp(coll, debt, market.total_coll, market.total_debt) != Ordering::Less {
+        return Err(not_liquidatable(market, coll, debt));
     }
     if pool_total < debt {
         return Err(Refusal::PoolTooSmall {
@@ -73,7 +80,7 @@ fn treated(m: &Market, coll: u64, debt: u64, pool_total: u64) -> Result<One, Ref
             debt,
         });
     }
-    Ok(capped(m.price, coll, debt))
+    Ok(capped(market.price, coll, debt))
 }
 
 /// The Stability Pool takes over what it can, and the other troves the rest.
@@ -131,25 +138,25 @@ fn capped(price: u64, coll: u64, debt: u64) -> One
     }
 }
 
-fn kept(m: &Market, coll: u64, debt: u64) -> Refusal
-    ensures { result ≡ refused.NotLiquidatable coll debt m.now.price m.now.total_coll
-        m.now.total_debt }
+fn not_liquidatable(market: &Market, coll: u64, debt: u64) -> Refusal
+    ensures { result ≡ refused.NotLiquidatable coll debt market.now.price market.now.total_coll
+        market.now.total_debt }
 {
     Refusal::NotLiquidatable {
         coll,
         debt,
-        price: m.price,
-        total_coll: m.total_coll,
-        total_debt: m.total_debt,
+        price: market.price,
+        total_coll: market.total_coll,
+        total_debt: market.total_debt,
     }
 }
 
 /// Whether Normal Mode holds.
-fn is_normal(m: &Market) -> bool
-    requires { IsMarket m.now }
-    ensures { result ≡ totals.is_normal m.now }
+fn is_normal(market: &Market) -> bool
+    requires { IsMarket market.now }
+    ensures { result ≡ totals.is_normal market.now }
 {
-    !ratio_below(m.total_coll, m.total_debt, m.price, CCR)
+    !ratio_below(market.total_coll, market.total_debt, market.price, CCR)
 }
 
 /// Whether collateral (gwei) is worth at most a debt (micro-LUSD).

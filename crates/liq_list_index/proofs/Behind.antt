@@ -10,7 +10,7 @@ use Rattle.std.proofs.Math.Seq.{split_at}
 use Rattle.liq_types.specs.Ranked.{Ranked, rank_order, IsAscending, with_ranked, without_ranked}
 use Rattle.liq_list_chunks.specs.Entries.{with_entry}
 use Rattle.liq_list_chunks.proofs.Lists.{Ahead, before_middle, entered_ascending, entered_past, turned, all_entered}
-use Rattle.liq_list_index.specs.Places.{IsBelow, IsBetween, IsAbove, AreParted}
+use Rattle.liq_list_index.specs.EntrySets.{IsBelow, IsBetween, IsAbove, AreParted}
 use Rattle.liq_list_index.specs.Rows.{StandOnce, Follows}
 use Rattle.liq_list_index.proofs.Following.{Sent, put}
 use Rattle.liq_list_index.proofs.Parts.{below_entered, shorts_entered, above_entered}

@@ -11,9 +11,9 @@ use Rattle.liq_types.specs.Ranked.{Ranked, rank_order, with_ranked, without_rank
 use Rattle.liq_types.specs.Views.{View, followed, all_followed}
 use Rattle.liq_types.specs.declared.events.ListChange.{ListChange}
 use Rattle.liq_types.specs.declared.events.ListChange.TheVariants.{Put, Gone, Words}
-use Rattle.liq_list_keys.specs.Parts.{Parts, stand_of}
-use Rattle.liq_list_keys.specs.Stands.{moved, settled_at}
-use Rattle.liq_list_keys.specs.declared.stands.Stand.{Stand}
+use Rattle.liq_list_keys.specs.Parts.{Parts, account_key}
+use Rattle.liq_list_keys.specs.AccountKey.{moved, settled_at}
+use Rattle.liq_list_keys.specs.declared.key_index.AccountKey.{AccountKey}
 use Rattle.liq_list_index.specs.Followed.{listed, all_listed}
 use Rattle.liq_list_index.specs.Rows.{is_in, is_key, key_at, Follows}
 use Rattle.liq_list_index.proofs.Members.{with_is_in, without_is_in, with_ascending}
@@ -46,10 +46,10 @@ ranked_is_eq e f =
 
 -- an account was settled
 pub sent : (stands after : Parts) (account : ℕ) (key : Option ℤ)
-    → ((a : ℕ) → stand_of after a ≡ moved (stand_of stands) account (settled_at key) a)
+    → ((a : ℕ) → account_key after a ≡ moved (account_key stands) account (settled_at key) a)
     → Sent (key_at stands) (key_at after) account key
-sent stands after account key h a = ap (λ (s : Stand). s.key) (h a) ∙ by (a == account) where
-  by : (b : Bool) → (cond b (settled_at key) (stand_of stands a)).key ≡ cond b key (key_at stands a)
+sent stands after account key h a = ap (λ (s : AccountKey). s.key) (h a) ∙ by (a == account) where
+  by : (b : Bool) → (cond b (settled_at key) (account_key stands a)).key ≡ cond b key (key_at stands a)
   by true = refl
   by false = refl
 

@@ -8,7 +8,7 @@ use Rattle.std.specs.declared.cmp.Ordering.{Ordering}
 use Rattle.std.specs.declared.cmp.Ordering.TheVariants.{Less, Equal, Greater}
 use Rattle.liq_types.specs.Ranked.{rank_order}
 use Rattle.liq_list_index.specs.declared.longs.Long.{Long}
-use Rattle.liq_list_index.specs.Places.{IsHalved, ranked_long}
+use Rattle.liq_list_index.specs.EntrySets.{IsHalved, ranked_long}
 
 -- the order that `Long` derives
 abbrev pub halved_order : Long → Long → Ordering

@@ -14,7 +14,7 @@ use Rattle.std.specs.declared.cmp.Ordering.TheVariants.{Less, Equal, Greater}
 use Rattle.liq_types.specs.Ranked.{Ranked, rank_order, IsAscending, first_of}
 use Rattle.liq_types.proofs.RankedLists.{Behind, all_kept}
 use Rattle.liq_list_chunks.proofs.Lists.{Ahead, after_ahead, after_past, before_ahead, before_past, each, entered_ahead, entered_past, left_ahead, left_ascending, left_past}
-use Rattle.liq_list_index.specs.Places.{IsBelow, IsBetween, IsAbove, AreParted}
+use Rattle.liq_list_index.specs.EntrySets.{IsBelow, IsBetween, IsAbove, AreParted}
 use Rattle.liq_list_chunks.specs.Entries.{with_entry, without_entry, entry_before, entry_after}
 
 -- ---- by their keys

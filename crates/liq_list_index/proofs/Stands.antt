@@ -10,12 +10,12 @@ use Rattle.std.proofs.lemmas.Bool.{eqb-true, eq-eqb}
 use Rattle.liq_types.specs.Ranked.{Ranked, rank_order, IsAscending}
 use Rattle.liq_types.specs.declared.events.ListChange.{ListChange}
 use Rattle.liq_types.specs.Views.{View, all_followed}
-use Rattle.liq_list_keys.specs.Parts.{Parts, stand_of}
-use Rattle.liq_list_keys.specs.Stands.{settled_at, side_of}
+use Rattle.liq_list_keys.specs.Parts.{Parts, account_key}
+use Rattle.liq_list_keys.specs.AccountKey.{settled_at, side_of}
 use Rattle.liq_list_keys.proofs.Moving.{turned}
 use Rattle.liq_list_index.specs.Followed.{all_listed}
 use Rattle.liq_list_index.specs.Rows.{key_at, next_at, side_at, names, AreSettledBeside, is_in, is_key, Follows, Holds}
-use Rattle.liq_list_keys.specs.declared.stands.Stand.{Stand}
+use Rattle.liq_list_keys.specs.declared.key_index.AccountKey.{AccountKey}
 use Rattle.liq_list_index.proofs.Following.{list_of_views}
 use Rattle.liq_list_index.proofs.Holding.{ended, given_up, nothing_given, ready, same_keys, same_sides}
 
@@ -49,19 +49,21 @@ both_sides true key = refl
 both_sides false key = refl
 
 module _ (made : Bool) (stands after : Parts) (account : ℕ)
-    (moves : (a : ℕ) → stand_of after a ≡ cond (a == account) (settled_at (side_of made (stand_of stands account)))
-    (stand_of stands a)) where
+    (moves : (a : ℕ) → account_key after a ≡ cond (a == account) (settled_at (side_of made
+    (account_key stands account)))
+    (account_key stands a)) where
   at_account : (m : Bool) → side_at m after account ≡ side_at made stands account
   at_account m =
-      ap (λ (s : Stand). side_of m s) (moves account
-      ∙ ap (λ b. cond b (settled_at (side_of made (stand_of stands account))) (stand_of stands account))
+      ap (λ (s : AccountKey). side_of m s) (moves account
+      ∙ ap (λ b. cond b (settled_at (side_of made (account_key stands account))) (account_key stands account))
       (eq-eqb account account refl))
-      ∙ both_sides m (side_of made (stand_of stands account))
+      ∙ both_sides m (side_of made (account_key stands account))
 
   elsewhere : (m : Bool) (a : ℕ) → (account == a) ≡ false → side_at m after a ≡ side_at m stands a
   elsewhere m a away =
-      ap (λ (s : Stand). side_of m s) (moves a ∙ ap (λ b. cond b (settled_at (side_of made (stand_of stands account)))
-      (stand_of stands a)) (turned account a away))
+      ap (λ (s : AccountKey). side_of m s) (moves a ∙ ap (λ b. cond b (settled_at (side_of made
+      (account_key stands account)))
+      (account_key stands a)) (turned account a away))
 
   -- the side that is kept stays, and so does the other one where it is the same
   stays_same : (m : Bool) → side_at made stands account ≡ side_at m stands account → (a : ℕ)

@@ -1,4 +1,4 @@
 pub mod Followed
-pub mod Places
+pub mod EntrySets
 pub mod Rows
 pub mod Sides

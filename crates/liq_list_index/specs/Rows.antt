@@ -8,20 +8,20 @@ use Rattle.std.specs.Ordering.{int_cmp, is_eq}
 use Rattle.liq_types.specs.declared.events.ListChange.{ListChange}
 use Rattle.liq_types.specs.declared.events.ListChange.TheVariants.{Put, Gone, Words}
 use Rattle.liq_types.specs.Ranked.{Ranked, rank_order, IsAscending}
-use Rattle.liq_list_keys.specs.Parts.{Parts, stand_of}
-use Rattle.liq_list_keys.specs.Stands.{side_of}
+use Rattle.liq_list_keys.specs.Parts.{Parts, account_key}
+use Rattle.liq_list_keys.specs.AccountKey.{side_of}
 
 -- ---- an account
 
 abbrev pub key_at : Parts → ℕ → Option ℤ
-key_at stands account = (stand_of stands account).key
+key_at stands account = (account_key stands account).key
 
 abbrev pub next_at : Parts → ℕ → Option ℤ
-next_at stands account = (stand_of stands account).next
+next_at stands account = (account_key stands account).next
 
 -- the next key, or the key as it is
 abbrev pub side_at : Bool → Parts → ℕ → Option ℤ
-side_at made stands account = side_of made (stand_of stands account)
+side_at made stands account = side_of made (account_key stands account)
 
 -- whether a change moves an account, and whether any of a list does
 abbrev pub named_by : ℕ → ListChange → Bool

@@ -101,7 +101,7 @@ impl Guide {
     pub fn key_of(&self, account: u32) -> Option<i128>
         ensures { result ≡ key_in self.now account }
     {
-        self.rows.stands.stand(account).key
+        self.rows.stands.account_key(account).key
     }
 }
 

@@ -13,9 +13,9 @@
 //! goes.
 #![tactic(auto)]
 
+mod entry_sets;
 mod guide;
 mod longs;
-mod places;
 mod rows;
 mod sides;
 

@@ -7,9 +7,9 @@
 ghost use Rattle.std.specs.Prelude.{◌≡◌, ◌<◌, ◌^◌, [], ℤ, ◌<ℤ◌, IfSome, reverse, option_map, OnOk, OnErr};
 ghost use Rattle.liq_types.specs.Ranked.{IsAscending, first_of};
 ghost use Rattle.liq_list_chunks.specs.Entries.{with_entry, without_entry, entry_before, entry_after};
-ghost use Rattle.liq_list_index.specs.Places.{ranked_long};
+ghost use Rattle.liq_list_index.specs.EntrySets.{ranked_long};
 
-use crate::places::Place;
+use crate::entry_sets::WideEntry;
 use liq_types::NoMemory;
 use std::alloc::Global;
 use std::collections::BTreeSet;
@@ -29,7 +29,7 @@ struct Long {
 }
 
 impl Long {
-    fn of(place: Place) -> Long
+    fn of(place: WideEntry) -> Long
         ensures same { ranked_long result ≡ place }
         ensures low { result.low < 2 ^ 64 }
     {
@@ -42,7 +42,7 @@ impl Long {
         }
     }
 
-    fn place(self) -> Place
+    fn place(self) -> WideEntry
         ensures { result ≡ ranked_long self }
     {
         (self.high as i128 * UPPER + self.low as i128, self.account)
@@ -58,7 +58,7 @@ pub(crate) struct Longs {
 impl Model for Longs {
     ghost use Rattle.std.specs.Prelude.{List, map};
     ghost use Rattle.liq_types.specs.Ranked.{Ranked, IsAscending};
-    ghost use Rattle.liq_list_index.specs.Places.{ranked_long, AreHalved};
+    ghost use Rattle.liq_list_index.specs.EntrySets.{ranked_long, AreHalved};
 
     ghost Value = { List Ranked };
 
@@ -79,7 +79,7 @@ impl Longs {
     }
 
     // Puts an entry in. Where there is no memory all is as before.
-    pub(crate) fn insert(&mut self, place: Place) -> Result<(), NoMemory>
+    pub(crate) fn insert(&mut self, place: WideEntry) -> Result<(), NoMemory>
         ensures ascending { IsAscending self.new }
         ensures entered { OnOk result (self.new ≡ with_entry self.old place) }
         ensures err { OnErr result (self.new ≡ self.old) }
@@ -91,7 +91,7 @@ impl Longs {
     }
 
     // Takes an entry out, if it is there.
-    pub(crate) fn remove(&mut self, place: Place)
+    pub(crate) fn remove(&mut self, place: WideEntry)
         ensures ascending { IsAscending self.new }
         ensures left { self.new ≡ without_entry self.old place }
     {
@@ -99,7 +99,7 @@ impl Longs {
     }
 
     // The entry next before a place.
-    pub(crate) fn before(&self, place: Place) -> Option<Place>
+    pub(crate) fn before(&self, place: WideEntry) -> Option<WideEntry>
         ensures { result ≡ entry_before self.now place }
     {
         let range = (Bound::Unbounded, Bound::Excluded(Long::of(place)));
@@ -107,7 +107,7 @@ impl Longs {
     }
 
     // The entry next after a place.
-    pub(crate) fn after(&self, place: Place) -> Option<Place>
+    pub(crate) fn after(&self, place: WideEntry) -> Option<WideEntry>
         ensures { result ≡ entry_after self.now place }
     {
         let range = (Bound::Excluded(Long::of(place)), Bound::Unbounded);
@@ -115,14 +115,14 @@ impl Longs {
     }
 
     // The last of all.
-    pub(crate) fn last(&self) -> Option<Place>
+    pub(crate) fn last(&self) -> Option<WideEntry>
         ensures { result ≡ first_of (reverse self.now) }
     {
         place_of(self.entries.last().copied())
     }
 
     // The first of all.
-    pub(crate) fn first(&self) -> Option<Place>
+    pub(crate) fn first(&self) -> Option<WideEntry>
         ensures first { result ≡ first_of self.now }
         ensures least { (key : ℤ) → key <ℤ i128.MIN → IfSome result (λ e. key <ℤ e.0) }
     {
@@ -130,7 +130,7 @@ impl Longs {
     }
 }
 
-fn place_of(found: Option<Long>) -> Option<Place>
+fn place_of(found: Option<Long>) -> Option<WideEntry>
     ensures place { result ≡ option_map ranked_long found }
     ensures least { (key : ℤ) → key <ℤ i128.MIN → IfSome result (λ e. key <ℤ e.0) }
 {

@@ -15,37 +15,37 @@
 ghost use Rattle.std.specs.Prelude.{◌≡◌, ◌==◌, ℕ, ℤ, true, false, [], Some, None, List, is_ok, not, if◌then◌else◌, OnOk, OnErr, IsOk, IfOk, IfSome, IfNone, MatchOption};
 ghost use Rattle.std.specs.Ordering.{is_eq};
 ghost use Rattle.liq_types.specs.Ranked.{Ranked, rank_order, IsAscending};
-ghost use Rattle.liq_list_keys.specs.Parts.{stand_of};
-ghost use Rattle.liq_list_keys.specs.Stands.{nowhere, moved, settled_at, side_of};
+ghost use Rattle.liq_list_keys.specs.Parts.{account_key};
+ghost use Rattle.liq_list_keys.specs.AccountKey.{nowhere, moved, settled_at, side_of};
 ghost use Rattle.liq_types.specs.declared.events.ListChange.TheVariants.{Put, Gone};
 ghost use Rattle.liq_list_index.specs.Followed.{listed, all_listed};
 ghost use Rattle.liq_list_index.specs.Rows.{Follows, Holds, AreSettledBeside, StandOnce, names, named_by, key_at, next_at, side_at, is_in, is_key};
 
-use crate::places::{Place, Places};
-use liq_list_keys::{Kept, Stand, Stands};
+use crate::entry_sets::{EntrySets, WideEntry};
+use liq_list_keys::{AccountKey, KeyIndex, ShortKey};
 use liq_types::{ListChange, NoMemory};
 use std::alloc::Global;
 
 // The entries of the ordered list, by key and account, and where each account stands.
 #[derive(Drop)]
 pub(crate) struct Rows {
-    pub(crate) places: Places,
-    pub(crate) stands: Stands,
+    pub(crate) places: EntrySets,
+    pub(crate) stands: KeyIndex,
 }
 
 impl Rows {
     pub(crate) fn new(alloc: Global) -> Rows
         ensures places { result.places ≡ [] }
-        ensures stands { (a : ℕ) → stand_of result.stands a ≡ nowhere }
+        ensures stands { (a : ℕ) → account_key result.stands a ≡ nowhere }
     {
         Rows {
-            places: Places::new(alloc),
-            stands: Stands::new(alloc),
+            places: EntrySets::new(alloc),
+            stands: KeyIndex::new(alloc),
         }
     }
 
     // The entries of a list at once, in which no account stands twice.
-    pub(crate) fn of(alloc: Global, list: &[Place]) -> Result<Rows, NoMemory>
+    pub(crate) fn of(alloc: Global, list: &[WideEntry]) -> Result<Rows, NoMemory>
         requires ascending { IsAscending list.now }
         requires once { StandOnce list.now }
         ensures places { IfOk result (λ rows. rows.places ≡ list.now) }
@@ -53,8 +53,8 @@ impl Rows {
         ensures settled { IfOk result (λ rows. AreSettledBeside rows.stands []) }
     {
         Ok(Rows {
-            places: Places::of(alloc, list)?,
-            stands: stands_of(alloc, list)?,
+            places: EntrySets::of(alloc, list)?,
+            stands: key_index_of(alloc, list)?,
         })
     }
 
@@ -114,7 +114,7 @@ impl Rows {
         ensures stays { IfNone result ((self.new.places ≡ self.old.places)
             × (self.new.stands ≡ self.old.stands)) }
     {
-        let (Some(stood), Some(kept)) = (self.stands.kept(account), Kept::of(key)) else {
+        let (Some(stood), Some(kept)) = (self.stands.short_key(account), ShortKey::of(key)) else {
             return None;
         };
         if let Err(NoMemory) = self
@@ -140,8 +140,8 @@ impl Rows {
         ensures stays { IfNone result ((self.new.places ≡ self.old.places)
             × (self.new.stands ≡ self.old.stands)) }
     {
-        let kept = Kept::of(key)?;
-        if self.stands.stand(account).key.is_some() {
+        let kept = ShortKey::of(key)?;
+        if self.stands.account_key(account).key.is_some() {
             return None;
         }
         if let Err(NoMemory) = self.places.insert((key, account)) {
@@ -166,7 +166,7 @@ impl Rows {
         ensures stays { IfNone result ((self.new.places ≡ self.old.places)
             × (self.new.stands ≡ self.old.stands)) }
     {
-        let stood = self.stands.kept(account)?;
+        let stood = self.stands.short_key(account)?;
         self.places.remove((i128::from(stood.key), account));
         self.stands.leave(account);
         Some(Ok(()))
@@ -195,8 +195,8 @@ impl Rows {
         ensures key { (a : ℕ) → key_at self.new.stands a ≡ key_at self.old.stands a }
         ensures next { OnOk result ((list : List Ranked) → Follows (next_at self.old.stands) list
             → Follows (next_at self.new.stands) (all_listed list changes.now)) }
-        ensures others { (a : ℕ) → names changes.now a ≡ false → stand_of self.new.stands a
-            ≡ stand_of self.old.stands a }
+        ensures others { (a : ℕ) → names changes.now a ≡ false → account_key self.new.stands a
+            ≡ account_key self.old.stands a }
     {
         for change in changes {
             self.aim_one(change)?;
@@ -209,8 +209,8 @@ impl Rows {
         ensures key { (a : ℕ) → key_at self.new.stands a ≡ key_at self.old.stands a }
         ensures next { OnOk result ((list : List Ranked) → Follows (next_at self.old.stands) list
             → Follows (next_at self.new.stands) (listed list change.now)) }
-        ensures others { (a : ℕ) → named_by a change.now ≡ false → stand_of self.new.stands a
-            ≡ stand_of self.old.stands a }
+        ensures others { (a : ℕ) → named_by a change.now ≡ false → account_key self.new.stands a
+            ≡ account_key self.old.stands a }
     {
         match *change {
             ListChange::Put { key, account } => self.stands.aim(account, Some(key)),
@@ -246,7 +246,7 @@ impl Rows {
             → OnOk result ((e : Ranked) → (account == e.1) ≡ true
             → is_key (next_at self.old.stands e.1) e.0 ≡ true → is_in self.new.places e ≡ true) }
     {
-        let Stand { key, next } = self.stands.stand(account);
+        let AccountKey { key, next } = self.stands.account_key(account);
         match next {
             Some(place) if key != next => self.places.insert((place, account)),
             _ => Ok(()),
@@ -274,14 +274,14 @@ impl Rows {
     fn settle_one(&mut self, account: u32, made: bool)
         ensures same { (a : ℕ) → side_at made self.new.stands a ≡ side_at made self.old.stands a }
         ensures settled { next_at self.new.stands account ≡ key_at self.new.stands account }
-        ensures others { (a : ℕ) → (account == a) ≡ false → stand_of self.new.stands a
-            ≡ stand_of self.old.stands a }
+        ensures others { (a : ℕ) → (account == a) ≡ false → account_key self.new.stands a
+            ≡ account_key self.old.stands a }
         ensures holds { Holds (side_at made self.old.stands) (side_at (not made) self.old.stands)
             self.old.places
             → Holds (side_at made self.new.stands) (side_at (not made) self.new.stands)
             self.new.places }
     {
-        let (stays, goes) = sides(self.stands.stand(account), made);
+        let (stays, goes) = sides(self.stands.account_key(account), made);
         if stays != goes {
             self.clear(account, goes);
         }
@@ -303,13 +303,13 @@ impl Rows {
 }
 
 // Where the accounts of a list stand, each under its key.
-fn stands_of(alloc: Global, list: &[Place]) -> Result<Stands, NoMemory>
+fn key_index_of(alloc: Global, list: &[WideEntry]) -> Result<KeyIndex, NoMemory>
     requires ascending { IsAscending list.now }
     requires once { StandOnce list.now }
     ensures follows { IfOk result (λ stands. Follows (key_at stands) list.now) }
     ensures settled { IfOk result (λ stands. AreSettledBeside stands []) }
 {
-    let mut stands = Stands::new(alloc);
+    let mut stands = KeyIndex::new(alloc);
     for place in list {
         put_under(&mut stands, place.0, place.1)?;
     }
@@ -317,11 +317,11 @@ fn stands_of(alloc: Global, list: &[Place]) -> Result<Stands, NoMemory>
 }
 
 // Puts an account under a key, whether it can be kept or not.
-fn put_under(stands: &mut Stands, key: i128, account: u32) -> Result<(), NoMemory>
-    ensures { OnOk result ((a : ℕ) → stand_of stands.new a
-        ≡ moved (stand_of stands.old) account (settled_at (Some key)) a) }
+fn put_under(stands: &mut KeyIndex, key: i128, account: u32) -> Result<(), NoMemory>
+    ensures { OnOk result ((a : ℕ) → account_key stands.new a
+        ≡ moved (account_key stands.old) account (settled_at (Some key)) a) }
 {
-    if let Some(kept) = Kept::of(key) {
+    if let Some(kept) = ShortKey::of(key) {
         return stands.open(account, kept);
     }
     stands.aim(account, Some(key))?;
@@ -331,7 +331,7 @@ fn put_under(stands: &mut Stands, key: i128, account: u32) -> Result<(), NoMemor
 
 // The key that is kept and the one that is given up, where the changes are made and where they are
 // not.
-fn sides(stand: Stand, made: bool) -> (Option<i128>, Option<i128>)
+fn sides(stand: AccountKey, made: bool) -> (Option<i128>, Option<i128>)
     ensures { result ≡ (side_of made stand, side_of (not made) stand) }
 {
     if made {

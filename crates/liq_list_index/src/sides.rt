@@ -9,7 +9,7 @@ ghost use Rattle.liq_list_index.specs.declared.sides.Side.TheVariants.{Before, A
 ghost use Rattle.liq_list_index.specs.Rows.{StandOnce};
 ghost use Rattle.liq_list_index.specs.Sides.{account_aside, entry_beside, past_own};
 
-use crate::places::{Place, Places};
+use crate::entry_sets::{EntrySets, WideEntry};
 
 #[derive(Clone, Copy)]
 pub(crate) enum Side {
@@ -18,7 +18,7 @@ pub(crate) enum Side {
 }
 
 // The accounts that stand next to a place, its own aside.
-pub(crate) fn accounts_aside(places: &Places, place: Place) -> (Option<u32>, Option<u32>)
+pub(crate) fn accounts_aside(places: &EntrySets, place: WideEntry) -> (Option<u32>, Option<u32>)
     requires ascending { IsAscending places.now }
     requires once { StandOnce places.now }
     ensures { result ≡ (
@@ -34,7 +34,7 @@ pub(crate) fn accounts_aside(places: &Places, place: Place) -> (Option<u32>, Opt
 }
 
 // The first account of all but one.
-pub(crate) fn first_account(places: &Places, aside: u32) -> Option<u32>
+pub(crate) fn first_account(places: &EntrySets, aside: u32) -> Option<u32>
     requires ascending { IsAscending places.now }
     requires once { StandOnce places.now }
     ensures prev { (key : ℤ) → key <ℤ i128.MIN → account_aside Before places.now (key, aside)
@@ -49,7 +49,7 @@ pub(crate) fn first_account(places: &Places, aside: u32) -> Option<u32>
 
 // The account of an entry that was found, or, where that is one's own, of the next one on that
 // side.
-fn past_own(places: &Places, found: Option<Place>, own: u32, side: Side) -> Option<u32>
+fn past_own(places: &EntrySets, found: Option<WideEntry>, own: u32, side: Side) -> Option<u32>
     ensures { result ≡ past_own side places.now own found }
 {
     match found {
@@ -58,7 +58,7 @@ fn past_own(places: &Places, found: Option<Place>, own: u32, side: Side) -> Opti
     }
 }
 
-fn entry_beside(places: &Places, place: Place, side: Side) -> Option<Place>
+fn entry_beside(places: &EntrySets, place: WideEntry, side: Side) -> Option<WideEntry>
     ensures { result ≡ entry_beside side places.now place }
 {
     let (before, after) = places.beside(place);
@@ -68,7 +68,7 @@ fn entry_beside(places: &Places, place: Place, side: Side) -> Option<Place>
     }
 }
 
-fn account_of(entry: Option<Place>) -> Option<u32>
+fn account_of(entry: Option<WideEntry>) -> Option<u32>
     ensures { result ≡ ranked.account_of entry }
 {
     match entry {

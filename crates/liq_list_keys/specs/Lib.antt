@@ -1,3 +1,3 @@
-pub mod Kept
+pub mod AccountKey
 pub mod Parts
-pub mod Stands
+pub mod ShortKey

@@ -13,8 +13,8 @@
 //! changes that cannot all be noted are given up, and nothing has moved.
 #![tactic(auto)]
 
-mod kept;
-mod stands;
+mod key_index;
+mod short_key;
 
-pub use kept::Kept;
-pub use stands::{Stand, Stands};
+pub use key_index::{AccountKey, KeyIndex};
+pub use short_key::ShortKey;

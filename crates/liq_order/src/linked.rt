@@ -100,7 +100,7 @@ impl Nodes {
     }
 
     /// The nodes, of which going along from the first visits each entry.
-    pub(crate) fn visited(&self) -> &Nodes
+    pub(crate) fn in_order(&self) -> &Nodes
         ensures same { result.now ≡ self.now }
         ensures all { Visits self.now (first_or None self.now.order) None (entries self.now) }
     {
@@ -121,7 +121,7 @@ impl Nodes {
         ensures any { steps.new ≤ steps.old + (length (entries self.now) + 3) }
         ensures least { steps.old ≤ steps.new }
     {
-        match self.hinted(entry, hint, steps) {
+        match self.hinted_gap(entry, hint, steps) {
             Some(gap) => gap,
             None => self.walk(entry, steps),
         }
@@ -129,7 +129,7 @@ impl Nodes {
 
     // The gap between the two accounts of a hint, where they are neighbours and the entry belongs
     // between them.
-    fn hinted<L: Ledger>(
+    fn hinted_gap<L: Ledger>(
         &self,
         entry: (i128, u32),
         hint: &Hint,
@@ -141,12 +141,12 @@ impl Nodes {
         ensures steps { steps.new ≤ steps.old + 3 }
         ensures least { steps.old ≤ steps.new }
     {
-        let gap = self.begun(entry, hint.prev, steps)?;
+        let gap = self.gap_behind(entry, hint.prev, steps)?;
         self.ending(gap, entry, hint.next, steps)
     }
 
     // The gap behind an account, or before all where there is none.
-    fn begun<L: Ledger>(
+    fn gap_behind<L: Ledger>(
         &self,
         entry: (i128, u32),
         prev: Option<u32>,
@@ -242,14 +242,14 @@ impl Nodes {
         ensures least { steps.old ≤ steps.new }
     {
         let mut gap = self.front();
-        while let Some(further) = self.turn(gap, entry, steps) {
+        while let Some(further) = self.step(gap, entry, steps) {
             gap = further;
         }
         gap
     }
 
     // The gap one place further, where the entry comes after what is between.
-    fn turn<L: Ledger>(&self, gap: Gap, entry: (i128, u32), steps: &mut Steps<L>) -> Option<Gap>
+    fn step<L: Ledger>(&self, gap: Gap, entry: (i128, u32), steps: &mut Steps<L>) -> Option<Gap>
         requires absent { key_in (entries self.now) entry.1 ≡ None }
         requires behind { IsBehind self.now entry gap }
         ensures on { IfSome result (λ further. IsFurther self.now entry gap further) }

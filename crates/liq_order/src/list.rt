@@ -124,6 +124,6 @@ impl Order {
         ensures entries { entries result.now ≡ self.now.entries }
         ensures visits { Visits result.now (first_or None result.now.order) None self.now.entries }
     {
-        self.nodes.visited()
+        self.nodes.in_order()
     }
 }

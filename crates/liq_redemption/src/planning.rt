@@ -39,33 +39,33 @@ pub struct RedeemPlan {
 /// none only where none of the first five comes.
 pub fn plan(
     alloc: Global,
-    m: &Market,
+    market: &Market,
     troves: &Troves,
     order: &Order,
     wallet: &Wallet,
     amount: u64,
     bound: u64,
 ) -> Result<RedeemPlan, RedeemFault>
-    requires market { IsMarket m.now wallet.now }
+    requires market { IsMarket market.now wallet.now }
     requires entire { AreEntireWithin troves.now.sums troves.now.table.rows }
     requires distinct { AreDistinct order.now.entries }
-    ensures { Answers m.now wallet.now (rules.visited_by m.now.price troves.now.sums
+    ensures { Answers market.now wallet.now (rules.visited_by market.now.price troves.now.sums
         troves.now.table.rows order.now.entries) amount bound result }
 {
-    check_asked(m, wallet, amount, bound)?;
-    let walk = along(alloc, m.price, m.troves, troves, order, amount)?;
-    Ok(come_to(m, walk, amount, bound)?)
+    check_asked(market, wallet, amount, bound)?;
+    let walk = along(alloc, market.price, market.troves, troves, order, amount)?;
+    Ok(come_to(market, walk, amount, bound)?)
 }
 
 /// What is refused before any trove is visited. Where nothing is, all debt is worth less than all
 /// collateral, which has 64 bits; so is what is asked for.
-fn check_asked(m: &Market, wallet: &Wallet, amount: u64, bound: u64) -> Result<(), Refusal>
-    requires { IsMarket m.now wallet.now }
+fn check_asked(market: &Market, wallet: &Wallet, amount: u64, bound: u64) -> Result<(), Refusal>
+    requires { IsMarket market.now wallet.now }
     ensures refused { result
-        ≡ outcome (first_refusal (rules.asking_rules m.now wallet.now amount bound)) tt }
+        ≡ outcome (first_refusal (rules.asking_rules market.now wallet.now amount bound)) tt }
     ensures some { OnOk result (1 ≤ amount) }
     ensures enough { OnOk result (amount ≤ wallet.now.lusd) }
-    ensures worth { OnOk result (amount * GWEI_PER_ETH < 2 ^ 64 * m.now.price) }
+    ensures worth { OnOk result (amount * GWEI_PER_ETH < 2 ^ 64 * market.now.price) }
 {
     if amount == 0 {
         return Err(Refusal::AmountZero);
@@ -74,13 +74,13 @@ fn check_asked(m: &Market, wallet: &Wallet, amount: u64, bound: u64) -> Result<(
         let least = FLOOR_RATE;
         return Err(Refusal::FeeBound { bound, least });
     }
-    if m.minute < BOOTSTRAP {
+    if market.minute < BOOTSTRAP {
         return Err(Refusal::Bootstrap {
-            minute: m.minute,
+            minute: market.minute,
             limit: BOOTSTRAP,
         });
     }
-    let (left, right) = ratio_sides(m.total_coll, m.total_debt, m.price, MCR);
+    let (left, right) = ratio_sides(market.total_coll, market.total_debt, market.price, MCR);
     if left < right {
         return Err(Refusal::SystemUnder { left, right });
     }
@@ -95,14 +95,15 @@ fn check_asked(m: &Market, wallet: &Wallet, amount: u64, bound: u64) -> Result<(
 
 /// What the cuts of a walk come to, of an amount of which at most this was wanted, or why that is
 /// refused.
-fn come_to(m: &Market, walk: Walk, amount: u64, bound: u64) -> Result<RedeemPlan, Refusal>
-    requires base { m.now.base ≤ ONE }
-    requires past_fee { m.now.fee_minute ≤ m.now.minute }
-    requires part { amount ≤ m.now.total_debt }
+fn come_to(market: &Market, walk: Walk, amount: u64, bound: u64) -> Result<RedeemPlan, Refusal>
+    requires base { market.now.base ≤ ONE }
+    requires past_fee { market.now.fee_minute ≤ market.now.minute }
+    requires part { amount ≤ market.now.total_debt }
     requires wanted { rules.redeemed walk.cuts + walk.wanted ≡ amount }
     requires drawn { rules.drawn walk.cuts < 2 ^ 64 }
-    ensures { result ≡ outcome (first_refusal (rules.taking_rules (rules.terms_of m.now walk.cuts)
-        (unwrap_or walk.first_net 0) amount bound)) (rules.terms_of m.now walk.cuts) }
+    ensures { result ≡ outcome (first_refusal (rules.taking_rules
+        (rules.terms_of market.now walk.cuts)
+        (unwrap_or walk.first_net 0) amount bound)) (rules.terms_of market.now walk.cuts) }
 {
     let redeemed = amount - walk.wanted;
     if redeemed == 0 {
@@ -111,10 +112,10 @@ fn come_to(m: &Market, walk: Walk, amount: u64, bound: u64) -> Result<RedeemPlan
     }
     let drawn = walk.cuts.drawn();
     let kept = Rate {
-        base: m.base,
-        minute: m.fee_minute,
+        base: market.base,
+        minute: market.fee_minute,
     };
-    let rate = kept.on_redeem(m.minute, redeemed, m.total_debt);
+    let rate = kept.on_redeem(market.minute, redeemed, market.total_debt);
     let fee = redeem_fee(rate.base, drawn);
     if drawn <= fee {
         return Err(Refusal::FeeEatsAll { fee, drawn });

@@ -43,7 +43,7 @@ impl<X: Row> Reserved<X> {
     }
 
     /// A table of just these rows, of which the used ones are seen.
-    pub fn filled(alloc: Global, entries: &[(u32, X)]) -> Result<Reserved<X>, NoMemory>
+    pub fn from_entries(alloc: Global, entries: &[(u32, X)]) -> Result<Reserved<X>, NoMemory>
         requires { Ascends entries.now }
         ensures { IfOk result (λ table. table.rows ≡ rows X.used entries.now) }
     {

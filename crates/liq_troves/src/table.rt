@@ -225,7 +225,7 @@ impl Troves {
         ensures rows { IfOk result (λ t. t.table.rows ≡ rows.items) }
         ensures sums { IfOk result (λ t. t.sums ≡ sums) }
     {
-        let table = Reserved::filled(alloc, &rows)?;
+        let table = Reserved::from_entries(alloc, &rows)?;
         let count = rows.len() as u64;
         Ok(Troves { table, sums, count })
     }

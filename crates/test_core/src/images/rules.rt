@@ -575,7 +575,7 @@ fn counts_of(alloc: Global, image: &Image) -> Result<[usize; 6], NoMemory> {
         entries::wallets(alloc, &image.wallets)?.len(),
         entries::troves(alloc, &image.troves)?.len(),
         entries::surplus(alloc, &image.surplus_rows)?.len(),
-        entries::finished(alloc, &image.finished)?.len(),
+        entries::finished_sums(alloc, &image.finished)?.len(),
         entries::deposits(alloc, &image.deposits)?.len(),
         entries::clients(alloc, &image.clients)?.len(),
     ])

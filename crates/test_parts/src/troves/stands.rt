@@ -1,7 +1,7 @@
 //! Accounts that are aimed, settled, kept, opened and taken out, beside a plain map.
 
 use crate::checks::shows;
-use liq_list_keys::{Kept, Stands};
+use liq_list_keys::{KeyIndex, ShortKey};
 use std::collections::BTreeMap;
 use std::process::Abort;
 
@@ -55,12 +55,12 @@ fn plain(map: &BTreeMap<u32, Known>, account: u32) -> Known {
 
 // Gives an account another key at once. That is done where nothing moves it, and both keys are
 // near.
-fn keep<R: Abort>(rt: &R, stands: &mut Stands, account: u32, old: Known, number: u32) -> Known {
+fn keep<R: Abort>(rt: &R, stands: &mut KeyIndex, account: u32, old: Known, number: u32) -> Known {
     let Some(key) = key_of(number) else {
         return old;
     };
     let done = !old.aimed && is_near(old.key) && is_near(Some(key));
-    let (Some(kept), Some(to)) = (stands.kept(account), Kept::of(key)) else {
+    let (Some(kept), Some(to)) = (stands.short_key(account), ShortKey::of(key)) else {
         shows(rt, "not kept", !done);
         return old;
     };
@@ -75,11 +75,11 @@ fn keep<R: Abort>(rt: &R, stands: &mut Stands, account: u32, old: Known, number:
 }
 
 // Keeps an account at once under a near key, wherever it stood.
-fn opened<R: Abort>(rt: &R, stands: &mut Stands, account: u32, old: Known, number: u32) -> Known {
+fn opened<R: Abort>(rt: &R, stands: &mut KeyIndex, account: u32, old: Known, number: u32) -> Known {
     let Some(key) = key_of(number) else {
         return old;
     };
-    let Some(kept) = Kept::of(key) else {
+    let Some(kept) = ShortKey::of(key) else {
         return old;
     };
     shows(rt, "memory", stands.open(account, kept).is_ok());
@@ -91,8 +91,8 @@ fn opened<R: Abort>(rt: &R, stands: &mut Stands, account: u32, old: Known, numbe
 }
 
 // Takes out an account, where it is kept.
-fn left<R: Abort>(rt: &R, stands: &mut Stands, account: u32, old: Known) -> Known {
-    let Some(_) = stands.kept(account) else {
+fn left<R: Abort>(rt: &R, stands: &mut KeyIndex, account: u32, old: Known) -> Known {
+    let Some(_) = stands.short_key(account) else {
         return old;
     };
     shows(rt, "kept", !old.aimed && is_near(old.key));
@@ -105,7 +105,7 @@ fn left<R: Abort>(rt: &R, stands: &mut Stands, account: u32, old: Known) -> Know
 }
 
 // One change, and where the account stands then.
-fn change<R: Abort>(rt: &R, stands: &mut Stands, account: u32, old: Known, number: u32) -> Known {
+fn change<R: Abort>(rt: &R, stands: &mut KeyIndex, account: u32, old: Known, number: u32) -> Known {
     match number / 64 % 6 {
         0 => {
             let next = key_of(number);
@@ -133,12 +133,12 @@ fn change<R: Abort>(rt: &R, stands: &mut Stands, account: u32, old: Known, numbe
 
 // All stand where the plain map has them, and no other takes a place: the near ones that nothing
 // moves are kept, and the others that stand, or are aimed, stand apart.
-fn agree<R: Abort>(rt: &R, stands: &Stands, map: &BTreeMap<u32, Known>) {
+fn agree<R: Abort>(rt: &R, stands: &KeyIndex, map: &BTreeMap<u32, Known>) {
     let mut kept: u64 = 0;
     let mut apart: usize = 0;
     for account in 0..ACCOUNTS {
         let want = plain(map, account);
-        let got = stands.stand(account);
+        let got = stands.account_key(account);
         shows(rt, "the key", got.key == want.key);
         shows(rt, "the next key", got.next == want.next);
         if want.aimed || want.key.is_some() && !is_near(want.key) {
@@ -159,7 +159,7 @@ fn drawn(index: u32) -> u32 {
 
 #[test]
 fn beside_a_map(rt: HostRuntime) {
-    let mut stands = Stands::new(rt.alloc());
+    let mut stands = KeyIndex::new(rt.alloc());
     let mut map = BTreeMap::new(rt.alloc());
     for index in 0..CHANGES {
         let number = drawn(index);

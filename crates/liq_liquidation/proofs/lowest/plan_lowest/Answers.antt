@@ -15,7 +15,7 @@ use Rattle.liq_liquidation.proofs.lowest.plan_lowest.Goals as goal
 
 pub returns-clause-state : goal.returns-clause-state
 returns-clause-state c = λ s parts sound.
-    let m = c.args.m.now in
+    let m = c.args.market.now in
     let troves = c.args.troves.now.table.rows in
     let words = c.args.words.now in
     let n = c.args.n in

@@ -16,7 +16,7 @@ less_at price drawn most h = elim (cases_lt drawn most) [ inl less ↦ less | in
 
 pub come_to-requires-clause-drawn : goal.come_to-requires-clause-drawn
 come_to-requires-clause-drawn c =
-    let m = c.args.m.now in
+    let m = c.args.market.now in
     let visits = visited_by m.price c.args.troves.now.sums c.args.troves.now.table.rows c.args.order.now.entries in
     let within = subst (λ (l : List Cut). IsDrawnWithin m.price l) (sym c.in_ok-walk.ensures.cuts)
     (drawn_within m.price m.troves c.args.amount visits) in
@@ -29,27 +29,30 @@ come_to-requires-clause-drawn c =
 
 pub returns-in_err-check_asked : goal.returns-in_err-check_asked
 returns-in_err-check_asked c =
-    let visits = visited_by c.args.m.now.price c.args.troves.now.sums c.args.troves.now.table.rows
+    let visits = visited_by c.args.market.now.price c.args.troves.now.sums c.args.troves.now.table.rows
     c.args.order.now.entries in
     let p = err_from_is_err_and c.from_residual.result c.from_residual.ensures.1 in
     rw (p.1, p.2)
-    (asked_refuses c.args.m.now c.args.wallet.now visits c.args.amount c.args.bound _ (sym c.check_asked.ensures.refused
+    (asked_refuses c.args.market.now c.args.wallet.now visits c.args.amount c.args.bound _ (sym
+    c.check_asked.ensures.refused
     ∙ c.in_err-check_asked.was))
 
 pub returns-in_err-come_to : goal.returns-in_err-come_to
 returns-in_err-come_to c =
-    let visits = visited_by c.args.m.now.price c.args.troves.now.sums c.args.troves.now.table.rows
+    let visits = visited_by c.args.market.now.price c.args.troves.now.sums c.args.troves.now.table.rows
     c.args.order.now.entries in
     let p = err_from_is_err_and c.from_residual-in_err-come_to.result c.from_residual-in_err-come_to.ensures.1 in
     rw (p.1, p.2)
-    (behind_asked c.args.m.now c.args.wallet.now visits c.args.amount c.args.bound _ (sym c.check_asked.ensures.refused
+    (behind_asked c.args.market.now c.args.wallet.now visits c.args.amount c.args.bound _ (sym
+    c.check_asked.ensures.refused
     ∙ c.in_ok-check_asked.was) c.in_ok-walk.walk.cuts c.in_ok-walk.ensures.cuts _ c.in_ok-walk.ensures.first
     ∙ sym c.come_to.ensures ∙ c.in_err-come_to.was)
 
 pub returns : goal.returns
 returns c =
-    let visits = visited_by c.args.m.now.price c.args.troves.now.sums c.args.troves.now.table.rows
+    let visits = visited_by c.args.market.now.price c.args.troves.now.sums c.args.troves.now.table.rows
     c.args.order.now.entries in
-    behind_asked c.args.m.now c.args.wallet.now visits c.args.amount c.args.bound _ (sym c.check_asked.ensures.refused
+    behind_asked c.args.market.now c.args.wallet.now visits c.args.amount c.args.bound _ (sym
+    c.check_asked.ensures.refused
     ∙ c.in_ok-check_asked.was) c.in_ok-walk.walk.cuts c.in_ok-walk.ensures.cuts _ c.in_ok-walk.ensures.first
     ∙ sym c.come_to.ensures ∙ c.in_ok-come_to.was

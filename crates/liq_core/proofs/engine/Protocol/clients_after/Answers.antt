@@ -11,8 +11,8 @@ use Rattle.liq_core.proofs.Beginning.{clients_used}
 use Rattle.liq_core.proofs.Noting.{kept_rows}
 use Rattle.liq_core.proofs.engine.Protocol.clients_after.Goals as goal
 
-pub filled-requires : goal.filled-requires
-filled-requires c = subst (λ (t : Table Client). Ascends t) (sym (c.deref.ensures.value ∙ c.in_ok-rows.ensures))
+pub from_entries-requires : goal.from_entries-requires
+from_entries-requires c = subst (λ (t : Table Client). Ascends t) (sym (c.deref.ensures.value ∙ c.in_ok-rows.ensures))
     c.self.invariant.image.tables.clients
 
 pub returns : goal.returns

@@ -10,5 +10,5 @@ pub returns : goal.returns
 returns c =
     let s = state_of c.args.self.now in
     let command = c.args.command.now in
-    let same = c.kept.ensures ∙ ap (λ (row : Client). kept_by row command.number) c.client.ensures in
+    let same = c.repeated_reply.ensures ∙ ap (λ (row : Client). kept_by row command.number) c.client.ensures in
     subst (IsKept s command) (sym same) (kept_so s command (omega (arith, c.if-command-ge-ACCOUNTS.false)))

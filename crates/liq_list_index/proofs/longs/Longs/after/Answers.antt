@@ -2,7 +2,7 @@ use Rattle.std.proofs.Common.{ap, ◌∙◌, map, Option}
 use Rattle.std.specs.Prelude.{List, option_map}
 use Rattle.liq_types.specs.Ranked.{Ranked}
 use Rattle.liq_list_index.specs.declared.longs.Long.{Long}
-use Rattle.liq_list_index.specs.Places.{ranked_long, IsHalved}
+use Rattle.liq_list_index.specs.EntrySets.{ranked_long, IsHalved}
 use Rattle.liq_list_chunks.specs.Entries.{entry_after}
 use Rattle.liq_list_index.proofs.Halves.{halved_order, long_order}
 use Rattle.liq_list_index.proofs.Stored.{after_is}

@@ -2,7 +2,7 @@ use Rattle.std.proofs.Common.{sym, ap, ◌∙◌, subst, map}
 use Rattle.std.specs.Prelude.{List}
 use Rattle.liq_types.specs.Ranked.{Ranked}
 use Rattle.liq_list_index.specs.declared.longs.Long.{Long}
-use Rattle.liq_list_index.specs.Places.{ranked_long, AreHalved, IsHalved}
+use Rattle.liq_list_index.specs.EntrySets.{ranked_long, AreHalved, IsHalved}
 use Rattle.liq_list_chunks.specs.Entries.{with_entry}
 use Rattle.liq_list_index.proofs.Halves.{halved_order, long_order}
 use Rattle.liq_list_index.proofs.Stored.{fine_inserted, inserted_is, stored_ascending}

@@ -3,7 +3,7 @@ use Rattle.std.specs.Prelude.{List}
 use Rattle.std.specs.BTreeMap.{is_at}
 use Rattle.liq_types.specs.Ranked.{Ranked}
 use Rattle.liq_list_index.specs.declared.longs.Long.{Long}
-use Rattle.liq_list_index.specs.Places.{ranked_long, AreHalved, IsHalved}
+use Rattle.liq_list_index.specs.EntrySets.{ranked_long, AreHalved, IsHalved}
 use Rattle.liq_list_chunks.specs.Entries.{without_entry}
 use Rattle.liq_list_index.proofs.Halves.{halved_order, long_order}
 use Rattle.liq_list_index.proofs.Stored.{fine_removed, removed_is, stored_ascending}

@@ -1,7 +1,7 @@
 use Rattle.std.proofs.Common.{◌≡◌, ℕ, List, take, false}
 use Rattle.liq_types.specs.Ranked.{Ranked}
 use Rattle.liq_list_index.specs.Followed.{all_listed}
-use Rattle.liq_list_keys.specs.Parts.{stand_of}
+use Rattle.liq_list_keys.specs.Parts.{account_key}
 use Rattle.liq_list_index.specs.Rows.{Follows, key_at, next_at, names}
 use Rattle.liq_list_index.proofs.rows.Rows.aim.Given as goal
 
@@ -11,4 +11,4 @@ invariant-loop-change l =
     × ((a : ℕ) → key_at l.self.stands a ≡ key_at l.fn.self.stands a)
     × ((list : List Ranked) → Follows (next_at l.fn.self.stands) list
     → Follows (next_at l.self.stands) (all_listed list (take l.change-index l.changes)))
-    × ((a : ℕ) → names l.changes a ≡ false → stand_of l.self.stands a ≡ stand_of l.fn.self.stands a)
+    × ((a : ℕ) → names l.changes a ≡ false → account_key l.self.stands a ≡ account_key l.fn.self.stands a)

@@ -3,9 +3,9 @@ use Rattle.std.proofs.lemmas.Int.{to_z-of_z}
 use Rattle.std.specs.Prelude.{◌==◌, OnOk}
 use Rattle.liq_types.specs.Ranked.{Ranked}
 use Rattle.liq_types.specs.declared.events.ListChange.{ListChange}
-use Rattle.liq_list_keys.specs.Parts.{Parts, stand_of}
-use Rattle.liq_list_keys.specs.Stands.{moved}
-use Rattle.liq_list_keys.specs.declared.stands.Stand.{Stand}
+use Rattle.liq_list_keys.specs.Parts.{Parts, account_key}
+use Rattle.liq_list_keys.specs.AccountKey.{moved}
+use Rattle.liq_list_keys.specs.declared.key_index.AccountKey.{AccountKey}
 use Rattle.liq_list_chunks.proofs.Lists.{on_ok}
 use Rattle.liq_list_index.specs.Followed.{listed}
 use Rattle.liq_list_index.specs.Rows.{Follows, key_at, next_at}
@@ -16,12 +16,12 @@ use mir.Val.{SFits}
 
 -- the key that an account will have
 aimed : (stands after : Parts) (account : ℕ) (next : Option ℤ)
-    → ((a : ℕ) → stand_of after a ≡ moved (stand_of stands) account (record {
+    → ((a : ℕ) → account_key after a ≡ moved (account_key stands) account (record {
       key = key_at stands account;
       next = next;
     }) a) → Sent (next_at stands) (next_at after) account next
-aimed stands after account next h a = ap (λ (s : Stand). s.next) (h a) ∙ by (a == account) where
-  by : (b : Bool) → (cond b (record { key = key_at stands account; next = next }) (stand_of stands a)).next
+aimed stands after account next h a = ap (λ (s : AccountKey). s.next) (h a) ∙ by (a == account) where
+  by : (b : Bool) → (cond b (record { key = key_at stands account; next = next }) (account_key stands a)).next
       ≡ cond b next (next_at stands a)
   by true = refl
   by false = refl

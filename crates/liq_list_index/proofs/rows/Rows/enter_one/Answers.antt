@@ -7,7 +7,7 @@ use Rattle.liq_types.proofs.RankedLists.{rank_total}
 use Rattle.liq_list_chunks.specs.Entries.{with_entry}
 use Rattle.liq_list_chunks.proofs.Lists.{entered_ascending, on_ok}
 use Rattle.liq_list_index.specs.Rows.{Holds, is_in, is_key, key_at, next_at}
-use Rattle.liq_list_keys.specs.declared.stands.Stand.{Stand}
+use Rattle.liq_list_keys.specs.declared.key_index.AccountKey.{AccountKey}
 use Rattle.liq_list_index.proofs.Parts.{either}
 use Rattle.liq_list_index.proofs.Holding as holding
 use Rattle.liq_list_index.proofs.Holding.{own_entry}
@@ -17,7 +17,7 @@ use mir.Syntax.{w128}
 use mir.Val.{SFits}
 
 next_is : (c : goal.After-insert) → next_at c.args.self.now.stands c.args.account ≡ Some c.in-Some.place
-next_is c = ap (λ (s : Stand). s.next) (sym c.stand-key.ensures) ∙ c.in-Some.is
+next_is c = ap (λ (s : AccountKey). s.next) (sym c.account_key-key.ensures) ∙ c.in-Some.is
 
 pub returns-in-Some-clause-holds : goal.returns-in-Some-clause-holds
 returns-in-Some-clause-holds c h =

@@ -1,9 +1,9 @@
 use Rattle.std.proofs.Common.{◌≡◌, ℕ, ℤ, Some, sym, ap, ◌∙◌, subst, rules}
 use Rattle.std.proofs.lemmas.Int.{to_z-of_z}
 use Rattle.liq_types.specs.Ranked.{with_ranked, without_ranked}
-use Rattle.liq_list_keys.specs.Parts.{stand_of}
-use Rattle.liq_list_keys.specs.Stands.{moved, settled_at}
-use Rattle.liq_list_keys.specs.declared.stands.Stand.{Stand}
+use Rattle.liq_list_keys.specs.Parts.{account_key}
+use Rattle.liq_list_keys.specs.AccountKey.{moved, settled_at}
+use Rattle.liq_list_keys.specs.declared.key_index.AccountKey.{AccountKey}
 use Rattle.liq_list_chunks.specs.Entries.{with_entry, without_entry}
 use Rattle.liq_list_index.specs.Rows.{Follows, key_at}
 use Rattle.liq_list_index.proofs.Following.{put, sent}
@@ -26,13 +26,13 @@ returns-clause-followed c h =
     let to : SFits w64 kept = search rules in
     let moved_entry = simp to_z-of_z at c.in_default-replace.ensures.replaced in
     let same : kept ≡ key = c.in-Some-Some.ensures'.same ∙ to_z-of_z w128 key wide in
-    let moves : (a : ℕ) → stand_of new a ≡ moved (stand_of old) account (settled_at (Some key)) a =
-    subst (λ (z : ℤ). (a : ℕ) → stand_of new a ≡ moved (stand_of old) account (settled_at (Some z)) a) same
+    let moves : (a : ℕ) → account_key new a ≡ moved (account_key old) account (settled_at (Some key)) a =
+    subst (λ (z : ℤ). (a : ℕ) → account_key new a ≡ moved (account_key old) account (settled_at (Some z)) a) same
     c.keep.ensures.moved in
-    let stands : stand_of old account ≡ settled_at (Some stood) = c.in-Some-Some.ensures.key in
+    let stands : account_key old account ≡ settled_at (Some stood) = c.in-Some-Some.ensures.key in
     let entries : c.replace.new.self ≡ with_ranked (without_ranked list account) (key, account) = moved_entry
     ∙ ap (λ (z : ℤ). with_entry (without_entry list (stood, account)) (z, account)) same
-    ∙ shifted (key_at old) list account stood (ap (λ (s : Stand). s.key) stands) h key in (
+    ∙ shifted (key_at old) list account stood (ap (λ (s : AccountKey). s.key) stands) h key in (
       subst (Follows (key_at new)) (sym entries) (put (key_at old) (key_at new) list account key (sent old new account
           (Some key) moves) h),
       entries,

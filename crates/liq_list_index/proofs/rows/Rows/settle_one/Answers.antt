@@ -3,9 +3,9 @@ use Rattle.std.specs.Option.{option_eq}
 use Rattle.std.specs.Ordering.{int_eq, is_eq}
 use Rattle.std.specs.Prelude.{◌==◌, not}
 use Rattle.liq_types.specs.Ranked.{Ranked, rank_order, IsAscending}
-use Rattle.liq_list_keys.specs.Parts.{Parts, stand_of}
-use Rattle.liq_list_keys.specs.Stands.{settled_at, side_of}
-use Rattle.liq_list_keys.specs.declared.stands.Stand.{Stand}
+use Rattle.liq_list_keys.specs.Parts.{Parts, account_key}
+use Rattle.liq_list_keys.specs.AccountKey.{settled_at, side_of}
+use Rattle.liq_list_keys.specs.declared.key_index.AccountKey.{AccountKey}
 use Rattle.liq_list_index.specs.declared.rows.Rows.{Rows}
 use Rattle.liq_list_index.specs.Rows.{Holds, side_at, is_in}
 use Rattle.liq_list_index.proofs.Stands.{option_Decides, settled, settled_as_it_was}
@@ -13,22 +13,23 @@ use Rattle.liq_list_index.proofs.rows.Rows.settle_one.Goals as goal
 use Rattle.liq_list_index.proofs.rows.Rows.settle_one.Goals.{then-ne, else-ne}
 
 -- where the account stands then
-moves : (c : goal.After-settle) → c.if-ne.self.stands ≡ c.args.self.now.stands → (a : ℕ) → stand_of c.settle.new.self a
-    ≡ cond (a == c.args.account) (settled_at (side_of c.args.made (stand_of c.args.self.now.stands c.args.account)))
-    (stand_of c.args.self.now.stands a)
+moves : (c : goal.After-settle) → c.if-ne.self.stands ≡ c.args.self.now.stands → (a : ℕ) → account_key
+    c.settle.new.self a
+    ≡ cond (a == c.args.account) (settled_at (side_of c.args.made (account_key c.args.self.now.stands c.args.account)))
+    (account_key c.args.self.now.stands a)
 moves c same =
-    subst (λ (stands : Parts). (a : ℕ) → stand_of c.settle.new.self a
-    ≡ cond (a == c.args.account) (settled_at (side_of c.args.made (stand_of stands c.args.account)))
-    (stand_of stands a)) same c.settle.ensures
+    subst (λ (stands : Parts). (a : ℕ) → account_key c.settle.new.self a
+    ≡ cond (a == c.args.account) (settled_at (side_of c.args.made (account_key stands c.args.account)))
+    (account_key stands a)) same c.settle.ensures
 
 stays : (c : goal.After-settle) → c.sides-stays.result.0 ≡ side_at c.args.made c.args.self.now.stands c.args.account
 stays c = ap (λ (p : Option ℤ × Option ℤ). p.0) c.sides-stays.ensures
-    ∙ ap (λ (s : Stand). side_of c.args.made s) c.stand.ensures
+    ∙ ap (λ (s : AccountKey). side_of c.args.made s) c.account_key.ensures
 
 goes : (c : goal.After-settle)
     → c.sides-stays.result.1 ≡ side_at (not c.args.made) c.args.self.now.stands c.args.account
 goes c = ap (λ (p : Option ℤ × Option ℤ). p.1) c.sides-stays.ensures
-    ∙ ap (λ (s : Stand). side_of (not c.args.made) s) c.stand.ensures
+    ∙ ap (λ (s : AccountKey). side_of (not c.args.made) s) c.account_key.ensures
 
 not_true : (b : Bool) → b ≡ true → true ≡ not b → ⊥
 not_true true h k = cc

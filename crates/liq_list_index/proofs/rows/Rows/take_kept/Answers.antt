@@ -1,7 +1,7 @@
 use Rattle.std.proofs.Common.{◌≡◌, ℤ, None, sym, ap, ◌∙◌, subst, rules}
 use Rattle.std.proofs.lemmas.Int.{to_z-of_z}
 use Rattle.liq_types.specs.Ranked.{without_ranked}
-use Rattle.liq_list_keys.specs.declared.stands.Stand.{Stand}
+use Rattle.liq_list_keys.specs.declared.key_index.AccountKey.{AccountKey}
 use Rattle.liq_list_chunks.specs.Entries.{without_entry}
 use Rattle.liq_list_index.specs.Rows.{Follows, key_at}
 use Rattle.liq_list_index.proofs.Following.{gone, sent}
@@ -25,7 +25,7 @@ returns-clause-followed c h =
     let entries : c.remove.new.self ≡ without_ranked list account =
     left
     ∙ ap (λ (z : ℤ). without_entry list (z, account)) key
-    ∙ left_account (key_at old) list account stood (ap (λ (s : Stand). s.key) stands) h in (
+    ∙ left_account (key_at old) list account stood (ap (λ (s : AccountKey). s.key) stands) h in (
       subst (Follows (key_at new)) (sym entries) (gone (key_at old) (key_at new) list account
           (sent old new account None c.leave.ensures) h),
       entries,

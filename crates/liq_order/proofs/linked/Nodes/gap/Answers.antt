@@ -7,4 +7,4 @@ use Rattle.liq_order.proofs.linked.Nodes.gap.Goals as goal
 pub returns-in-None-clause-any : goal.returns-in-None-clause-any
 returns-in-None-clause-any g c =
     let all = length-map c.args.self.now.order (λ (p : NodeNo). entry_of (memory c.args.self.now.nodes p)) in
-    omega (arith, c.hinted.ensures.steps, c.walk.ensures.steps, all)
+    omega (arith, c.hinted_gap.ensures.steps, c.walk.ensures.steps, all)

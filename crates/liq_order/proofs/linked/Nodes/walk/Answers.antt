@@ -7,8 +7,8 @@ loop-further-init g c =
     let b = begins c.args.self.now c.args.entry c.front-gap.result c.front-gap.ensures in
     (b.0, omega (arith, b.1))
 
-pub turn-requires-clause-behind : goal.turn-requires-clause-behind
-turn-requires-clause-behind g c = c.loop-further.invariant.0
+pub step-requires-clause-behind : goal.step-requires-clause-behind
+step-requires-clause-behind g c = c.loop-further.invariant.0
 
 pub loop-further-smaller : goal.loop-further-smaller
 loop-further-smaller g c =

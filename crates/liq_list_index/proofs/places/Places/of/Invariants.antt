@@ -1,9 +1,0 @@
-use Rattle.std.proofs.Common.{◌≡◌, ◌++◌, take}
-use Rattle.liq_list_index.specs.Places.{AreParted}
-use Rattle.liq_list_index.proofs.places.Places.of.Given as goal
-
-abbrev pub invariant-loop-place : goal.invariant-loop-place
-invariant-loop-place l = record {
-  parted : AreParted l.below l.shorts.items l.above;
-  so_far : l.below ++ (l.shorts.items ++ l.above) ≡ take l.place-index l.list;
-}
