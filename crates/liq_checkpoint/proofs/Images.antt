@@ -22,7 +22,7 @@ use Rattle.liq_disk_layout.specs.Keys.{follows, epoch_follows, place_follows}
 use Rattle.liq_types.specs.Product.{place_order}
 use Rattle.liq_types.specs.Soundness.{IsClientRow, HasTables}
 use Rattle.liq_types.specs.State.{is_used_wallet}
-use Rattle.liq_types.specs.Tables.{Place, Table}
+use Rattle.liq_types.specs.Tables.{EpochScale, Table}
 use Rattle.liq_checkpoint.specs.Spelling.{Field, spelled, Fit, eights, wallet, trove, surplus, finished, deposit, client, words, name, spelling, table, contents, HasCheckpoint}
 use Rattle.liq_checkpoint.specs.Reading.{◌>>=◌, Gives, number_at, tested, numbers_at, some_at, key_at, is_kind, wallet_at, trove_at, surplus_at, finished_at, deposit_at, client_at, limit_named, limit_at, words_at, image_at}
 use Rattle.liq_checkpoint.proofs.Fields.{IsBytes, IsBytes-drop, bind_ok, ok_is, passed, passed_then, Takes, Takes-then, spelled-append, Fit-front, Fit-back, number_takes, number_then, number_again, numbers_then, numbers_again}
@@ -170,11 +170,12 @@ surplus_row end = record { takes = surplus_takes end; again = surplus_again end 
 -- ---- finished sums
 
 -- a place that follows has an epoch that follows
-epoch_too : (last : Option Place) (place : Place) → place_follows last place ≡ true → epoch_follows last place.0 ≡ true
+epoch_too : (last : Option EpochScale) (place : EpochScale) → place_follows last place ≡ true
+    → epoch_follows last place.0 ≡ true
 epoch_too None place h = refl
 epoch_too (Some last) place h = grind (arith, nat_tests, h)
 
-finished_takes : (end : ℕ) (last : Option Place) (at : List ℕ) (x : (Place × ℕ) × List ℕ) → IsBytes at
+finished_takes : (end : ℕ) (last : Option EpochScale) (at : List ℕ) (x : (EpochScale × ℕ) × List ℕ) → IsBytes at
     → finished_at end last at ≡ Ok x → Takes at (finished x.0) x.1 × (1 ≤ x.0.1) × (place_follows last x.0.0 ≡ true)
 unfolding finished_at
 finished_takes end last at x fits e =
@@ -183,11 +184,13 @@ finished_takes end last at x fits e =
     number_then end 8 a _ x t0.rest_fits e1 λ scale b t1 e2.
     passed_then (place_follows last (epoch, scale)) end a (scale, b) _ x e2 λ above e3.
     some_then end 16 b _ x t1.rest_fits e3 λ sum c t2 some e4.
-    subst (λ (y : (Place × ℕ) × List ℕ). Takes at (finished y.0) y.1 × (1 ≤ y.0.1) × (place_follows last y.0.0 ≡ true))
+    subst (λ (y : (EpochScale × ℕ) × List ℕ). Takes at (finished y.0) y.1 × (1 ≤ y.0.1) × (place_follows last y.0.0
+    ≡ true))
     (ok_is (((epoch, scale), sum), c) x e4)
     (Takes-then t0 (Takes-then t1 t2), some, above)
 
-finished_again : (end : ℕ) (last : Option Place) (row : Place × ℕ) (rest : List ℕ) → Fit (finished row) → 1 ≤ row.1
+finished_again : (end : ℕ) (last : Option EpochScale) (row : EpochScale × ℕ) (rest : List ℕ) → Fit (finished row)
+    → 1 ≤ row.1
     → place_follows last row.0 ≡ true → finished_at end last (spelled (finished row) ++ rest) ≡ Ok (row, rest)
 unfolding finished_at
 finished_again end last row rest fit used h =
@@ -445,7 +448,8 @@ keys_in_order = record { total = nat_cmp_total; none = λ k. refl; some = λ a b
 
 places_in_order : IsOrder place_order place_follows
 places_in_order = record {
-  total = then_total (on_total (λ (p : Place). p.0) nat_cmp_total) (on_total (λ (p : Place). p.1) nat_cmp_total);
+  total = then_total (on_total (λ (p : EpochScale). p.0) nat_cmp_total)
+      (on_total (λ (p : EpochScale). p.1) nat_cmp_total);
   none = λ k. refl;
   some = λ a b. grind (arith, nat_tests);
 }
@@ -461,7 +465,7 @@ to_the_end : {at : List ℕ} {fields : List Field} {rest : List ℕ} → Takes a
 to_the_end {at} {fields} t none = t.parts ∙ ap (λ (bytes : List ℕ). spelled fields ++ bytes) none
     ∙ append-nil (spelled fields)
 
-abbrev with_rows : Image → Table Wallet → Table Trove → Table ℕ → List (Place × ℕ) → Table Deposit
+abbrev with_rows : Image → Table Wallet → Table Trove → Table ℕ → List (EpochScale × ℕ) → Table Deposit
     → Table Client → Image
 with_rows i wallets troves surplus finished deposits clients =
     record i {

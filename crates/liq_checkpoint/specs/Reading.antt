@@ -14,7 +14,7 @@ use Rattle.liq_types.specs.declared.figures.Trove.{Trove}
 use Rattle.liq_types.specs.declared.figures.Deposit.{Deposit}
 use Rattle.liq_types.specs.declared.image.Image.{Image}
 use Rattle.liq_types.specs.Image.{opening_image_with}
-use Rattle.liq_types.specs.Tables.{Place}
+use Rattle.liq_types.specs.Tables.{EpochScale}
 use Rattle.liq_disk_layout.specs.Keys.{follows, epoch_follows, place_follows}
 use Rattle.liq_checkpoint.specs.declared.decoding.Words.{Words}
 use Rattle.liq_checkpoint.specs.declared.image_bytes.ImageBytes.{ImageBytes}
@@ -112,7 +112,7 @@ surplus_at end last at = do
   coll ← some_at end 8 account.1
   Ok ((account.0, coll.0), coll.1)
 
-unfoldable pub finished_at : ℕ → Option Place → List ℕ → Result ((Place × ℕ) × List ℕ) ℕ
+unfoldable pub finished_at : ℕ → Option EpochScale → List ℕ → Result ((EpochScale × ℕ) × List ℕ) ℕ
 finished_at end last at = do
   number ← number_at end 8 at
   epoch ← tested (epoch_follows last number.0) end at number

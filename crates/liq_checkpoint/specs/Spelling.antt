@@ -9,7 +9,7 @@ use Rattle.liq_types.specs.declared.figures.Trove.{Trove}
 use Rattle.liq_types.specs.declared.figures.Deposit.{Deposit}
 use Rattle.liq_types.specs.declared.image.Image.{Image}
 use Rattle.liq_types.specs.Image.{IsLimit}
-use Rattle.liq_types.specs.Tables.{Place}
+use Rattle.liq_types.specs.Tables.{EpochScale}
 use Rattle.liq_types.specs.Soundness.{HasTables}
 pub use Rattle.liq_disk_layout.specs.Names.{name}
 
@@ -53,7 +53,7 @@ trove row =
 abbrev pub surplus : ℕ × ℕ → List Field
 surplus row = (4, row.0) ∷ (8, row.1) ∷ []
 
-abbrev pub finished : Place × ℕ → List Field
+abbrev pub finished : EpochScale × ℕ → List Field
 finished row = (8, row.0.0) ∷ (8, row.0.1) ∷ (16, row.1) ∷ []
 
 abbrev pub deposit : ℕ × Deposit → List Field

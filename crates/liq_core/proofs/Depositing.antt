@@ -15,7 +15,7 @@ use Rattle.liq_types.specs.declared.replies.Refusal.TheVariants.{NoDeposit}
 use Rattle.liq_types.specs.Rules.{first_refusal, outcome}
 use Rattle.liq_types.proofs.MapRows.{at-map}
 use Rattle.liq_types.specs.State.{State, wallet_in, wallet_of, surplus_in}
-use Rattle.liq_types.specs.Tables.{Place, Table, at}
+use Rattle.liq_types.specs.Tables.{EpochScale, Table, at}
 use Rattle.liq_types.specs.Totals.{market_of, or_nothing}
 use Rattle.liq_tables.specs.WithRoom.{WithRoom}
 use Rattle.liq_ledger.specs.declared.pools.Pools.{Pools}
@@ -58,7 +58,7 @@ pub pool_image : (t : State) (pool : Kept) → IsPoolOf t pool
     → image t ≡ with_pool (image t) pool.words pool.finished pool.deposits.rows
 pool_image t pool h =
     ap (λ (w : PoolWords). with_pool (image t) w (image t).finished (image t).deposits) (sym h.words)
-    ∙ ap (λ (f : List (Place × ℕ)). with_pool (image t) pool.words f (image t).deposits) (sym h.finished)
+    ∙ ap (λ (f : List (EpochScale × ℕ)). with_pool (image t) pool.words f (image t).deposits) (sym h.finished)
     ∙ ap (λ (d : Table Deposit). with_pool (image t) pool.words pool.finished d) (sym h.deposits)
 
 module _ (p : Inside) (sound : IsSound p) where

@@ -6,7 +6,7 @@ use Rattle.liq_types.specs.declared.figures.Trove.{Trove}
 use Rattle.liq_types.specs.declared.figures.Wallet.{Wallet}
 use Rattle.liq_types.specs.declared.image.Image.{Image}
 use Rattle.liq_types.specs.State.{started}
-use Rattle.liq_types.specs.Tables.{Place, Table}
+use Rattle.liq_types.specs.Tables.{EpochScale, Table}
 use Rattle.liq_ledger.specs.declared.pools.Pools.{Pools}
 use Rattle.liq_troves.specs.declared.sums.Sums.{Sums}
 use Rattle.liq_trove_moves.specs.Books.{pools_of}
@@ -41,7 +41,7 @@ with_sums i sums =
     }
 
 -- the Stability Pool's words, finished sums and deposits
-abbrev pub with_pool : Image → PoolWords → List (Place × ℕ) → Table Deposit → Image
+abbrev pub with_pool : Image → PoolWords → List (EpochScale × ℕ) → Table Deposit → Image
 with_pool i words finished deposits =
     record i {
       p = words.p;
@@ -55,7 +55,8 @@ with_pool i words finished deposits =
     }
 
 -- an image with other parts
-abbrev pub made_of : Image → Table Wallet → Table Trove → Sums → PoolWords → List (Place × ℕ) → Table Deposit → Table ℕ
+abbrev pub made_of : Image → Table Wallet → Table Trove → Sums → PoolWords → List (EpochScale × ℕ) → Table Deposit
+    → Table ℕ
     → Table Client → Image
 made_of i wallets troves sums words finished deposits surplus clients =
     record (with_pool (with_sums i sums) words finished deposits) {
@@ -67,7 +68,7 @@ made_of i wallets troves sums words finished deposits surplus clients =
 
 -- with its own parts it is itself
 pub made_again : (i : Image) (wallets : Table Wallet) (troves : Table Trove) (sums : Sums) (words : PoolWords)
-    (finished : List (Place × ℕ)) (deposits : Table Deposit) (surplus : Table ℕ) (clients : Table Client)
+    (finished : List (EpochScale × ℕ)) (deposits : Table Deposit) (surplus : Table ℕ) (clients : Table Client)
     → wallets ≡ i.wallets → troves ≡ i.troves → sums ≡ sums_by i → words ≡ words_by i → finished ≡ i.finished
     → deposits ≡ i.deposits → surplus ≡ i.surplus_rows → clients ≡ i.clients
     → made_of i wallets troves sums words finished deposits surplus clients ≡ i
@@ -76,7 +77,7 @@ made_again i wallets troves sums words finished deposits surplus clients w t u p
     ∙ ap (λ (ts : Table Trove). made_of i i.wallets ts sums words finished deposits surplus clients) t
     ∙ ap (λ (us : Sums). made_of i i.wallets i.troves us words finished deposits surplus clients) u
     ∙ ap (λ (ps : PoolWords). made_of i i.wallets i.troves (sums_by i) ps finished deposits surplus clients) p
-    ∙ ap (λ (fs : List (Place × ℕ)). made_of i i.wallets i.troves (sums_by i) (words_by i) fs deposits surplus
+    ∙ ap (λ (fs : List (EpochScale × ℕ)). made_of i i.wallets i.troves (sums_by i) (words_by i) fs deposits surplus
     clients) f
     ∙ ap (λ (ds : Table Deposit). made_of i i.wallets i.troves (sums_by i) (words_by i) i.finished ds surplus clients) d
     ∙ ap (λ (ss : Table ℕ). made_of i i.wallets i.troves (sums_by i) (words_by i) i.finished i.deposits ss clients) s

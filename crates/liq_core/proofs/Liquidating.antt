@@ -18,7 +18,7 @@ use Rattle.liq_types.specs.Product.{finished_sums}
 use Rattle.liq_types.specs.Rules.{first_refusal}
 use Rattle.liq_types.specs.Soundness.{IsSoundImage}
 use Rattle.liq_types.specs.State.{State, TroveEntry, is_used_client}
-use Rattle.liq_types.specs.Tables.{Place, Table, at, put}
+use Rattle.liq_types.specs.Tables.{EpochScale, Table, at, put}
 use Rattle.liq_tables.specs.WithRoom.{WithRoom, written}
 use Rattle.liq_ledger.specs.declared.pools.Pools.{Pools}
 use Rattle.liq_troves.specs.declared.sums.Sums.{Sums}
@@ -160,7 +160,7 @@ liquidation_planned old sound plan planned fit room liquidator is =
 
 -- ---- images by the parts that liquidations change
 
-abbrev with_kept : Image → Table Wallet → Pools → Sums → Table Trove → Table ℕ → PoolWords → List (Place × ℕ)
+abbrev with_kept : Image → Table Wallet → Pools → Sums → Table Trove → Table ℕ → PoolWords → List (EpochScale × ℕ)
     → Table Deposit → Image
 with_kept i wallets pools sums rows owners words finished deposits =
     record (with_pool (with_sums (with_pools i pools) sums) words finished deposits) {
@@ -238,7 +238,8 @@ module _ (t : State) (i : Image) (wallets : WithRoom Wallet) (pools : Pools) (su
       pool.deposits.rows) h.owners_are
       ∙ ap (λ (x : PoolWords). with_kept i t.wallets (pools_of t) (sums_words t) (trove_rows t) t.surplus_rows x
       pool.finished pool.deposits.rows) h.pool_is.words
-      ∙ ap (λ (x : List (Place × ℕ)). with_kept i t.wallets (pools_of t) (sums_words t) (trove_rows t) t.surplus_rows
+      ∙ ap (λ (x : List (EpochScale × ℕ)). with_kept i t.wallets (pools_of t) (sums_words t)
+      (trove_rows t) t.surplus_rows
       (pool_words t) x pool.deposits.rows) h.pool_is.finished
       ∙ ap (λ (x : Table Deposit). with_kept i t.wallets (pools_of t) (sums_words t) (trove_rows t) t.surplus_rows
       (pool_words t) (finished_sums t.start t.offsets) x) h.pool_is.deposits

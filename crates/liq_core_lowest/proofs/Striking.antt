@@ -12,7 +12,7 @@ use Rattle.liq_types.specs.declared.figures.Wallet.{Wallet}
 use Rattle.liq_types.specs.Payments.{credited_in, surplus_added_in}
 use Rattle.liq_types.specs.Ranked.{Ranked, key_in, without_ranked}
 use Rattle.liq_types.specs.State.{State, TroveEntry, wallet_in, surplus_in}
-use Rattle.liq_types.specs.Tables.{Place, Table, at}
+use Rattle.liq_types.specs.Tables.{EpochScale, Table, at}
 use Rattle.liq_types.specs.Totals.{market_of, pool_total}
 use Rattle.liq_types.specs.WellFormed.{IsWellFormed}
 use Rattle.liq_types.proofs.MapRows.{at-map, map-length}
@@ -274,7 +274,8 @@ module _ (t : State) (f : Finds t) (v : Victim) (made : one t v.account ≡ Ok v
                 ∙ sym (left_words t v liquidator f.stands.formed.0 f.stands.formed.3);
             finished =
                 finished ∙ ap (λ (w : PoolWords). finished_with pool.finished (finished_in w v.one)) h.pool_is.words
-                ∙ ap (λ (l : List (Place × ℕ)). finished_with l (finished_in (pool_words t) v.one)) h.pool_is.finished
+                ∙ ap (λ (l : List (EpochScale × ℕ)). finished_with l (finished_in
+                (pool_words t) v.one)) h.pool_is.finished
                 ∙ sym (left_sums t v liquidator);
             deposits = ap (λ (d : WithRoom Deposit). d.rows) deposits ∙ h.pool_is.deposits ∙ sym deposits_left;
           };

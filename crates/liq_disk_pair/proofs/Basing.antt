@@ -8,7 +8,7 @@ use Rattle.liq_types.specs.declared.image.Image.{Image}
 use Rattle.liq_types.specs.declared.requests.Command.{Command}
 use Rattle.liq_types.specs.Soundness.{first_failing, first_unsound, has_sound_words, is_before, soundness}
 use Rattle.liq_types.specs.State.{State, opening_with, started}
-use Rattle.liq_types.specs.Tables.{Place}
+use Rattle.liq_types.specs.Tables.{EpochScale}
 use Rattle.liq_types.specs.WellFormed.{AreFinished, IsBefore, IsWellFormed}
 use Rattle.liq_stability.proofs.Tests.{before_in}
 use Rattle.liq_rule_step.proofs.Started.{started_formed}
@@ -143,11 +143,11 @@ none_fails (rule ∷ rules) none = by rule.1 none (none_fails rules)
 words_sound : (i : Image) → first_unsound i 0 ≡ None → has_sound_words i 0 ≡ true
 words_sound i sound = let all = none_fails (soundness i 0) sound in all.1.1.1.1.1.1.1.1.0
 
-abbrev is_finished : Place → Place × ℕ → Bool
+abbrev is_finished : EpochScale → EpochScale × ℕ → Bool
 is_finished now row = nat_le row.1 (OFFSET_MOST * P_OPENING) && is_before row.0 now
 
-rows_earlier : (now : Place) (rows : List (Place × ℕ)) → list_all (is_finished now) rows ≡ true
-    → AllByRecursion (λ (row : Place × ℕ). IsBefore row.0 now) rows
+rows_earlier : (now : EpochScale) (rows : List (EpochScale × ℕ)) → list_all (is_finished now) rows ≡ true
+    → AllByRecursion (λ (row : EpochScale × ℕ). IsBefore row.0 now) rows
 rows_earlier now [] is = tt
 rows_earlier now (row ∷ rows) is =
     let all = and_parts (is_finished now row) (list_all (is_finished now) rows) is in

@@ -13,7 +13,7 @@ use Rattle.liq_types.specs.Allowance.{balance_allowance, cost_of}
 use Rattle.liq_types.specs.PlainLedger.{Share, no_share, share_after, exact_share, is_own_of, own_events_of, gains_paid_to, den_of, offsets_coll}
 use Rattle.liq_types.specs.Product.{ScaledProduct, place_of, is_place}
 use Rattle.liq_types.specs.State.{State, DepositEntry, After, opening}
-use Rattle.liq_types.specs.Tables.{Place, at}
+use Rattle.liq_types.specs.Tables.{EpochScale, at}
 use Rattle.liq_types.specs.WellFormed.{IsBefore}
 use Rattle.liq_types.proofs.Accounts.{above_with, under_with}
 use Rattle.liq_types.proofs.Places.{IsUpTo, up_to_before, before_not_place, list_reaches}
@@ -59,17 +59,17 @@ event_reaches s (event.Offset debt coll total rise) =
     subst (λ (w : ScaledProduct). IsUpTo (place_of (words_of s)) (place_of w)) (sym (words-snoc s debt coll))
     (list_reaches (words_of s) (offset_now s debt coll ∷ []))
 
-none_risen : (minute : ℕ) (past : List Timed) (q : Place) (b : Bool) → is_place (place_at past) q ≡ false
+none_risen : (minute : ℕ) (past : List Timed) (q : EpochScale) (b : Bool) → is_place (place_at past) q ≡ false
     → cond b (cond (is_place (place_at past) q) (rise_by minute past) 0) 0 ≡ 0
 none_risen minute past q true e = ap (λ c. cond c (rise_by minute past) 0) e
 none_risen minute past q false e = refl
 
-pub later_at : (minute : ℕ) (past : List Timed) (q : Place) → IsBefore (place_at past) q → sum_of past q ≡ 0
+pub later_at : (minute : ℕ) (past : List Timed) (q : EpochScale) → IsBefore (place_at past) q → sum_of past q ≡ 0
     → sum_at minute past q ≡ 0
 later_at minute past q before none = let idle = none_risen minute past q (is_shared_at minute past)
     (before_not_place (place_at past) q before) in omega (arith, none, idle)
 
-pub later_of : (past : List Timed) (q : Place) → IsBefore (place_at past) q → sum_of past q ≡ 0
+pub later_of : (past : List Timed) (q : EpochScale) → IsBefore (place_at past) q → sum_of past q ≡ 0
 later_of [] q h = refl
 later_of (t ∷ past) q h =
     let here : IsBefore (place_of (words_of (after_event (state_of past) t.event))) q =
@@ -203,7 +203,7 @@ module _ (most : ℕ) (served : most ≤ 10 ^ (9 * RISES_MOST)) (account : ℕ) 
       let before = lawful_first most opening (events_of past) (t.event ∷ []) lawful in
       ap (λ (w : Watch). w.place) (watched-more account t past) ∙ by t.event (watched account (events_of past))
       (place_is past before) (ap place_of ((whole past before).now account)) where
-        either : (b : Bool) (w : Watch) (left : ℕ) (here then : Place) → place_of w.now ≡ here
+        either : (b : Bool) (w : Watch) (left : ℕ) (here then : EpochScale) → place_of w.now ≡ here
             → w.place ≡ then → (cond b (record w { amount = left; place = place_of w.now; own_events = w.own_events + 1 })
             w).place ≡ cond b here then
         either true w left here then k h = k
@@ -262,7 +262,7 @@ module _ (most : ℕ) (served : most ≤ 10 ^ (9 * RISES_MOST)) (account : ℕ) 
         let cost_is : cost_of w.amount w.place (place_at past) ≡ cost_of (recorded account past)
         (own_place account past) (place_at past) =
         ap (λ a. cost_of a w.place (place_at past)) (amount_is past)
-        ∙ ap (λ (q : Place). cost_of (recorded account past) q (place_at past)) (place_is past lawful) in
+        ∙ ap (λ (q : EpochScale). cost_of (recorded account past) q (place_at past)) (place_is past lawful) in
         let least = enough minute past e in
         earns_alike s (own_events_of account (events_of past)) (with_units (due_at minute past) (total_of past)
         (share_of account past)) (earned_of account past)
@@ -459,7 +459,7 @@ module _ (most : ℕ) (served : most ≤ 10 ^ (9 * RISES_MOST)) (account : ℕ) 
               amount = sym (amount_is past) ∙ m.amount_is;
               some = m.some;
               least = m.least_p;
-              epoch = sym (ap (λ (q : Place). q.0) place) ∙ m.epoch_is;
-              scale = sym (ap (λ (q : Place). q.1) place) ∙ m.scale_is;
+              epoch = sym (ap (λ (q : EpochScale). q.0) place) ∙ m.epoch_is;
+              scale = sym (ap (λ (q : EpochScale). q.1) place) ∙ m.scale_is;
               within = earns.1.within;
             }

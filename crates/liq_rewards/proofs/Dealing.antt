@@ -8,7 +8,7 @@ use Rattle.liq_types.specs.Allowance.{weight_of, balance_allowance, cost_of}
 use Rattle.liq_types.specs.PlainLedger.{own_events_of}
 use Rattle.liq_types.specs.Product.{is_place}
 use Rattle.liq_types.specs.State.{PoolMark, DepositEntry, opening}
-use Rattle.liq_types.specs.Tables.{Place, at}
+use Rattle.liq_types.specs.Tables.{EpochScale, at}
 use Rattle.liq_stability.specs.Lawful.{IsLawful}
 use Rattle.liq_stability.specs.Position.{mark_of, gain_by, growth}
 use Rattle.liq_rewards.specs.declared.earner.Earner.{Earner}
@@ -43,14 +43,16 @@ four : {a b c d p q r s : ℕ} → a ≡ p → b ≡ q → c ≡ r → d ≡ s �
 } in let other : Sums = record { first = p; second = q; third = r; fourth = s } in one ≡ other
 four e f g h = rw (e, f, g, h) refl
 
-sums_alike : (t u : Place → ℕ) (account : ℕ) (past : List Timed) (d : DepositEntry) → ((q : Place) → t q ≡ u q)
+sums_alike : (t u : EpochScale → ℕ) (account : ℕ) (past : List Timed) (d : DepositEntry) → ((q : EpochScale) → t q
+    ≡ u q)
     → sums_since t account past d ≡ sums_since u account past d
 sums_alike t u account past d same =
     let m = reward_mark account past d in
     four (ap (λ n. n - m.sum) (same (m.epoch, m.scale + 0))) (same (m.epoch, m.scale + 1)) (same (m.epoch, m.scale + 2))
     (same (m.epoch, m.scale + 3))
 
-deposit_alike : (t u : Place → ℕ) (e : Earner) (past : List Timed) (o : Option DepositEntry) → ((q : Place) → t q ≡ u q)
+deposit_alike : (t u : EpochScale → ℕ) (e : Earner) (past : List Timed) (o : Option DepositEntry) → ((q : EpochScale)
+    → t q ≡ u q)
     → IsDepositOf u e past o → IsDepositOf t e past o
 deposit_alike t u e past None same h = tt
 deposit_alike t u e past (Some d) same h = (h.0, h.1 ∙ sym (sums_alike t u e.account past d same))
@@ -60,7 +62,7 @@ deposit_alike t u e past (Some d) same h = (h.0, h.1 ∙ sym (sums_alike t u e.a
 first_risen : (sum old mark more : ℕ) → sum ≡ old - mark → mark ≤ old → sum + more ≡ old + more - mark
 first_risen sum old mark more e h = omega (arith, e, h)
 
-risen_is : (place : Place) (epoch scale own_epoch own_scale i rise : ℕ) → own_epoch ≡ epoch → own_scale ≡ scale
+risen_is : (place : EpochScale) (epoch scale own_epoch own_scale i rise : ℕ) → own_epoch ≡ epoch → own_scale ≡ scale
     → cond (is_place place (own_epoch, own_scale + i)) rise 0 ≡ cond (is_place place (epoch, scale + i)) rise 0
 risen_is place epoch scale own_epoch own_scale i rise e f = ap (λ n. cond (is_place place (n, own_scale + i)) rise 0) e
     ∙ ap (λ n. cond (is_place place (epoch, n + i)) rise 0) f
@@ -72,7 +74,7 @@ is_none : (amount : ℕ) → amount ≡ 0 → (amount == 0) ≡ true
 is_none amount none = grind (arith, nat_tests, none)
 
 module _ (past : List Timed) (lawful : IsLawful opening (events_of past)) (e : Earner) where
-  abbrev here : Place
+  abbrev here : EpochScale
   here = place_at past
 
   sums_shared : (rise : ℕ) (o : Option DepositEntry) → e.amount ≡ recorded e.account past
@@ -85,8 +87,8 @@ module _ (past : List Timed) (lawful : IsLawful opening (events_of past)) (e : E
   sums_shared rise None amount place dep h = tt
   sums_shared rise (Some d) amount place dep h =
       let m = mark_of (state_of past) d.mark in
-      let epoch : e.epoch ≡ m.epoch = ap (λ (q : Place). q.0) place ∙ dep.epoch in
-      let scale : e.scale ≡ m.scale = ap (λ (q : Place). q.1) place ∙ dep.scale in
+      let epoch : e.epoch ≡ m.epoch = ap (λ (q : EpochScale). q.0) place ∙ dep.epoch in
+      let scale : e.scale ≡ m.scale = ap (λ (q : EpochScale). q.1) place ∙ dep.scale in
       let some : 1 ≤ e.amount = omega (arith, amount, dep.amount, dep.some) in (
         h.0,
         ap (λ b. cond b e.sums (sums_risen e (words_kept past) rise)) (not_none e.amount some)
@@ -145,7 +147,8 @@ module _ (past : List Timed) (lawful : IsLawful opening (events_of past)) (e : E
         (ceiling_of (weight_of e.account (events_of past)) 1 (10 ^ 9) + n) (total_of past)) h.own_events,
     ap (λ n. n + cost_of e.amount (e.epoch, e.scale) (place_at past)) h.costs
         ∙ ap (λ n. costs_of e.account past + cost_of n (e.epoch, e.scale) (place_at past)) h.amount
-        ∙ ap (λ (q : Place). costs_of e.account past + cost_of (recorded e.account past) q (place_at past)) h.place,
+        ∙ ap (λ (q : EpochScale). costs_of e.account past + cost_of (recorded e.account past) q
+        (place_at past)) h.place,
     sums_shared (rise_by minute past) (at (state_of past).deposits e.account) h.amount h.place
         (deposited LIM served e.account past lawful) h.deposit,
   )
@@ -212,7 +215,8 @@ allows e minute past h =
 
 -- ---- that it is small
 
-small_sums : (e : Earner) (t : Place → ℕ) (past : List Timed) (o : Option DepositEntry) → ((q : Place) → t q ≤ SUM_MOST)
+small_sums : (e : Earner) (t : EpochScale → ℕ) (past : List Timed) (o : Option DepositEntry) → ((q : EpochScale)
+    → t q ≤ SUM_MOST)
     → e.amount ≡ recorded e.account past → IsDeposited e.account past o → IsDepositOf t e past o → 1 ≤ e.amount
     → HasSmallSums e
 small_sums e t past None low amount dep h some = absurd (omega (arith, amount, dep, some))
@@ -232,7 +236,7 @@ small_sums e t past (Some d) low amount dep h some =
 
 module _ (e : Earner) (minute : ℕ) (past : List Timed) (lawful : IsLawful opening (events_of past))
     (order : AreInOrder minute past) (few : length past ≤ EVENTS_MOST) where
-  small_by : (t : Place → ℕ) → ((q : Place) → t q ≤ SUM_MOST) → e.amount ≡ recorded e.account past
+  small_by : (t : EpochScale → ℕ) → ((q : EpochScale) → t q ≤ SUM_MOST) → e.amount ≡ recorded e.account past
       → (e.epoch, e.scale) ≡ own_place e.account past → e.own_events ≡ own_events_of e.account (events_of past)
       → e.weight ≡ weight_of e.account (events_of past)
       → e.withheld ≤ withheld_at e.account minute past → e.costs ≤ costs_at e.account minute past
@@ -240,7 +244,7 @@ module _ (e : Earner) (minute : ℕ) (past : List Timed) (lawful : IsLawful open
   small_by t low amount place own weight withheld costs deposit =
       let recorded = recorded_most e.account past lawful in
       let place_low = own_few e.account past lawful in
-      let scale = ap (λ (q : Place). q.1) place in
+      let scale = ap (λ (q : EpochScale). q.1) place in
       let owns = owns_most e.account past in
       let weighs = weight_most e.account past lawful in
       let held = withheld_most e.account minute past lawful few in
@@ -263,7 +267,7 @@ module _ (e : Earner) (minute : ℕ) (past : List Timed) (lawful : IsLawful open
   pub small_kept : IsEarnerOf e past → IsSmall e
   small_kept h = small_by (sum_of past) (λ q. low q) h.amount h.place h.own_events h.weight (omega (arith, h.withheld))
       (omega (arith, h.costs)) h.deposit where
-        low : (q : Place) → sum_of past q ≤ SUM_MOST
+        low : (q : EpochScale) → sum_of past q ≤ SUM_MOST
         low q = let most = sum_most minute past lawful order q in omega (arith, most)
 
   pub small_reward : IsDealtOf e minute past → reward_by e ≤ UNITS_MOST

@@ -11,7 +11,7 @@ use Rattle.liq_types.specs.Allowance.{cost_of}
 use Rattle.liq_types.specs.PlainLedger.{Share}
 use Rattle.liq_types.specs.Product.{place_of, is_place, mark_after}
 use Rattle.liq_types.specs.State.{State, PoolMark, PoolOffset, After, DepositEntry}
-use Rattle.liq_types.specs.Tables.{Place, Table, at, put, without}
+use Rattle.liq_types.specs.Tables.{EpochScale, Table, at, put, without}
 use Rattle.liq_types.specs.WellFormed.{IsBefore, Ascends}
 use Rattle.liq_types.proofs.Lookups.{at-put_same, at-without_same}
 use Rattle.liq_types.proofs.Rounding.{weight_covers}
@@ -31,25 +31,25 @@ use Rattle.liq_rewards.proofs.Steps.{EarnsNothing, EarnsSome, none_shares, past_
 abbrev pub marked : PoolMark → ℕ → PoolMark
 marked m sum = record m { sum = sum }
 
-abbrev pub from : (Place → ℕ) → PoolMark → ℕ → ℕ
+abbrev pub from : (EpochScale → ℕ) → PoolMark → ℕ → ℕ
 from sums m i = sums (m.epoch, m.scale + i)
 
 -- with this deposit
-pub record EarnsWith (s : State) (events : ℕ) (x : RewardShare) (earned held cost sum : ℕ) (sums : Place
+pub record EarnsWith (s : State) (events : ℕ) (x : RewardShare) (earned held cost sum : ℕ) (sums : EpochScale
     → ℕ) (d : DepositEntry) (lost : ℕ) : Type 0 where
   pub events_are : events ≡ lost + 1
   pub within : sum ≤ from sums (mark_of s d.mark) 0
   pub earns : EarnsSome x.share.den x.rew earned held cost d.amount lost (base_of (mark_of s d.mark))
       (grown (marked (mark_of s d.mark) sum) (from sums (mark_of s d.mark)))
 
-abbrev pub EarnsBy : State → ℕ → RewardShare → ℕ → ℕ → ℕ → ℕ → (Place → ℕ) → Option DepositEntry → Type 0
+abbrev pub EarnsBy : State → ℕ → RewardShare → ℕ → ℕ → ℕ → ℕ → (EpochScale → ℕ) → Option DepositEntry → Type 0
 EarnsBy s events x earned held cost sum sums None = EarnsNothing x.share.den x.rew earned held cost events
 EarnsBy s events x earned held cost sum sums (Some d) = (lost : ℕ)
     × EarnsWith s events x earned held cost sum sums d lost
 
 -- the same of numbers that are the same
-pub earns_alike : (s : State) (events : ℕ) (x : RewardShare) (earned held held1 cost cost1 sum : ℕ) (t u : Place
-    → ℕ) (o : Option DepositEntry) → held ≡ held1 → cost ≡ cost1 → ((q : Place) → t q ≡ u q)
+pub earns_alike : (s : State) (events : ℕ) (x : RewardShare) (earned held held1 cost cost1 sum : ℕ) (t u : EpochScale
+    → ℕ) (o : Option DepositEntry) → held ≡ held1 → cost ≡ cost1 → ((q : EpochScale) → t q ≡ u q)
     → EarnsBy s events x earned held cost sum u o → EarnsBy s events x earned held1 cost1 sum t o
 earns_alike s events x earned held held1 cost cost1 sum t u None a b same h =
     subst (λ n. EarnsNothing x.share.den x.rew earned n cost1 events) a
@@ -109,8 +109,9 @@ scaled_worth bal den plain_bal plain_den times a q d e h =
     omega (arith, first, second, third)
 
 module _ (s : State) (plain : Share) (w : Watch) (got events : ℕ) (x : RewardShare) (times : ℕ)
-    (is : IsScaled x plain times) (earned held cost sum units total more : ℕ) (pos : 0 < total) (t u : Place → ℕ)
-    (grows : (q : Place) → t q ≡ u q + cond (is_place (place_of (words_of s)) q) (floor_of units (words_of s).p total)
+    (is : IsScaled x plain times) (earned held cost sum units total more : ℕ) (pos : 0 < total) (t u : EpochScale → ℕ)
+    (grows : (q : EpochScale) → t q ≡ u q + cond (is_place (place_of (words_of s)) q) (floor_of units
+    (words_of s).p total)
     0) where
   abbrev withheld : ℕ
   withheld = ceiling_of units more total
@@ -208,7 +209,7 @@ module _ (s : State) (plain : Share) (w : Watch) (got events : ℕ) (x : RewardS
 -- ---- an offset
 
 pub offset_earns : (s : State) (account debt coll total rise events : ℕ) (x : RewardShare) (earned held cost sum : ℕ)
-    (sums : Place → ℕ) (plain : Share) (w : Watch) (got : ℕ) (o : Option DepositEntry) → StandsBy s plain w got o
+    (sums : EpochScale → ℕ) (plain : Share) (w : Watch) (got : ℕ) (o : Option DepositEntry) → StandsBy s plain w got o
     → EarnsBy s events x earned held cost sum sums o
     → EarnsBy (offset s debt coll) events (with_event account (Offset debt coll total rise) x) earned held cost
     sum sums o
@@ -239,11 +240,11 @@ deposit_left table account d h = by (d.amount == 0) where
   by false = inr (at-put_same table account d)
 
 -- what is read of a deposit, or of none
-abbrev pub read_of : State → ℕ → (Place → ℕ) → Option DepositEntry → ℕ
+abbrev pub read_of : State → ℕ → (EpochScale → ℕ) → Option DepositEntry → ℕ
 read_of s sum sums None = 0
 read_of s sum sums (Some d) = gain_by d.amount (marked (mark_of s d.mark) sum) (from sums (mark_of s d.mark))
 
-pub reads_earned : (s : State) (events : ℕ) (x : RewardShare) (earned held cost sum : ℕ) (sums : Place
+pub reads_earned : (s : State) (events : ℕ) (x : RewardShare) (earned held cost sum : ℕ) (sums : EpochScale
     → ℕ) (plain : Share) (w : Watch) (got : ℕ) (o : Option DepositEntry) → StandsBy s plain w got o
     → EarnsBy s events x earned held cost sum sums o
     → EarnsNothing x.share.den x.rew (earned + read_of s sum sums o) held cost events
@@ -270,7 +271,7 @@ moved put_in out x = record x {
 }
 
 module _ (s : State) (ascends : Ascends s.deposits) (account put_in out events : ℕ) (x : RewardShare)
-    (earned held cost : ℕ) (sums : Place → ℕ) (later : (q : Place) → IsBefore (place_of (words_of s)) q
+    (earned held cost : ℕ) (sums : EpochScale → ℕ) (later : (q : EpochScale) → IsBefore (place_of (words_of s)) q
     → sums q ≡ 0) where
   abbrev left : DepositEntry
   left = record { amount = amount_after s account put_in out; mark = After (length s.offsets) }
@@ -313,8 +314,8 @@ module _ (s : State) (ascends : Ascends s.deposits) (account put_in out events :
   ]
 
 -- an own operation of another account
-pub other_earns : (s : State) (owner put_in out events : ℕ) (x : RewardShare) (earned held cost sum : ℕ) (sums : Place
-    → ℕ) (o : Option DepositEntry)
+pub other_earns : (s : State) (owner put_in out events : ℕ) (x : RewardShare) (earned held cost sum : ℕ)
+    (sums : EpochScale → ℕ) (o : Option DepositEntry)
     → EarnsBy s events x earned held cost sum sums o
     → EarnsBy (owned s owner put_in out) events x earned held cost sum sums o
 other_earns s owner put_in out events x earned held cost sum sums None h = h

@@ -13,7 +13,7 @@ use Rattle.liq_types.specs.Allowance.{weight_of, cost_of}
 use Rattle.liq_types.specs.PlainLedger.{Share, exact_share, gains_paid_to}
 use Rattle.liq_types.specs.Product.{ScaledProduct, after_offset, place_of, mark_after}
 use Rattle.liq_types.specs.State.{State, PoolMark, DepositEntry, After, opening}
-use Rattle.liq_types.specs.Tables.{Place, at}
+use Rattle.liq_types.specs.Tables.{EpochScale, at}
 use Rattle.liq_types.specs.Totals.{pool_total}
 use Rattle.liq_types.specs.WellFormed.{IsBefore}
 use Rattle.liq_types.proofs.Watching.{Watch, watched, watch_after, weight_is}
@@ -69,35 +69,36 @@ weight-more account t past lawful =
           let cost : cost_of w.amount w.place (place_of w.now) ≡ cost_of (recorded account past)
           (own_place account past) (place_at past) =
           ap (λ x. cost_of x w.place (place_of w.now)) a
-          ∙ ap (λ (q : Place). cost_of (recorded account past) q (place_of w.now)) p
-          ∙ ap (λ (q : Place). cost_of (recorded account past) (own_place account past) q) n in
+          ∙ ap (λ (q : EpochScale). cost_of (recorded account past) q (place_of w.now)) p
+          ∙ ap (λ (q : EpochScale). cost_of (recorded account past) (own_place account past) q) n in
           omega (arith, h, cost)
 
 -- ---- the deposit, by a state
 
-abbrev grown_by : PoolMark → (Place → ℕ) → Sums
+abbrev grown_by : PoolMark → (EpochScale → ℕ) → Sums
 grown_by mark sums =
     let grown = growth mark (λ i. sums (mark.epoch, mark.scale + i)) in
     record { first = grown 0; second = grown 1; third = grown 2; fourth = grown 3 }
 
-abbrev sums_in : State → ℕ → (Place → ℕ) → DepositEntry → Sums
+abbrev sums_in : State → ℕ → (EpochScale → ℕ) → DepositEntry → Sums
 sums_in s sum sums d = grown_by (record (mark_of s d.mark) { sum = sum }) sums
 
-abbrev IsDepositIn : State → ℕ → (Place → ℕ) → Earner → Option DepositEntry → Type 0
+abbrev IsDepositIn : State → ℕ → (EpochScale → ℕ) → Earner → Option DepositEntry → Type 0
 IsDepositIn s sum sums e None = Unit {0}
 IsDepositIn s sum sums e (Some d) = (e.p ≡ (mark_of s d.mark).p) × (e.sums ≡ sums_in s sum sums d)
 
-told_in : (sums : Place → ℕ) (e : Earner) (past : List Timed) (o : Option DepositEntry) → IsDepositOf sums e past o
+told_in : (sums : EpochScale → ℕ) (e : Earner) (past : List Timed) (o : Option DepositEntry) → IsDepositOf sums e past o
     → IsDepositIn (state_of past) (mark_sum e.account past) sums e o
 told_in sums e past None h = tt
 told_in sums e past (Some d) h = h
 
-told_of : (sums : Place → ℕ) (e : Earner) (past : List Timed) (o : Option DepositEntry)
+told_of : (sums : EpochScale → ℕ) (e : Earner) (past : List Timed) (o : Option DepositEntry)
     → IsDepositIn (state_of past) (mark_sum e.account past) sums e o → IsDepositOf sums e past o
 told_of sums e past None h = tt
 told_of sums e past (Some d) h = h
 
-deposit_grown : (s : State) (debt coll sum : ℕ) (sums : Place → ℕ) (e : Earner) (plain : Share) (w : Watch) (got : ℕ)
+deposit_grown : (s : State) (debt coll sum : ℕ) (sums : EpochScale → ℕ) (e : Earner) (plain : Share) (w : Watch)
+    (got : ℕ)
     (o : Option DepositEntry) → StandsBy s plain w got o → IsDepositIn s sum sums e o
     → IsDepositIn (offset s debt coll) sum sums e o
 deposit_grown s debt coll sum sums e plain w got None stands h = tt
@@ -106,14 +107,14 @@ deposit_grown s debt coll sum sums e plain w got (Some d) stands h =
     (sym (mark-grown s debt coll d.mark stands.0)) h
 
 -- an own operation of another account
-deposit_stays : (s : State) (owner put out sum : ℕ) (sums : Place → ℕ) (e : Earner) (o : Option DepositEntry)
+deposit_stays : (s : State) (owner put out sum : ℕ) (sums : EpochScale → ℕ) (e : Earner) (o : Option DepositEntry)
     → IsDepositIn s sum sums e o → IsDepositIn (owned s owner put out) sum sums e o
 deposit_stays s owner put out sum sums e None h = tt
 deposit_stays s owner put out sum sums e (Some d) h = h
 
 -- one that begins now
-deposit_begun : (s : State) (account put out : ℕ) (sums : Place → ℕ) (e : Earner) → e.p ≡ (words_of s).p
-    → e.sums ≡ no_sums → ((q : Place) → IsBefore (place_of (words_of s)) q → sums q ≡ 0)
+deposit_begun : (s : State) (account put out : ℕ) (sums : EpochScale → ℕ) (e : Earner) → e.p ≡ (words_of s).p
+    → e.sums ≡ no_sums → ((q : EpochScale) → IsBefore (place_of (words_of s)) q → sums q ≡ 0)
     → IsDepositIn (owned s account put out) (sums (place_of (words_of s))) sums e
     (Some (record { amount = amount_after s account put out; mark = After (length s.offsets) }))
 deposit_begun s account put out sums e p none later =
@@ -174,7 +175,7 @@ module _ (minute : ℕ) (past : List Timed) (lawful : IsLawful opening (events_o
       let cost : cost_of e.amount (e.epoch, e.scale) (place_at past) ≡ cost_of (recorded e.account past)
       (own_place e.account past) (place_at past) =
       ap (λ n. cost_of n (e.epoch, e.scale) (place_at past)) h.amount
-      ∙ ap (λ (q : Place). cost_of (recorded e.account past) q (place_at past)) h.place in
+      ∙ ap (λ (q : EpochScale). cost_of (recorded e.account past) q (place_at past)) h.place in
       record {
         amount = h.amount;
         place = h.place;

@@ -12,7 +12,7 @@ use Rattle.liq_types.specs.Allowance.{weight_of, balance_allowance, cost_of}
 use Rattle.liq_types.specs.PlainLedger.{is_own_of, own_events_of}
 use Rattle.liq_types.specs.Product.{ScaledProduct, TakesPartUpTo, after_offset, is_place, place_of}
 use Rattle.liq_types.specs.State.{State, opening}
-use Rattle.liq_types.specs.Tables.{Place, at}
+use Rattle.liq_types.specs.Tables.{EpochScale, at}
 use Rattle.liq_types.specs.Totals.{pool_total}
 use Rattle.liq_types.proofs.Accounts.{over-term, above_with, owned_with, under_with}
 use Rattle.liq_types.proofs.Ranges.{rise_few}
@@ -79,7 +79,7 @@ rise_most units p total product least =
     let high : p * units ≤ P_OPENING * units = mul-le-mul_right units product in
     le_of_mul-le-mul_right {m = r} {n = units * 10 ^ 9} {k = 10 ^ 9} (omega (arith, low, more, high)) (omega arith)
 
-due_sum : (minute : ℕ) (past : List Timed) → IsLawful opening (events_of past) → (q : Place)
+due_sum : (minute : ℕ) (past : List Timed) → IsLawful opening (events_of past) → (q : EpochScale)
     → sum_of past q ≤ shared_of past * 10 ^ 9 → sum_at minute past q ≤ shared_at minute past * 10 ^ 9
 due_sum minute past lawful q h = by (is_shared_at minute past) (is_place (place_at past) q) refl where
   by : (b c : Bool) → is_shared_at minute past ≡ b → sum_of past q + cond b (cond c (rise_by minute past) 0) 0
@@ -91,14 +91,14 @@ due_sum minute past lawful q h = by (is_shared_at minute past) (is_place (place_
       (enough minute past e) in
       omega (arith, h, most)
 
-sum_within : (past : List Timed) → IsLawful opening (events_of past) → (q : Place)
+sum_within : (past : List Timed) → IsLawful opening (events_of past) → (q : EpochScale)
     → sum_of past q ≤ shared_of past * 10 ^ 9
 sum_within [] lawful q = omega arith
 sum_within (t ∷ past) lawful q = due_sum t.minute past (earlier t past lawful) q
     (sum_within past (earlier t past lawful) q)
 
 pub sum_most : (minute : ℕ) (past : List Timed) → IsLawful opening (events_of past) → AreInOrder minute past
-    → (q : Place) → sum_at minute past q ≤ UNITS_MOST * 10 ^ 9
+    → (q : EpochScale) → sum_at minute past q ≤ UNITS_MOST * 10 ^ 9
 sum_most minute past lawful order q =
     let within = due_sum minute past lawful q (sum_within past lawful q) in
     let most = units_most minute past order in
@@ -140,7 +140,7 @@ ceiling_most a c some =
           let one : 1 * r ≤ c * r = mul-le-mul_right r some in
           omega (arith, h, one)
 
-cost_most : (amount : ℕ) (then now : Place) → cost_of amount then now ≤ amount
+cost_most : (amount : ℕ) (then now : EpochScale) → cost_of amount then now ≤ amount
 cost_most amount then now = either_most (not (amount == 0) && now.0
     == then.0) (ceiling_of amount 1 (10 ^ (9 * (now.1 - then.1)))) 0 amount (ceiling_most amount
     (10 ^ (9 * (now.1 - then.1))) (some_power (9 * (now.1 - then.1)))) (omega arith)
@@ -255,7 +255,7 @@ withheld_most account minute past lawful few =
 
 -- ---- places
 
-pub record IsFew (place : Place) (n : ℕ) : Type 0 where
+pub record IsFew (place : EpochScale) (n : ℕ) : Type 0 where
   pub epoch : place.0 ≤ n
   pub scale : place.1 ≤ 3 * n
 

@@ -6,7 +6,7 @@ use Rattle.liq_num.specs.Quotient.{floor_of}
 use Rattle.liq_types.specs.PlainLedger.{is_own_of}
 use Rattle.liq_types.specs.Product.{is_place}
 use Rattle.liq_types.specs.State.{PoolMark, DepositEntry}
-use Rattle.liq_types.specs.Tables.{Place, at}
+use Rattle.liq_types.specs.Tables.{EpochScale, at}
 use Rattle.liq_stability.specs.Position.{gain_by, mark_of}
 use Rattle.liq_rewards.specs.Timed.{Timed, state_of, total_of, words_at, place_at, due_at, is_shared_at}
 
@@ -14,18 +14,18 @@ use Rattle.liq_rewards.specs.Timed.{Timed, state_of, total_of, words_at, place_a
 abbrev pub rise_by : ℕ → List Timed → ℕ
 rise_by minute past = floor_of (due_at minute past) (words_at past).p (total_of past)
 
-abbrev pub rise_at : ℕ → List Timed → Place → ℕ
+abbrev pub rise_at : ℕ → List Timed → EpochScale → ℕ
 rise_at minute past place =
     if is_shared_at minute past then (if is_place (place_at past) place then rise_by minute past
     else 0) else 0
 
 -- the sum of a place, after what was shared before each of the events
-abbrev pub sum_of : List Timed → Place → ℕ
+abbrev pub sum_of : List Timed → EpochScale → ℕ
 sum_of [] place = 0
 sum_of (t ∷ past) place = sum_of past place + rise_at t.minute past place
 
 -- the sum of a place as of a minute, with what is due by then
-abbrev pub sum_at : ℕ → List Timed → Place → ℕ
+abbrev pub sum_at : ℕ → List Timed → EpochScale → ℕ
 sum_at minute past place = sum_of past place + rise_at minute past place
 
 -- the sum of the place of then at the account's last own operation

@@ -6,7 +6,7 @@ use Rattle.liq_types.specs.declared.events.PoolEvent.{PoolEvent}
 use Rattle.liq_types.specs.declared.events.PoolEvent.TheVariants.{Own, Offset}
 use Rattle.liq_types.specs.Allowance.{balance_allowance, cost_of}
 use Rattle.liq_types.specs.PlainLedger.{Share, no_share, share_after, is_own_of, own_events_of}
-use Rattle.liq_types.specs.Tables.{Place}
+use Rattle.liq_types.specs.Tables.{EpochScale}
 use Rattle.liq_rewards.specs.Timed.{Timed, events_of, total_of, place_at, due_at, is_shared_at}
 
 -- an account's share by the plain ledger, and over its denominator the units that it has earned
@@ -80,7 +80,7 @@ recorded account [] = 0
 recorded account (t ∷ past) = if is_own_of account t.event then amount_left t.event
     else recorded account past
 
-abbrev pub own_place : ℕ → List Timed → Place
+abbrev pub own_place : ℕ → List Timed → EpochScale
 own_place account [] = (0, 0)
 own_place account (t ∷ past) = if is_own_of account t.event then place_at past
     else own_place account past

@@ -7,7 +7,7 @@ use Rattle.liq_types.specs.declared.events.PoolEvent.TheVariants.{Own, Offset}
 use Rattle.liq_types.specs.Allowance.{weight_of}
 use Rattle.liq_types.specs.PlainLedger.{own_events_of}
 use Rattle.liq_types.specs.State.{DepositEntry, opening}
-use Rattle.liq_types.specs.Tables.{Place, at}
+use Rattle.liq_types.specs.Tables.{EpochScale, at}
 use Rattle.liq_types.specs.Product.{after_offset}
 use Rattle.liq_types.specs.declared.amounts.TheConstants.{LIM, P_LEAST, P_OPENING}
 use Rattle.liq_stability.specs.Lawful.{IsLawful}
@@ -51,14 +51,14 @@ HasRoomFor earners (Offset debt coll total rise) = Unit {0}
 -- ---- that a row is an account's
 
 -- how the sums of a deposit's epoch grew since its mark
-abbrev pub sums_since : (Place → ℕ) → ℕ → List Timed → DepositEntry → Sums
+abbrev pub sums_since : (EpochScale → ℕ) → ℕ → List Timed → DepositEntry → Sums
 sums_since sums account past d =
     let mark = reward_mark account past d in
     let grown = growth mark (λ i. sums (mark.epoch, mark.scale + i)) in
     record { first = grown 0; second = grown 1; third = grown 2; fourth = grown 3 }
 
 -- product and sums are those of the account's deposit, if it has one
-abbrev pub IsDepositOf : (Place → ℕ) → Earner → List Timed → Option DepositEntry → Type 0
+abbrev pub IsDepositOf : (EpochScale → ℕ) → Earner → List Timed → Option DepositEntry → Type 0
 IsDepositOf sums e past None = Unit {0}
 IsDepositOf sums e past (Some d) =
     (e.p ≡ (mark_of (state_of past) d.mark).p) × (e.sums ≡ sums_since sums e.account past d)

@@ -4,7 +4,7 @@ use Rattle.std.specs.Prelude.{ℕ, ◌+◌, ◌-◌, ◌≤◌, ◌==◌, ◌&&�
 use Rattle.liq_types.specs.declared.events.PoolEvent.{PoolEvent}
 use Rattle.liq_types.specs.Product.{ScaledProduct, place_of}
 use Rattle.liq_types.specs.State.{State}
-use Rattle.liq_types.specs.Tables.{Place}
+use Rattle.liq_types.specs.Tables.{EpochScale}
 use Rattle.liq_types.specs.Totals.{pool_total}
 use Rattle.liq_stability.specs.Own.{after_events}
 use Rattle.liq_stability.specs.Words.{words_of}
@@ -34,7 +34,7 @@ total_of past = pool_total (state_of past)
 abbrev pub words_at : List Timed → ScaledProduct
 words_at past = words_of (state_of past)
 
-abbrev pub place_at : List Timed → Place
+abbrev pub place_at : List Timed → EpochScale
 place_at past = place_of (words_at past)
 
 -- the minute of the last event

@@ -19,7 +19,7 @@ use Rattle.liq_types.specs.Product.{is_place, place_of, sumat, IsWithinRange, Ta
 use Rattle.liq_types.specs.Rules.{first_refusal}
 use Rattle.liq_types.specs.Image.{IsLimit}
 use Rattle.liq_types.specs.State.{State, Mark, AtStart, After, StakeSums, TroveEntry, DepositEntry, Redistribution, opening_with, wallet_of, surplus_of, no_wallet}
-use Rattle.liq_types.specs.Tables.{Place, Table, at, map_rows}
+use Rattle.liq_types.specs.Tables.{EpochScale, Table, at, map_rows}
 use Rattle.liq_types.specs.Totals.{pool_total}
 use Rattle.liq_types.specs.WellFormed.{IsWellFormed}
 use Rattle.liq_types.proofs.Lookups.{all-at, length-without}
@@ -57,9 +57,10 @@ rows_within f most (x ∷ xs) h =
     let law = sum_by-cons f x xs in
     (omega (arith, law, h), rows_within f most xs (omega (arith, law, h)))
 
-deposits_within : (s : State) (table : Table DepositEntry) (most : ℕ) (now : Place) (sum : ℕ) (finished : List (Place
-    × ℕ)) → AllByRecursion (λ (row : ℕ × Deposit). DepositStands most now sum finished row.1)
-    (map_rows (deposit_row s) table) → AllByRecursion (λ (d : DepositEntry). d.amount ≤ most) (values_of table)
+deposits_within : (s : State) (table : Table DepositEntry) (most : ℕ) (now : EpochScale) (sum : ℕ)
+    (finished : List (EpochScale × ℕ))
+    → AllByRecursion (λ (row : ℕ × Deposit). DepositStands most now sum finished row.1) (map_rows (deposit_row s) table)
+    → AllByRecursion (λ (d : DepositEntry). d.amount ≤ most) (values_of table)
 deposits_within s [] most now sum finished h = tt
 deposits_within s (e ∷ es) most now sum finished h = (h.0.amount, deposits_within s es most now sum finished h.1)
 
@@ -120,7 +121,8 @@ amounts_within s h =
 
 -- ---- the words of the pool
 
-finished_within : (now : Place) (table : List (Place × ℕ)) (q : Place) → AllByRecursion (FinishedStands now) table
+finished_within : (now : EpochScale) (table : List (EpochScale × ℕ)) (q : EpochScale) → AllByRecursion
+    (FinishedStands now) table
     → unwrap_or (lookup (is_place q) table) 0 ≤ OFFSET_MOST * P_OPENING
 finished_within now [] q h = omega arith
 finished_within now (e ∷ es) q h = by (is_place q e.0) (finished_within now es q h.1) where
@@ -145,7 +147,7 @@ words_within s h =
       sum_debt = t.sum_debt;
     }
   where
-    shown : (q : Place) (b : Bool) → cond b (sumat s.start s.offsets (place_of (words_of s)))
+    shown : (q : EpochScale) (b : Bool) → cond b (sumat s.start s.offsets (place_of (words_of s)))
         (unwrap_or (lookup (is_place q) (image s).finished) 0) ≤ OFFSET_MOST * P_OPENING
     shown q true = let p = (sound_facts s h).stands.pool in omega (arith, p.sum)
     shown q false = finished_within ((image s).epoch, (image s).scale) (image s).finished q
@@ -209,7 +211,7 @@ deposit_covered s h account d there =
     none_more : (n : ℕ) → n ≡ n + 0
     none_more n = omega arith
 
-    up_to : (a b : Place) → IsUpTo a b → (a.0 ≤ b.0) × (a.0 ≡ b.0 → a.1 ≤ b.1)
+    up_to : (a b : EpochScale) → IsUpTo a b → (a.0 ≤ b.0) × (a.0 ≡ b.0 → a.1 ≤ b.1)
     up_to a b (inl less) = (omega (arith, less), λ same. omega (arith, less, same))
     up_to a b (inr same) = (omega (arith, same.0), λ e. same.1)
 
@@ -337,7 +339,7 @@ due_fits s h account t there =
 
 -- so do the products of a deposit
 pub deposit_fits : (s : State) → IsSoundState s → (account : ℕ) (d : DepositEntry) → at s.deposits account ≡ Some d
-    → (d.amount * (words_of s).p ≤ P_OPENING * LIM) × ((place : Place) → d.amount * sumat s.start s.offsets place
+    → (d.amount * (words_of s).p ≤ P_OPENING * LIM) × ((place : EpochScale) → d.amount * sumat s.start s.offsets place
     ≤ OFFSET_MOST * P_OPENING * LIM)
 deposit_fits s h account d there =
     let f = sound_facts s h in

@@ -15,7 +15,7 @@ use Rattle.liq_types.specs.declared.image.Image.{Image}
 use Rattle.liq_types.specs.Image.{opening_image}
 use Rattle.liq_types.specs.Product.{ScaledProduct, IsWithinRange, TakesPartUpTo, after_offset, place_of, is_place, place_order, sum_growth, start_sum, start_words, sumat}
 use Rattle.liq_types.specs.State.{State, PoolOffset, PoolMark, After, DepositEntry}
-use Rattle.liq_types.specs.Tables.{Place, Table, put, without, map_rows}
+use Rattle.liq_types.specs.Tables.{EpochScale, Table, put, without, map_rows}
 use Rattle.liq_types.specs.Totals.{pool_total}
 use Rattle.liq_types.specs.WellFormed.{IsBefore, IsMoment, IsWellFormed, Ascends}
 use Rattle.liq_types.proofs.Ascending.{none-ascends}
@@ -36,7 +36,7 @@ pub record PoolPart : Type 0 where
   pub scale : ℕ
   pub epoch : ℕ
   pub sum : ℕ
-  pub finished : List (Place × ℕ)
+  pub finished : List (EpochScale × ℕ)
   pub deposits : Table Deposit
 
 abbrev pub part_of : Image → PoolPart
@@ -50,15 +50,16 @@ part_of i = record {
 }
 
 -- the sum of a place, by the place of now, its sum and the finished ones
-abbrev pub sum_in : Place → ℕ → List (Place × ℕ) → Place → ℕ
+abbrev pub sum_in : EpochScale → ℕ → List (EpochScale × ℕ) → EpochScale → ℕ
 sum_in now sum finished place = cond (is_place now place) sum (unwrap_or (lookup (is_place place) finished) 0)
 
-pub record FinishedStands (now : Place) (row : Place × ℕ) : Type 0 where
+pub record FinishedStands (now : EpochScale) (row : EpochScale × ℕ) : Type 0 where
   pub some : 1 ≤ row.1
   pub most : row.1 ≤ OFFSET_MOST * P_OPENING
   pub before : IsBefore row.0 now
 
-pub record DepositStands (most : ℕ) (now : Place) (sum : ℕ) (finished : List (Place × ℕ)) (d : Deposit) : Type 0 where
+pub record DepositStands (most : ℕ) (now : EpochScale) (sum : ℕ) (finished : List (EpochScale × ℕ))
+    (d : Deposit) : Type 0 where
   pub some : 1 ≤ d.amount
   pub amount : d.amount ≤ most
   pub least_p : P_LEAST ≤ d.p
@@ -173,13 +174,14 @@ owned_stands most s account put_in out fits h =
 
 -- ---- an offset
 
-after_place : (a b : Place) → IsBefore b a → place_order a b ≡ Greater
+after_place : (a b : EpochScale) → IsBefore b a → place_order a b ≡ Greater
 after_place a b (inl first) = ap (λ o. ordering_then o (nat_cmp a.1 b.1)) (sym (nat_cmp_is a.0 b.0 Greater first))
 after_place a b (inr same) =
     ap (λ o. ordering_then o (nat_cmp a.1 b.1)) (sym (nat_cmp_is a.0 b.0 Equal (sym same.0)))
     ∙ sym (nat_cmp_is a.1 b.1 Greater same.1)
 
-all_insert : (P : Place × ℕ → Type 0) (place : Place) (sum : ℕ) (table : List (Place × ℕ)) → P (place, sum)
+all_insert : (P : EpochScale × ℕ → Type 0) (place : EpochScale) (sum : ℕ) (table : List (EpochScale × ℕ)) → P
+    (place, sum)
     → AllByRecursion P table → AllByRecursion (FinishedStands place) table
     → AllByRecursion P (insert_entry place_order table place sum)
 all_insert P place sum [] p h before = (p, tt)
@@ -188,7 +190,7 @@ all_insert P place sum (e ∷ es) p h before =
     ∷ insert_entry place_order es place sum))) (sym (after_place place e.0 before.0.before))
     (h.0, all_insert P place sum es p h.1 before.1)
 
-later_rows : (now next : Place) → IsUpTo now next → (table : List (Place × ℕ))
+later_rows : (now next : EpochScale) → IsUpTo now next → (table : List (EpochScale × ℕ))
     → AllByRecursion (FinishedStands now) table → AllByRecursion (FinishedStands next) table
 later_rows now next up [] h = tt
 later_rows now next up (e ∷ es) h = (
@@ -260,14 +262,14 @@ module _ (most : ℕ) (served : most ≤ 10 ^ (9 * RISES_MOST)) (w : PoolPart) (
       (is_place-itself (w.epoch, w.scale))) in
       subst (λ n. IsStrictlySortedBy place_order (keys_of (finished_after w.finished (words_with w) o
       (n + sum_growth (words_with w) o)))) whole
-      (subst (λ (t : List (Place × ℕ)). IsStrictlySortedBy place_order (keys_of t)) (finished-snoc i [] o)
+      (subst (λ (t : List (EpochScale × ℕ)). IsStrictlySortedBy place_order (keys_of t)) (finished-snoc i [] o)
       (finished-ascend i (o ∷ []) h))
     where
       added : start_sum (image_with w) (w.epoch, w.scale) ≡ w.sum
           → start_sum (image_with w) (w.epoch, w.scale) + 0 ≡ w.sum
       added e = omega (arith, e)
 
-  offset_part_stands : ((q : Place) → sum_in (w.epoch, w.scale) w.sum w.finished q
+  offset_part_stands : ((q : EpochScale) → sum_in (w.epoch, w.scale) w.sum w.finished q
       ≤ sum_in (place_of next) (offset_part w o).sum (offset_part w o).finished q) → PoolStands most w
       → PoolStands most (offset_part w o)
   unfolding sum_after finished_after
@@ -309,10 +311,10 @@ part_offset s f debt coll =
       sum = sumat s.start (s.offsets ++ o ∷ []) (place_of v);
     }) (words-snoc s debt coll)
     ∙ ap (λ n. record target { sum = n; finished = made.finished }) (sum-snoc s.start s.offsets o f.0)
-    ∙ ap (λ (t : List (Place × ℕ)). record target { finished = t }) (finished-snoc s.start s.offsets o)
+    ∙ ap (λ (t : List (EpochScale × ℕ)). record target { finished = t }) (finished-snoc s.start s.offsets o)
 
 -- no place's sum falls
-sums_more : (s : State) → IsWellFormed s → (debt coll : ℕ) → (q : Place)
+sums_more : (s : State) → IsWellFormed s → (debt coll : ℕ) → (q : EpochScale)
     → start_sum (image s) q ≤ start_sum (image (offset s debt coll)) q
 sums_more s f debt coll q =
     let o = offset_now s debt coll in
@@ -323,7 +325,7 @@ sums_more s f debt coll q =
     omega (arith, before, after, snoc)
 
 -- how far the place moves
-pub record MovesFew (now next : Place) : Type 0 where
+pub record MovesFew (now next : EpochScale) : Type 0 where
   pub scale : next.1 ≤ now.1 + 3
   pub epoch : next.0 ≤ now.0 + 1
 

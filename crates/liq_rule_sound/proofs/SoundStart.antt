@@ -3,7 +3,7 @@ use Rattle.std.proofs.Common.{◌≡◌, ℕ, inl, inr, List, [], ◌∷◌, Non
 use Rattle.std.specs.List.{AllByRecursion}
 use Rattle.liq_types.specs.declared.image.Image.{Image}
 use Rattle.liq_types.specs.Image.{IsLimit, opening_image_with}
-use Rattle.liq_types.specs.Tables.{Place}
+use Rattle.liq_types.specs.Tables.{EpochScale}
 use Rattle.liq_types.specs.Soundness.{IsSoundImage, first_unsound}
 use Rattle.liq_types.specs.State.{opening_with, started}
 use Rattle.liq_types.specs.WellFormed.{AreFinished, IsBefore}
@@ -16,8 +16,8 @@ use Rattle.liq_rule_sound.proofs.SoundTests.{finished_rows, stakes_added}
 use Rattle.liq_rule_step.proofs.Started.{started_formed, started_image}
 use Rattle.liq_types.specs.State.{started_trove, started_deposit}
 
-before_rows : (now : Place) (table : List (Place × ℕ)) → AllByRecursion (FinishedStands now) table
-    → AllByRecursion (λ (row : Place × ℕ). IsBefore row.0 now) table
+before_rows : (now : EpochScale) (table : List (EpochScale × ℕ)) → AllByRecursion (FinishedStands now) table
+    → AllByRecursion (λ (row : EpochScale × ℕ). IsBefore row.0 now) table
 before_rows now [] h = tt
 before_rows now (e ∷ es) h = (h.0.before, before_rows now es h.1)
 

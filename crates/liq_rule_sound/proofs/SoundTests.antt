@@ -13,7 +13,7 @@ use Rattle.liq_types.specs.declared.image.Image.{Image}
 use Rattle.liq_types.specs.Image.{IsLimit}
 use Rattle.liq_types.specs.Soundness.{has_ranges, is_limit, has_keys_in_range, is_sound_trove, has_sound_words, is_sound_deposit, is_sound_client, is_before, places_most, HasTables, IsSoundImage, IsClientRow}
 use Rattle.liq_types.specs.State.{State, is_used_wallet}
-use Rattle.liq_types.specs.Tables.{Place, Table}
+use Rattle.liq_types.specs.Tables.{EpochScale, Table}
 use Rattle.liq_types.specs.WellFormed.{stakes_in}
 use Rattle.liq_types.proofs.MapRows.{map-length}
 use Rattle.std.proofs.lemmas.Map.Made.{keys_of-map_values}
@@ -127,7 +127,7 @@ true_trove coll debt t h =
     let e = le-leb t.mark_debt debt h.mark_debt in
     and_from _ _ (and_from _ _ (and_from _ _ (and_from _ _ a b) c) d) e
 
-deposit_true : (now : Place) (sum : ℕ) (finished : List (Place × ℕ)) (d : Deposit) → 1 ≤ d.amount
+deposit_true : (now : EpochScale) (sum : ℕ) (finished : List (EpochScale × ℕ)) (d : Deposit) → 1 ≤ d.amount
     → (nat_le d.amount LIM && is_sound_deposit now (sum_in now sum finished (d.epoch, d.scale)) d) ≡ true
     → DepositStands LIM now sum finished d
 deposit_true now sum finished d some h =
@@ -144,7 +144,7 @@ deposit_true now sum finished d some h =
       within = leb-true d.sum (sum_in now sum finished (d.epoch, d.scale)) within.1;
     }
 
-true_deposit : (now : Place) (sum : ℕ) (finished : List (Place × ℕ)) (d : Deposit)
+true_deposit : (now : EpochScale) (sum : ℕ) (finished : List (EpochScale × ℕ)) (d : Deposit)
     → DepositStands LIM now sum finished d
     → (nat_le d.amount LIM && is_sound_deposit now (sum_in now sum finished (d.epoch, d.scale)) d) ≡ true
 true_deposit now sum finished d h =
@@ -154,7 +154,7 @@ true_deposit now sum finished d h =
     (le-leb P_LEAST d.p h.least_p) (le-leb d.p P_OPENING h.most_p)) (up_to_tested now (d.epoch, d.scale) h.place))
     (le-leb d.sum (sum_in now sum finished (d.epoch, d.scale)) h.within))
 
-deposits_true : (now : Place) (sum : ℕ) (finished : List (Place × ℕ)) (table : Table Deposit)
+deposits_true : (now : EpochScale) (sum : ℕ) (finished : List (EpochScale × ℕ)) (table : Table Deposit)
     → AllByRecursion (λ (d : Deposit). 1 ≤ d.amount) (values_of table)
     → list_all (λ (d : Deposit). nat_le d.amount LIM && is_sound_deposit now (sum_in now sum finished (
       d.epoch,
@@ -169,8 +169,8 @@ deposits_true now sum finished (e ∷ es) some h =
     )) e.1) _ h in
     (deposit_true now sum finished e.1 some.0 parts.0, deposits_true now sum finished es some.1 parts.1)
 
-finished_true : (now : Place) (table : List (Place × ℕ)) → AllByRecursion (λ n. 1 ≤ n) (values_of table)
-    → list_all (λ (row : Place × ℕ). nat_le row.1 (OFFSET_MOST * P_OPENING) && is_before row.0 now) table ≡ true
+finished_true : (now : EpochScale) (table : List (EpochScale × ℕ)) → AllByRecursion (λ n. 1 ≤ n) (values_of table)
+    → list_all (λ (row : EpochScale × ℕ). nat_le row.1 (OFFSET_MOST * P_OPENING) && is_before row.0 now) table ≡ true
     → AllByRecursion (FinishedStands now) table
 finished_true now [] some h = tt
 finished_true now (e ∷ es) some h =
@@ -180,8 +180,8 @@ finished_true now (e ∷ es) some h =
       finished_true now es some.1 parts.1,
     )
 
-true_finished : (now : Place) (table : List (Place × ℕ)) → AllByRecursion (FinishedStands now) table
-    → list_all (λ (row : Place × ℕ). nat_le row.1 (OFFSET_MOST * P_OPENING) && is_before row.0 now) table ≡ true
+true_finished : (now : EpochScale) (table : List (EpochScale × ℕ)) → AllByRecursion (FinishedStands now) table
+    → list_all (λ (row : EpochScale × ℕ). nat_le row.1 (OFFSET_MOST * P_OPENING) && is_before row.0 now) table ≡ true
 true_finished now [] h = refl
 true_finished now (e ∷ es) h =
     and_from (nat_le e.1 (OFFSET_MOST * P_OPENING) && is_before e.0 now) _
@@ -189,7 +189,7 @@ true_finished now (e ∷ es) h =
     (before_tested e.0 now h.0.before))
     (true_finished now es h.1)
 
-finished_some : (now : Place) (table : List (Place × ℕ)) → AllByRecursion (FinishedStands now) table
+finished_some : (now : EpochScale) (table : List (EpochScale × ℕ)) → AllByRecursion (FinishedStands now) table
     → AllByRecursion (λ n. 1 ≤ n) (values_of table)
 finished_some now [] h = tt
 finished_some now (e ∷ es) h = (h.0.some, finished_some now es h.1)
@@ -255,7 +255,8 @@ module _ (s : State) (f : IsSoundState s) where
       × ((words_of s).epoch ≤ places_most s.generation s.records)
   words_parts h =
       let i = image s in
-      let rows = and_parts _ (list_all (λ (row : Place × ℕ). nat_le row.1 (OFFSET_MOST * P_OPENING) && is_before row.0
+      let rows = and_parts _ (list_all (λ (row : EpochScale × ℕ). nat_le row.1
+      (OFFSET_MOST * P_OPENING) && is_before row.0
       (i.epoch, i.scale)) i.finished) h in
       let epoch = and_parts _ (nat_le i.epoch (places_most i.generation s.records)) rows.0 in
       let scale = and_parts _ (nat_le i.scale (places_most i.generation s.records)) epoch.0 in
@@ -446,7 +447,8 @@ pub finished_rows : (i : Image) (records : ℕ) → IsSoundImage i records
     → AllByRecursion (FinishedStands (i.epoch, i.scale)) i.finished
 finished_rows i records h =
     let words = (meets i records h).words in
-    let rows = and_parts _ (list_all (λ (row : Place × ℕ). nat_le row.1 (OFFSET_MOST * P_OPENING) && is_before row.0
+    let rows = and_parts _ (list_all (λ (row : EpochScale × ℕ). nat_le row.1
+    (OFFSET_MOST * P_OPENING) && is_before row.0
     (i.epoch, i.scale)) i.finished) words in
     finished_true (i.epoch, i.scale) i.finished h.tables.some_finished rows.1
 

@@ -9,7 +9,7 @@ use Rattle.liq_types.specs.declared.figures.Wallet.{Wallet}
 use Rattle.liq_types.specs.Product.{IsWithinRange, place_of, sumat}
 use Rattle.liq_types.specs.Soundness.{IsSoundImage, places_most}
 use Rattle.liq_types.specs.State.{State, Mark, AtStart, After, StakeSums, TroveEntry, DepositEntry, PoolOffset}
-use Rattle.liq_types.specs.Tables.{Place, Table}
+use Rattle.liq_types.specs.Tables.{EpochScale, Table}
 use Rattle.liq_types.specs.Totals.{total_coll, total_debt, pool_total, pool_coll, stakes_of}
 use Rattle.liq_types.specs.WellFormed.{IsWellFormed, TablesAscend}
 use Rattle.liq_troves.specs.Standing.{HadStakes, TrovesStand, books_of}
@@ -77,7 +77,7 @@ pub record WordsWithin (s : State) : Type 0 where
   pub product : IsWithinRange (words_of s)
   pub sum : sumat s.start s.offsets (place_of (words_of s))
       ≤ OFFSET_MOST * (P_OPENING - (words_of s).p)
-  pub sums : (place : Place) → sumat s.start s.offsets place ≤ OFFSET_MOST * P_OPENING
+  pub sums : (place : EpochScale) → sumat s.start s.offsets place ≤ OFFSET_MOST * P_OPENING
   pub scale : (words_of s).scale ≤ places_most s.generation s.records
   pub epoch : (words_of s).epoch ≤ places_most s.generation s.records
   pub sum_coll : (sums_now s).coll ≤ SUM_MOST

@@ -14,7 +14,7 @@ ghost use Rattle.liq_types.specs.Product.{IsWithinRange, rise_of, sumat};
 ghost use Rattle.liq_types.specs.Rules.{first_refusal};
 ghost use Rattle.liq_types.specs.Soundness.{IsSoundImage};
 ghost use Rattle.liq_types.specs.State.{State, opening_with, started, TroveEntry, DepositEntry, Redistribution, After, wallet_of, surplus_of};
-ghost use Rattle.liq_types.specs.Tables.{Place, at};
+ghost use Rattle.liq_types.specs.Tables.{EpochScale, at};
 ghost use Rattle.liq_types.specs.Totals.{market_of, total_debt, pool_total, pool_coll};
 ghost use Rattle.liq_types.specs.WellFormed.{IsWellFormed};
 ghost use Rattle.liq_troves.specs.StakeSums.{sums_now, sums_at, sums_words, trove_rows, pending_coll, pending_debt, entire_of, exact_part, somethings, IsShortOf};
@@ -181,7 +181,7 @@ pub fn products_fit()
     ensures balance { (s : State) → IsSoundState s → (account : ℕ) → (d : DepositEntry)
         → at s.deposits account ≡ Some d → d.amount * (words_of s).p ≤ P_OPENING * LIM }
     ensures gain { (s : State) → IsSoundState s → (account : ℕ) → (d : DepositEntry)
-        → at s.deposits account ≡ Some d → (place : Place)
+        → at s.deposits account ≡ Some d → (place : EpochScale)
         → d.amount * sumat s.start s.offsets place ≤ OFFSET_MOST * P_OPENING * LIM }
     ensures product { (s : State) → IsSoundState s → (debt coll : ℕ) → 1 ≤ debt
         → debt < pool_total s → (steps : ℕ) → steps ≤ rise_of (words_of s).p (record {

@@ -11,7 +11,7 @@ use Rattle.liq_types.specs.declared.figures.Deposit.{Deposit}
 use Rattle.liq_types.specs.declared.image.Image.{Image}
 use Rattle.liq_types.specs.Product.{ScaledProduct, after_offset, prod, sumat, start_sum, sum_growth, place_of, mark_after}
 use Rattle.liq_types.specs.State.{State, PoolMark, After, TroveEntry, DepositEntry, PoolOffset, Redistribution}
-use Rattle.liq_types.specs.Tables.{Place, Table, at, put, without, map_rows}
+use Rattle.liq_types.specs.Tables.{EpochScale, Table, at, put, without, map_rows}
 use Rattle.liq_types.specs.Totals.{stakes_of, pool_total, pool_coll}
 use Rattle.liq_troves.specs.StakeSums.{trove_row, pending, coll_growth, debt_growth}
 use Rattle.liq_troves.specs.Own.{lifted_entry, lifted, placed, stake_for, redistributed}
@@ -275,7 +275,7 @@ offset-image s h debt coll =
     }) (fold-snoc after_offset (prod s.start []) s.offsets o)
     ∙ ap (λ n. record target { sum = n; finished = made.finished; total = made.total; pool_coll = made.pool_coll })
     (sum-snoc s.start s.offsets o h.0)
-    ∙ ap (λ (f : List (Place × ℕ)). record target { finished = f; total = made.total; pool_coll = made.pool_coll })
+    ∙ ap (λ (f : List (EpochScale × ℕ)). record target { finished = f; total = made.total; pool_coll = made.pool_coll })
     (finished-snoc s.start s.offsets o)
     ∙ ap (λ n. record target { total = n; pool_coll = made.pool_coll })
     (less_debt s.start.total s.provided s.withdrawn (sum_by (λ (x : PoolOffset). x.debt) s.offsets)

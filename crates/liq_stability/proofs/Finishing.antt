@@ -11,7 +11,7 @@ use Rattle.std.specs.declared.cmp.Ordering.{Ordering}
 use Rattle.std.specs.declared.cmp.Ordering.TheVariants.{Less, Equal, Greater}
 use Rattle.std.proofs.lemmas.Bool.{cases_lt}
 use Rattle.std.proofs.lemmas.List.Sorted.{searchable_from_sorted}
-use Rattle.liq_types.specs.Tables.{Place}
+use Rattle.liq_types.specs.Tables.{EpochScale}
 use Rattle.liq_types.specs.Product.{place_order, is_place}
 use Rattle.liq_types.specs.WellFormed.{IsBefore}
 use Rattle.liq_types.proofs.Places.{IsUpTo, order-place, after_not_place, before_up_to, is_place-itself, is_place-turned, is_place-same}
@@ -19,27 +19,27 @@ use Rattle.liq_types.specs.declared.image.FinishedSum.{FinishedSum}
 use Rattle.liq_stability.specs.Kept.{finished_rows}
 
 abbrev pub Finished : Type 0
-Finished = List (Place × ℕ)
+Finished = List (EpochScale × ℕ)
 
 -- all of the table comes before a place
-abbrev pub AreBefore : Place → Finished → Type 0
-AreBefore place table = AllByRecursion (λ (row : Place × ℕ). IsBefore row.0 place) table
+abbrev pub AreBefore : EpochScale → Finished → Type 0
+AreBefore place table = AllByRecursion (λ (row : EpochScale × ℕ). IsBefore row.0 place) table
 
 place_order_total : IsTotalOrder place_order
-place_order_total = then_total (on_total (λ (p : Place). p.0) nat_cmp_total)
-    (on_total (λ (p : Place). p.1) nat_cmp_total)
+place_order_total = then_total (on_total (λ (p : EpochScale). p.0) nat_cmp_total)
+    (on_total (λ (p : EpochScale). p.1) nat_cmp_total)
 
-before_less : (a b : Place) → IsBefore a b → place_order a b ≡ Less
+before_less : (a b : EpochScale) → IsBefore a b → place_order a b ≡ Less
 before_less a b (inl first) = ap (λ o. ordering_then o (nat_cmp a.1 b.1)) (sym (nat_cmp_is a.0 b.0 Less first))
 before_less a b (inr same) = ap (λ o. ordering_then o (nat_cmp a.1 b.1)) (sym (nat_cmp_is a.0 b.0 Equal same.0))
     ∙ sym (nat_cmp_is a.1 b.1 Less same.1)
 
-before_greater : (a b : Place) → IsBefore a b → place_order b a ≡ Greater
+before_greater : (a b : EpochScale) → IsBefore a b → place_order b a ≡ Greater
 before_greater a b h = place_order_total.antisymm b a ∙ ap ordering_reverse (before_less a b h)
 
 -- ---- a sum at the end
 
-pub put_last : (table : Finished) (place : Place) (sum : ℕ) → AreBefore place table
+pub put_last : (table : Finished) (place : EpochScale) (sum : ℕ) → AreBefore place table
     → insert_entry place_order table place sum ≡ table ++ (place, sum) ∷ []
 put_last [] place sum h = refl
 put_last (e ∷ es) place sum h =
@@ -47,18 +47,18 @@ put_last (e ∷ es) place sum h =
     (before_greater e.0 place h.0)
     ∙ ap (λ (t : Finished). e ∷ t) (put_last es place sum h.1)
 
-pub all_last : (P : Place × ℕ → Type 0) (table : Finished) (row : Place × ℕ) → AllByRecursion P table → P row
+pub all_last : (P : EpochScale × ℕ → Type 0) (table : Finished) (row : EpochScale × ℕ) → AllByRecursion P table → P row
     → AllByRecursion P (table ++ row ∷ [])
 all_last P [] row h p = (p, tt)
 all_last P (e ∷ es) row h p = (h.0, all_last P es row h.1 p)
 
-below_last : (a : Place) (table : Finished) (place : Place) (sum : ℕ)
+below_last : (a : EpochScale) (table : Finished) (place : EpochScale) (sum : ℕ)
     → AllByRecursion (λ q. place_order a q ≡ Less) (keys_of table) → place_order a place ≡ Less
     → AllByRecursion (λ q. place_order a q ≡ Less) (keys_of (table ++ (place, sum) ∷ []))
 below_last a [] place sum h l = (l, tt)
 below_last a (e ∷ es) place sum h l = (h.0, below_last a es place sum h.1 l)
 
-pub sorted_last : (table : Finished) (place : Place) (sum : ℕ) → AreBefore place table
+pub sorted_last : (table : Finished) (place : EpochScale) (sum : ℕ) → AreBefore place table
     → IsStrictlySortedBy place_order (keys_of table)
     → IsStrictlySortedBy place_order (keys_of (table ++ (place, sum) ∷ []))
 unfolding IsStrictlySortedBy
@@ -70,11 +70,11 @@ sorted_last (e ∷ es) place sum b h = (
 
 -- ---- look-ups
 
-abbrev pub sum_in : Finished → Place → ℕ
+abbrev pub sum_in : Finished → EpochScale → ℕ
 sum_in table place = unwrap_or (lookup (is_place place) table) 0
 
 -- no row stands at a place that all come before, or a later one
-pub none_in : (table : Finished) (place q : Place) → AreBefore place table → IsUpTo place q
+pub none_in : (table : Finished) (place q : EpochScale) → AreBefore place table → IsUpTo place q
     → lookup (is_place q) table ≡ None
 none_in [] place q h up = refl
 none_in (e ∷ es) place q h up =
@@ -82,13 +82,13 @@ none_in (e ∷ es) place q h up =
     ∙ none_in es place q h.1 up
 
 -- another place's look-up does not see the last row
-pub other_last : (table : Finished) (place q : Place) (sum : ℕ) → is_place q place ≡ false
+pub other_last : (table : Finished) (place q : EpochScale) (sum : ℕ) → is_place q place ≡ false
     → lookup (is_place q) (table ++ (place, sum) ∷ []) ≡ lookup (is_place q) table
 other_last [] place q sum away = ap (λ b. cond b (Some sum) None) away
 other_last (e ∷ es) place q sum away = ap (λ (o : Option ℕ). cond (is_place q e.0) (Some e.1) o)
     (other_last es place q sum away)
 
-pub same_last : (table : Finished) (place : Place) (sum : ℕ) → AreBefore place table
+pub same_last : (table : Finished) (place : EpochScale) (sum : ℕ) → AreBefore place table
     → lookup (is_place place) (table ++ (place, sum) ∷ []) ≡ Some sum
 same_last [] place sum h = ap (λ b. cond b (Some sum) None) (is_place-itself place)
 same_last (e ∷ es) place sum h =
@@ -97,19 +97,19 @@ same_last (e ∷ es) place sum h =
 
 -- ---- a search
 
-greater : (a b : Place) → place_order a b ≡ Less → place_order b a ≡ Greater
+greater : (a b : EpochScale) → place_order a b ≡ Less → place_order b a ≡ Greater
 greater a b h = place_order_total.antisymm b a ∙ ap ordering_reverse h
 
-equal_place : (a b : Place) → place_order a b ≡ Equal → is_place b a ≡ true
+equal_place : (a b : EpochScale) → place_order a b ≡ Equal → is_place b a ≡ true
 equal_place a b h = is_place-turned b a ∙ sym (order-place a b) ∙ ap is_eq h
 
-less_place : (a b : Place) → place_order a b ≡ Less → is_place b a ≡ false
+less_place : (a b : EpochScale) → place_order a b ≡ Less → is_place b a ≡ false
 less_place a b h = is_place-turned b a ∙ sym (order-place a b) ∙ ap is_eq h
 
-abbrev pub key : FinishedSum → Place
+abbrev pub key : FinishedSum → EpochScale
 key f = (f.epoch, f.scale)
 
-later_at : (P : Place → Type 0) (items : List FinishedSum) (k : ℕ) (d : FinishedSum)
+later_at : (P : EpochScale → Type 0) (items : List FinishedSum) (k : ℕ) (d : FinishedSum)
     → AllByRecursion P (keys_of (finished_rows items)) → k < length items → P (key (get_or items k d))
 later_at P [] k d h less = absurd (omega (arith, less))
 later_at P (e ∷ es) zero d h less = h.0
@@ -126,7 +126,7 @@ ascending_at (e ∷ es) zero (suc k) d h less short = later_at (λ q. place_orde
 ascending_at (e ∷ es) (suc j) (suc k) d h less short = ascending_at es j k d h.1 (omega (arith, less))
     (omega (arith, short))
 
-pub searchable : (items : List FinishedSum) (place : Place)
+pub searchable : (items : List FinishedSum) (place : EpochScale)
     → IsStrictlySortedBy place_order (keys_of (finished_rows items))
     → IsNonDecreasingBy (λ f. ordering_index (place_order (key f) place)) items
 searchable items place h =
@@ -134,7 +134,7 @@ searchable items place h =
     (λ k d low short. ap is_lt (greater (key (get_or items k d)) (key (get_or items (k + 1) d)) (ascending_at items k
     (k + 1) d h (omega arith) short)))
 
-pub found : (items : List FinishedSum) (at : ℕ) (d : FinishedSum) (place : Place)
+pub found : (items : List FinishedSum) (at : ℕ) (d : FinishedSum) (place : EpochScale)
     → IsStrictlySortedBy place_order (keys_of (finished_rows items)) → at < length items
     → place_order (key (get_or items at d)) place ≡ Equal → sum_in (finished_rows items) place ≡ (get_or items at d).sum
 unfolding IsStrictlySortedBy
@@ -152,7 +152,7 @@ found (e ∷ es) (suc k) d place h less same =
     ap (λ b. unwrap_or (cond b (Some e.sum) (lookup (is_place place) (finished_rows es))) 0) away
     ∙ found es k d place h.1 (omega (arith, less)) same
 
-pub not_found : (items : List FinishedSum) (place : Place) → ((k : ℕ) (d : FinishedSum) → k < length items
+pub not_found : (items : List FinishedSum) (place : EpochScale) → ((k : ℕ) (d : FinishedSum) → k < length items
     → place_order (key (get_or items k d)) place ≡ Equal → ⊥) → sum_in (finished_rows items) place ≡ 0
 not_found [] place h = refl
 not_found (e ∷ es) place h =
@@ -171,11 +171,11 @@ not_found (e ∷ es) place h =
     other false k = k
 
 -- where all before an index come before the place, and all from there on after it
-abbrev pub IsParted : List FinishedSum → ℕ → Place → Type 0
+abbrev pub IsParted : List FinishedSum → ℕ → EpochScale → Type 0
 IsParted items at place = IsNonDecreasingBy (λ f. ordering_index (place_order (key f) place)) items
     → IsPartitionPoint (λ f. place_order (key f) place ≡ Less) (λ f. place_order (key f) place ≡ Greater) items at
 
-pub not_parted : (items : List FinishedSum) (at : ℕ) (place : Place)
+pub not_parted : (items : List FinishedSum) (at : ℕ) (place : EpochScale)
     → IsStrictlySortedBy place_order (keys_of (finished_rows items)) → IsParted items at place
     → sum_in (finished_rows items) place ≡ 0
 not_parted items at place sorted search =
@@ -192,7 +192,7 @@ not_parted items at place sorted search =
 
 -- each finished sum is within what holds of all
 pub sum_within : (most : ℕ) (items : List FinishedSum) (at : ℕ) (d : FinishedSum)
-    → AllByRecursion (λ (row : Place × ℕ). row.1 ≤ most) (finished_rows items) → at < length items
+    → AllByRecursion (λ (row : EpochScale × ℕ). row.1 ≤ most) (finished_rows items) → at < length items
     → (get_or items at d).sum ≤ most
 sum_within most [] at d h less = absurd (omega (arith, less))
 sum_within most (e ∷ es) zero d h less = h.0

@@ -4,7 +4,7 @@ use Rattle.std.specs.Prelude.{◌==◌, option_map}
 use Rattle.liq_types.specs.declared.figures.Deposit.{Deposit}
 use Rattle.liq_types.specs.Product.{sumat}
 use Rattle.liq_types.specs.State.{State, DepositEntry, PoolMark, After}
-use Rattle.liq_types.specs.Tables.{Place, Table, at, put, without, map_rows}
+use Rattle.liq_types.specs.Tables.{EpochScale, Table, at, put, without, map_rows}
 use Rattle.liq_types.specs.Totals.{pool_total, pool_coll}
 use Rattle.liq_types.specs.WellFormed.{AreFinished, DepositsAreMarked, IsMoment, IsPoolCovered}
 use Rattle.liq_types.proofs.MapRows.{at-map, map-put, map-without, map-cong}
@@ -19,10 +19,10 @@ use Rattle.liq_stability.proofs.Pool.{owned-total, owned-coll, mark-grown, mark-
 -- ---- what is read
 
 module _ (s : State) (pool : Kept) (f : AreFinished s.start) (h : IsPoolOf s pool) where
-  shown : (q : Place) → sum_at pool.words pool.finished q ≡ sumat s.start s.offsets q
+  shown : (q : EpochScale) → sum_at pool.words pool.finished q ≡ sumat s.start s.offsets q
   shown q =
       ap (λ (w : PoolWords). sum_at w pool.finished q) h.words
-      ∙ ap (λ (t : List (Place × ℕ)). sum_at (pool_words s) t q) h.finished
+      ∙ ap (λ (t : List (EpochScale × ℕ)). sum_at (pool_words s) t q) h.finished
       ∙ sum_shown s.start s.offsets f q
 
   sums_shown : (d : DepositEntry) → sums_for pool.words pool.finished (deposit_row s d) ≡ sums_from s (mark_of s d.mark)
@@ -102,7 +102,7 @@ offset_follows s pool next f marked covered h debt coll words finished rows = re
   words = words ∙ ap (λ (w : PoolWords). words_after w debt coll) h.words ∙ sym (offset-words s f covered debt coll);
   finished =
       finished ∙ ap (λ (w : PoolWords). finished_with pool.finished (finished_by w debt coll)) h.words
-      ∙ ap (λ (t : List (Place × ℕ)). finished_with t (finished_by (pool_words s) debt coll)) h.finished
+      ∙ ap (λ (t : List (EpochScale × ℕ)). finished_with t (finished_by (pool_words s) debt coll)) h.finished
       ∙ sym (offset-finishes s debt coll);
   deposits =
       rows ∙ h.deposits

@@ -13,7 +13,7 @@ use Rattle.liq_types.specs.ImageRows.{finished_row}
 use Rattle.liq_types.specs.Product.{ScaledProduct, after_offset, place_of, is_place, place_order, sum_growth}
 use Rattle.liq_types.specs.Soundness.{is_product, is_sum_beside}
 use Rattle.liq_types.specs.State.{PoolOffset}
-use Rattle.liq_types.specs.Tables.{Place, Table, at, put, without}
+use Rattle.liq_types.specs.Tables.{EpochScale, Table, at, put, without}
 use Rattle.liq_types.proofs.Ascending.{none-ascends}
 use Rattle.liq_types.proofs.Lookups.{all-at}
 use Rattle.liq_types.proofs.MapRows.{all-put, all-without, all-weaken}
@@ -33,28 +33,29 @@ use Rattle.liq_stability.proofs.Tests.{IsFinished, IsMarked, IsInRange, product_
 
 -- ---- read off
 
-each_finished : (now : Place) (table : Finished)
-    → AllByRecursion (λ (row : Place × ℕ). IsTrue (is_sound_sum now row)) table → AllByRecursion (IsFinished now) table
+each_finished : (now : EpochScale) (table : Finished)
+    → AllByRecursion (λ (row : EpochScale × ℕ). IsTrue (is_sound_sum now row)) table → AllByRecursion
+    (IsFinished now) table
 each_finished now [] h = tt
 each_finished now (e ∷ es) h = (finished_in now e h.0, each_finished now es h.1)
 
-finished_each : (now : Place) (table : Finished) → AllByRecursion (IsFinished now) table
-    → AllByRecursion (λ (row : Place × ℕ). IsTrue (is_sound_sum now row)) table
+finished_each : (now : EpochScale) (table : Finished) → AllByRecursion (IsFinished now) table
+    → AllByRecursion (λ (row : EpochScale × ℕ). IsTrue (is_sound_sum now row)) table
 finished_each now [] h = tt
 finished_each now (e ∷ es) h = (finished_tested now e h.0, finished_each now es h.1)
 
-all_most : (now : Place) (table : Finished) → AllByRecursion (IsFinished now) table
-    → AllByRecursion (λ (row : Place × ℕ). row.1 ≤ OFFSET_MOST * P_OPENING) table
+all_most : (now : EpochScale) (table : Finished) → AllByRecursion (IsFinished now) table
+    → AllByRecursion (λ (row : EpochScale × ℕ). row.1 ≤ OFFSET_MOST * P_OPENING) table
 all_most now [] h = tt
 all_most now (e ∷ es) h = (h.0.most, all_most now es h.1)
 
-all_before : (now : Place) (table : Finished) → AllByRecursion (IsFinished now) table → AreBefore now table
+all_before : (now : EpochScale) (table : Finished) → AllByRecursion (IsFinished now) table → AreBefore now table
 all_before now [] h = tt
 all_before now (e ∷ es) h = (h.0.before, all_before now es h.1)
 
 pub sums_within : (w : PoolWords) (items : List FinishedSum) (deposits : Table Deposit)
     → IsSoundPool w (finished_rows items) deposits
-    → AllByRecursion (λ (row : Place × ℕ). row.1 ≤ OFFSET_MOST * P_OPENING) (finished_rows items)
+    → AllByRecursion (λ (row : EpochScale × ℕ). row.1 ≤ OFFSET_MOST * P_OPENING) (finished_rows items)
 sums_within w items deposits h = all_most (w.epoch, w.scale) (finished_rows items) (each_finished (
   w.epoch,
   w.scale,
@@ -102,7 +103,7 @@ owned_sound w table deposits account amount total coll h fits total_fits coll_fi
       coll = coll_fits;
     }
   where
-    now : Place
+    now : EpochScale
     now = (w.epoch, w.scale)
 
     marked : IsMarked now (sum_at w table now) (deposit_now w amount)
@@ -194,7 +195,7 @@ finished_last w items deposits debt coll h =
 module _ (w : PoolWords) (table : Finished) (deposits : Table Deposit) (debt coll : ℕ)
     (h : IsSoundPool w table deposits) (some : 1 ≤ debt) (within : debt ≤ w.total) (worth : coll
     ≤ OFFSET_MOST * debt) where
-  abbrev now : Place
+  abbrev now : EpochScale
   now = (w.epoch, w.scale)
 
   abbrev later_words : ScaledProduct
@@ -254,25 +255,25 @@ module _ (w : PoolWords) (table : Finished) (deposits : Table Deposit) (debt col
   no_sum more f = grind (arith, nat_tests, f)
 
   -- no sum falls
-  grown : (q : Place) (b c x y : Bool) → is_place now (place_of later_words) ≡ b → (sum_with w debt coll == 0) ≡ c
+  grown : (q : EpochScale) (b c x y : Bool) → is_place now (place_of later_words) ≡ b → (sum_with w debt coll == 0) ≡ c
       → is_place now q ≡ x → is_place (place_of later_words) q ≡ y → cond x w.sum (sum_in table q)
       ≤ cond y (cond b (sum_with w debt coll) 0) (sum_in (table_by b c) q)
   grown q true c true true e f g k = omega arith
   grown q true c true false e f g k =
-      absurd (clash (is_place (place_of later_words) q) (subst (λ (p : Place). is_place p q
+      absurd (clash (is_place (place_of later_words) q) (subst (λ (p : EpochScale). is_place p q
       ≡ true) (is_place-same now (place_of later_words) e) g) k)
   grown q true c false true e f g k =
-      absurd (clash (is_place now q) (subst (λ (p : Place). is_place p q
+      absurd (clash (is_place now q) (subst (λ (p : EpochScale). is_place p q
       ≡ true) (sym (is_place-same now (place_of later_words) e)) k) g)
   grown q true c false false e f g k = omega arith
   grown q false c true true e f g k =
-      absurd (clash (is_place now (place_of later_words)) (subst (λ (p : Place). is_place now p
+      absurd (clash (is_place now (place_of later_words)) (subst (λ (p : EpochScale). is_place now p
       ≡ true) (is_place-same now q g ∙ sym (is_place-same (place_of later_words) q k)) (is_place-itself now)) e)
   grown q false true true false e f g k = let none : w.sum ≡ 0 =
       no_sum (sum_growth (words_in w) (offset_in w debt coll)) f in omega (arith, none)
   grown q false false true false e f g k =
       let read : sum_in (table_by false false) q ≡ sum_with w debt coll =
-      ap (λ (t : Finished). sum_in t q) at_end ∙ ap (λ (p : Place). sum_in end p) (sym (is_place-same now q g))
+      ap (λ (t : Finished). sum_in t q) at_end ∙ ap (λ (p : EpochScale). sum_in end p) (sym (is_place-same now q g))
       ∙ ap (λ (v : Option ℕ). unwrap_or v 0) (same_last table now (sum_with w debt coll) (all_before now table rows)) in
       omega (arith, read)
   grown q false c false true e f g k =

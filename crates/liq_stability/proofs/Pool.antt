@@ -7,7 +7,7 @@ use Rattle.std.proofs.lemmas.List.{take-append-le}
 use Rattle.std.proofs.lemmas.List.Sums.{sum_by-append, fold-append}
 use Rattle.liq_types.specs.Product.{ScaledProduct, after_offset, sumat, start_words, place_of, is_place, place_order, mark_after, with_finished, finished_sums}
 use Rattle.liq_types.specs.State.{State, PoolMark, Mark, AtStart, After, DepositEntry, PoolOffset}
-use Rattle.liq_types.specs.Tables.{Place, Table, at, put, without}
+use Rattle.liq_types.specs.Tables.{EpochScale, Table, at, put, without}
 use Rattle.liq_types.specs.Totals.{pool_total, pool_coll}
 use Rattle.liq_types.specs.WellFormed.{IsMoment, AreFinished, DepositsAreMarked, IsPoolCovered, Ascends}
 use Rattle.liq_types.proofs.Ascending.{none-ascends}
@@ -184,7 +184,7 @@ offset-words s f h debt coll =
     ∙ ap (λ n. record target { coll = n }) (offset-coll s h debt coll)
 
 -- the table after the sum that an offset finishes, if it finishes one
-finish_by : (table : List (Place × ℕ)) (w : PoolWords) (debt coll : ℕ) (b : Bool)
+finish_by : (table : List (EpochScale × ℕ)) (w : PoolWords) (debt coll : ℕ) (b : Bool)
     → cond b table (with_finished table (w.epoch, w.scale) (sum_with w debt coll))
     ≡ finished_with table (cond (b || sum_with w debt coll == 0) None (Some (record {
       epoch = w.epoch;

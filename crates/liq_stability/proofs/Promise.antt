@@ -12,7 +12,7 @@ use Rattle.liq_types.specs.Allowance.{weight_of, balance_allowance, gain_allowan
 use Rattle.liq_types.specs.PlainLedger.{no_share, exact_share, den_of, offsets_coll, gains_paid_to, own_events_of, AreOwnedBelow, over_accounts}
 use Rattle.liq_types.specs.Product.{is_place}
 use Rattle.liq_types.specs.State.{DepositEntry, opening}
-use Rattle.liq_types.specs.Tables.{Place, at}
+use Rattle.liq_types.specs.Tables.{EpochScale, at}
 use Rattle.liq_types.specs.Totals.{pool_total, pool_coll}
 use Rattle.liq_types.proofs.Accounts.{over-none, above_with, owned_with, under_with}
 use Rattle.liq_types.proofs.Watching.{no_watch, watched, weight_is, own_events_are}
@@ -30,7 +30,7 @@ use Rattle.liq_stability.proofs.Whole.{PoolStands, Whole, after_all, read, balan
 
 -- ---- the opening
 
-nothing_at : (q : Place) (b : Bool) → cond b 0 0 + 0 ≤ OFFSET_MOST * P_OPENING
+nothing_at : (q : EpochScale) (b : Bool) → cond b 0 0 + 0 ≤ OFFSET_MOST * P_OPENING
 nothing_at q true = omega arith
 nothing_at q false = omega arith
 

@@ -12,7 +12,7 @@ use Rattle.liq_types.specs.Product.{place_order, is_place, finished_sums}
 use Rattle.liq_types.specs.Rules.{Rule, first_refusal, outcome}
 use Rattle.liq_types.specs.Soundness.{is_product, is_sum_beside, is_before, is_sound_deposit}
 use Rattle.liq_types.specs.State.{State}
-use Rattle.liq_types.specs.Tables.{Place, Table, at, put, without}
+use Rattle.liq_types.specs.Tables.{EpochScale, Table, at, put, without}
 use Rattle.liq_types.specs.WellFormed.{Ascends}
 use Rattle.liq_tables.specs.WithRoom.{WithRoom}
 use Rattle.liq_stability.specs.declared.words.PoolWords.{PoolWords}
@@ -24,16 +24,16 @@ use Rattle.liq_stability.specs.Words.{pool_words}
 -- have room for one; for how many more finished sums there is room.
 pub record Kept : Type 0 where
   pub words : PoolWords
-  pub finished : List (Place × ℕ)
+  pub finished : List (EpochScale × ℕ)
   pub deposits : WithRoom Deposit
   pub spare : ℕ
 
 -- ---- finished sums
 
-abbrev pub finished_rows : List FinishedSum → List (Place × ℕ)
+abbrev pub finished_rows : List FinishedSum → List (EpochScale × ℕ)
 finished_rows sums = map finished_row sums
 
-abbrev pub finished_of : Place × ℕ → FinishedSum
+abbrev pub finished_of : EpochScale × ℕ → FinishedSum
 finished_of row = record { epoch = row.0.0; scale = row.0.1; sum = row.1 }
 
 -- the sums with one more at their end, if there is one
@@ -47,37 +47,37 @@ room_for None = 0
 room_for (Some f) = 1
 
 -- the sum of a place: that of now is among the words, and one that is not kept is 0
-abbrev pub sum_at : PoolWords → List (Place × ℕ) → Place → ℕ
+abbrev pub sum_at : PoolWords → List (EpochScale × ℕ) → EpochScale → ℕ
 sum_at words finished place =
     if is_place (words.epoch, words.scale) place then words.sum
     else unwrap_or (lookup (is_place place) finished) 0
 
 -- the sums of a deposit's epoch, from its scale on
-abbrev pub sums_for : PoolWords → List (Place × ℕ) → Deposit → ℕ → ℕ
+abbrev pub sums_for : PoolWords → List (EpochScale × ℕ) → Deposit → ℕ → ℕ
 sums_for words finished d i = sum_at words finished (d.epoch, d.scale + i)
 
 -- ---- what holds at all times
 
 -- the rule on finished sums, of one of them, by the place of now
-abbrev pub is_sound_sum : Place → Place × ℕ → Bool
+abbrev pub is_sound_sum : EpochScale → EpochScale × ℕ → Bool
 is_sound_sum now row = nat_le row.1 (OFFSET_MOST * P_OPENING) && is_before row.0 now
 
 -- the rule on deposits, of one of them, by the place of now and the sum of its own place
-pub record IsSoundDeposit (now : Place) (sum : ℕ) (d : Deposit) : Type 0 where
+pub record IsSoundDeposit (now : EpochScale) (sum : ℕ) (d : Deposit) : Type 0 where
   pub amount : d.amount ≤ LIM
   pub sound : IsTrue (is_sound_deposit now sum d)
 
-abbrev pub IsDepositOf : PoolWords → List (Place × ℕ) → Deposit → Type 0
+abbrev pub IsDepositOf : PoolWords → List (EpochScale × ℕ) → Deposit → Type 0
 IsDepositOf words finished d = IsSoundDeposit (words.epoch, words.scale) (sum_at words finished
     (d.epoch, d.scale)) d
 
 -- The rules on words, finished sums and deposits, as far as they speak of these; each table has
 -- each key once, in order; and the pool has no more than may be inside.
-pub record IsSoundPool (words : PoolWords) (finished : List (Place × ℕ))
+pub record IsSoundPool (words : PoolWords) (finished : List (EpochScale × ℕ))
     (deposits : Table Deposit) : Type 0 where
   pub product : IsTrue (is_product words.p)
   pub sum : IsTrue (is_sum_beside words.sum words.p)
-  pub sums : AllByRecursion (λ (row : Place × ℕ). IsTrue (is_sound_sum (
+  pub sums : AllByRecursion (λ (row : EpochScale × ℕ). IsTrue (is_sound_sum (
     words.epoch,
     words.scale,
   ) row)) finished

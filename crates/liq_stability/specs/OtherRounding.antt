@@ -3,7 +3,7 @@
 use Rattle.std.specs.Prelude.{ℕ, ◌+◌, ◌-◌, ◌*◌, ◌/◌, ◌%◌, ◌^◌, ◌==◌, nat_le, List, [], ◌∷◌, fold, take, if◌then◌else◌}
 use Rattle.liq_num.specs.Quotient.{ceiling_of}
 use Rattle.liq_types.specs.declared.amounts.TheConstants.{P_LEAST}
-use Rattle.liq_types.specs.Tables.{Place}
+use Rattle.liq_types.specs.Tables.{EpochScale}
 use Rattle.liq_types.specs.Product.{ScaledProduct, STEPS_TRIED, opening_words, least_from, after_offset, place_of, is_place}
 use Rattle.liq_types.specs.State.{State, PoolOffset, PoolMark}
 use Rattle.liq_stability.specs.Position.{balance_by, gain_by}
@@ -33,7 +33,7 @@ balance_upward s amount items =
 -- ---- the remainder of a sum's quotient carried into the next offset
 
 -- what offsets add to the sum of a place, with a remainder from before
-abbrev pub carried_at : ScaledProduct → ℕ → List PoolOffset → Place → ℕ
+abbrev pub carried_at : ScaledProduct → ℕ → List PoolOffset → EpochScale → ℕ
 carried_at w carried [] place = 0
 carried_at w carried (o ∷ os) place =
     let due = o.coll * w.p + carried in

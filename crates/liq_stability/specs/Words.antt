@@ -1,7 +1,7 @@
 -- The words of the Stability Pool: what an offset makes of them, and what they are in a state.
 use Rattle.std.specs.Prelude.{ℕ, ◌+◌, ◌-◌, ◌||◌, ◌==◌, List, Option, Some, None, if◌then◌else◌}
 use Rattle.std.specs.BTreeMap.{insert_entry}
-use Rattle.liq_types.specs.Tables.{Place}
+use Rattle.liq_types.specs.Tables.{EpochScale}
 use Rattle.liq_types.specs.Product.{ScaledProduct, after_offset, prod, sumat, sum_growth, place_of, is_place, place_order}
 use Rattle.liq_types.specs.State.{State, PoolOffset}
 use Rattle.liq_types.specs.Totals.{pool_total, pool_coll}
@@ -45,7 +45,7 @@ finished_by w debt coll =
     else Some (record { epoch = w.epoch; scale = w.scale; sum = sum })
 
 -- a table of finished sums with the one that an offset finishes, if it finishes one
-abbrev pub finished_with : List (Place × ℕ) → Option FinishedSum → List (Place × ℕ)
+abbrev pub finished_with : List (EpochScale × ℕ) → Option FinishedSum → List (EpochScale × ℕ)
 finished_with table None = table
 finished_with table (Some f) = insert_entry place_order table (f.epoch, f.scale) f.sum
 

@@ -12,7 +12,7 @@ ghost use Rattle.liq_types.specs.declared.image.Image.{Image};
 ghost use Rattle.liq_types.specs.PlainLedger.{exact_share, den_of, offsets_coll, gains_paid_to, AreOwnedBelow, over_accounts};
 ghost use Rattle.liq_types.specs.Product.{IsWithinRange, rise_of, is_place, place_order, place_of, prod, sumat, finished_sums};
 ghost use Rattle.liq_types.specs.State.{State, DepositEntry, PoolOffset, opening};
-ghost use Rattle.liq_types.specs.Tables.{Place, at};
+ghost use Rattle.liq_types.specs.Tables.{EpochScale, at};
 ghost use Rattle.liq_types.specs.Totals.{pool_total, pool_coll};
 ghost use Rattle.liq_types.specs.WellFormed.{AreFinished, DepositsAreMarked, IsBefore, IsPoolCovered};
 ghost use Rattle.liq_stability.specs.Kept.{Kept, IsPoolOf, position_at, words_owned, left_in};
@@ -81,9 +81,9 @@ pub fn finished_sums_stay_in_order()
         → AllByRecursion (λ sum. 1 ≤ sum) (values_of i.finished) →
         AllByRecursion (λ sum. 1 ≤ sum) (values_of (finished_sums i offsets)) }
     ensures before { (i : Image) → (offsets : List PoolOffset) → AreFinished i →
-        AllByRecursion (λ (row : Place × ℕ). IsBefore row.0 (place_of (prod i offsets)))
+        AllByRecursion (λ (row : EpochScale × ℕ). IsBefore row.0 (place_of (prod i offsets)))
         (finished_sums i offsets) }
-    ensures shown { (i : Image) → (offsets : List PoolOffset) → AreFinished i → (place : Place)
+    ensures shown { (i : Image) → (offsets : List PoolOffset) → AreFinished i → (place : EpochScale)
         → is_place (place_of (prod i offsets)) place ≡ false →
         unwrap_or (lookup (is_place place) (finished_sums i offsets)) 0 ≡ sumat i offsets place }
 {}
@@ -204,7 +204,7 @@ pub fn the_words_stay_within()
         (pool_words (after_events events)).sum
         ≤ OFFSET_MOST * (P_OPENING - (pool_words (after_events events)).p) }
     ensures sums { (most : ℕ) → most ≤ 10 ^ (9 * RISES_MOST) → (events : List PoolEvent)
-        → IsLawfulUpTo most opening events → (place : Place) →
+        → IsLawfulUpTo most opening events → (place : EpochScale) →
         sumat (after_events events).start (after_events events).offsets place
         ≤ OFFSET_MOST * P_OPENING }
 {}

@@ -9,7 +9,7 @@ use Rattle.std.specs.Map.{keys_of, values_of}
 use Rattle.std.specs.Ordering.{match_ordering}
 use Rattle.std.specs.declared.cmp.Ordering.{Ordering}
 use Rattle.std.specs.declared.cmp.Ordering.TheVariants.{Less, Equal, Greater}
-use Rattle.liq_types.specs.Image.{Image, Place}
+use Rattle.liq_types.specs.Image.{Image, EpochScale}
 use Rattle.liq_types.specs.Product.{place_of, place_order, prod, start_words, sumat, places_left, with_finished, finished_sums}
 use Rattle.liq_types.specs.State.{PoolOffset}
 use Rattle.liq_types.specs.WellFormed.{IsBefore, AreFinished}
@@ -18,20 +18,20 @@ use Rattle.liq_types.proofs.Places.{before_up_to, list_reaches, left_before}
 use Rattle.liq_types.proofs.Tests.{not_zero}
 
 place_order_total : IsTotalOrder place_order
-place_order_total = then_total (on_total (λ (p : Place). p.0) nat_cmp_total)
-    (on_total (λ (p : Place). p.1) nat_cmp_total)
+place_order_total = then_total (on_total (λ (p : EpochScale). p.0) nat_cmp_total)
+    (on_total (λ (p : EpochScale). p.1) nat_cmp_total)
 
 abbrev Finished : Type 0
-Finished = List (Place × ℕ)
+Finished = List (EpochScale × ℕ)
 
-with-ascends : (table : Finished) (place : Place) (sum : ℕ) → IsStrictlySortedBy place_order (keys_of table)
+with-ascends : (table : Finished) (place : EpochScale) (sum : ℕ) → IsStrictlySortedBy place_order (keys_of table)
     → IsStrictlySortedBy place_order (keys_of (with_finished table place sum))
 with-ascends table place sum h = by (sum == 0) where
   by : (b : Bool) → IsStrictlySortedBy place_order (keys_of (cond b table (insert_entry place_order table place sum)))
   by true = h
   by false = insert-ascends place_order_total table place sum h
 
-finish-ascends : (v : Place → ℕ) (table : Finished) (places : List Place)
+finish-ascends : (v : EpochScale → ℕ) (table : Finished) (places : List EpochScale)
     → IsStrictlySortedBy place_order (keys_of table)
     → IsStrictlySortedBy place_order (keys_of (fold (λ t p. with_finished t p (v p)) table places))
 finish-ascends v table [] h = h
@@ -43,13 +43,13 @@ finished-ascend i os h = finish-ascends (sumat i os) i.finished (places_left (st
 
 -- ---- rows that are written
 
-module _ (P : Place → ℕ → Type 0) where
+module _ (P : EpochScale → ℕ → Type 0) where
   abbrev Rows : Finished → Type 0
-  Rows table = AllByRecursion (λ (row : Place × ℕ). P row.0 row.1) table
+  Rows table = AllByRecursion (λ (row : EpochScale × ℕ). P row.0 row.1) table
 
   -- a row keeps the place that it is found at
-  rows-insert : ((a b : Place) (n m : ℕ) → place_order a b ≡ Equal → P a n → P b m → P b n)
-      → (table : Finished) (place : Place) (sum : ℕ) → P place sum → Rows table
+  rows-insert : ((a b : EpochScale) (n m : ℕ) → place_order a b ≡ Equal → P a n → P b m → P b n)
+      → (table : Finished) (place : EpochScale) (sum : ℕ) → P place sum → Rows table
       → Rows (insert_entry place_order table place sum)
   rows-insert keep [] place sum p h = (p, tt)
   rows-insert keep (e ∷ es) place sum p h = by (place_order place e.0) refl (rows-insert keep es place sum p h.1) where
@@ -59,8 +59,9 @@ module _ (P : Place → ℕ → Type 0) where
     by Equal is more = (keep place e.0 sum e.1 is p h.0, h.1)
     by Greater is more = (h.0, more)
 
-  rows-finish : ((a b : Place) (n m : ℕ) → place_order a b ≡ Equal → P a n → P b m → P b n) → (v : Place → ℕ) (Q : Place
-      → Type 0) → ((p : Place) → Q p → (v p == 0) ≡ false → P p (v p)) → (table : Finished) (places : List Place)
+  rows-finish : ((a b : EpochScale) (n m : ℕ) → place_order a b ≡ Equal → P a n → P b m → P b n) → (v : EpochScale → ℕ)
+      (Q : EpochScale → Type 0) → ((p : EpochScale) → Q p → (v p == 0) ≡ false → P p (v p)) → (table : Finished)
+      (places : List EpochScale)
       → AllByRecursion Q places → Rows table → Rows (fold (λ t p. with_finished t p (v p)) table places)
   rows-finish keep v Q made table [] q h = h
   rows-finish keep v Q made table (p ∷ ps) q h = rows-finish keep v Q made (with_finished table p (v p)) ps q.1
@@ -70,13 +71,13 @@ module _ (P : Place → ℕ → Type 0) where
         by false e = rows-insert keep table p (v p) (made p q.0 e) h
 
 pub finished-before : (i : Image) (os : List PoolOffset) → AreFinished i
-    → AllByRecursion (λ (row : Place × ℕ). IsBefore row.0 (place_of (prod i os))) (finished_sums i os)
+    → AllByRecursion (λ (row : EpochScale × ℕ). IsBefore row.0 (place_of (prod i os))) (finished_sums i os)
 finished-before i os f =
     rows-finish (λ place sum. IsBefore place (place_of (prod i os))) (λ a b n m e p q. q) (sumat i os)
     (λ p. IsBefore p (place_of (prod i os))) (λ p q e. q) i.finished (places_left (start_words i) os)
     (left_before (start_words i) os) (first i.finished f) where
-      first : (table : Finished) → AllByRecursion (λ (row : Place × ℕ). IsBefore row.0 (i.epoch, i.scale)) table
-          → AllByRecursion (λ (row : Place × ℕ). IsBefore row.0 (place_of (prod i os))) table
+      first : (table : Finished) → AllByRecursion (λ (row : EpochScale × ℕ). IsBefore row.0 (i.epoch, i.scale)) table
+          → AllByRecursion (λ (row : EpochScale × ℕ). IsBefore row.0 (place_of (prod i os))) table
       first [] h = tt
       first (e ∷ es) h = (
         before_up_to e.0 (i.epoch, i.scale) (place_of (prod i os)) h.0
@@ -84,16 +85,16 @@ finished-before i os f =
         first es h.1,
       )
 
-all_places : (ps : List Place) → AllByRecursion (λ (p : Place). Unit {0}) ps
+all_places : (ps : List EpochScale) → AllByRecursion (λ (p : EpochScale). Unit {0}) ps
 all_places [] = tt
 all_places (p ∷ ps) = (tt, all_places ps)
 
 of_values : (table : Finished) → AllByRecursion (λ sum. 1 ≤ sum) (values_of table)
-    → AllByRecursion (λ (row : Place × ℕ). 1 ≤ row.1) table
+    → AllByRecursion (λ (row : EpochScale × ℕ). 1 ≤ row.1) table
 of_values [] h = tt
 of_values (e ∷ es) h = (h.0, of_values es h.1)
 
-to_values : (table : Finished) → AllByRecursion (λ (row : Place × ℕ). 1 ≤ row.1) table
+to_values : (table : Finished) → AllByRecursion (λ (row : EpochScale × ℕ). 1 ≤ row.1) table
     → AllByRecursion (λ sum. 1 ≤ sum) (values_of table)
 to_values [] h = tt
 to_values (e ∷ es) h = (h.0, to_values es h.1)

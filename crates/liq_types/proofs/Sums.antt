@@ -4,7 +4,7 @@ use Rattle.std.specs.Prelude.{◌==◌}
 use Rattle.std.proofs.Math.Nat.{div-mul-le_self, le_of_mul-le-mul_right}
 use Rattle.std.proofs.lemmas.Bool.Decides.{nat_tests}
 use Rattle.liq_types.specs.declared.amounts.TheConstants.{P_OPENING, OFFSET_MOST}
-use Rattle.liq_types.specs.Image.{Image, Place}
+use Rattle.liq_types.specs.Image.{Image, EpochScale}
 use Rattle.liq_types.specs.Product.{ScaledProduct, IsWithinRange, TakesPartUpTo, opening_words, after_offset, product_after, rise_of, sum_growth, place_of, is_place, prod, sumat, start_words}
 use Rattle.liq_types.specs.State.{PoolOffset}
 use Rattle.liq_types.specs.WellFormed.{AreFinished}
@@ -67,11 +67,11 @@ module _ (most : ℕ) where
       ≤ OFFSET_MOST * P_OPENING
   stays_by w o sum range h less under stays true e =
       let ends = takes_all w o e in
-      let same : (after_offset w o).epoch ≡ w.epoch = ap (λ (q : Place). q.0) stays in
+      let same : (after_offset w o).epoch ≡ w.epoch = ap (λ (q : EpochScale). q.0) stays in
       absurd (omega (arith, ends.epoch, same))
   stays_by w o sum range h less under stays false e =
       let part = leaves_part w o h.within e in
-      let same : (after_offset w o).scale ≡ w.scale = ap (λ (q : Place). q.1) stays in
+      let same : (after_offset w o).scale ≡ w.scale = ap (λ (q : EpochScale). q.1) stays in
       let none : rise_of w.p o ≡ 0 = omega (arith, part.scale, same) in
       let p_is : (after_offset w o).p ≡ product_after w.p o 0 = subst (λ k. (after_offset w o).p
       ≡ product_after w.p o k) none part.p in
@@ -113,7 +113,7 @@ module _ (most : ℕ) where
 -- beside the product of now, and at every place
 pub record SumsAreWithin (i : Image) (os : List PoolOffset) : Type 0 where
   pub now : sumat i os (last_of i os) + OFFSET_MOST * (prod i os).p ≤ OFFSET_MOST * P_OPENING
-  pub all : (q : Place) → sumat i os q ≤ OFFSET_MOST * P_OPENING
+  pub all : (q : EpochScale) → sumat i os q ≤ OFFSET_MOST * P_OPENING
 
 module _ (most : ℕ) (i : Image) (os : List PoolOffset) (o : PoolOffset) (f : AreFinished i) (range : IsWithinRange
     (prod i os)) (next : IsWithinRange (after_offset (prod i os) o)) (h : TakesPartUpTo most o) (less : o.coll
@@ -125,10 +125,10 @@ module _ (most : ℕ) (i : Image) (os : List PoolOffset) (o : PoolOffset) (f : A
       (sym (is_place-same (last_of i os) (place_of (after_offset (prod i os) o)) e))
   now_after false e = omega (arith, next.most)
 
-  all_after : (q : Place) (b : Bool) → is_place (last_of i os) q ≡ b
+  all_after : (q : EpochScale) (b : Bool) → is_place (last_of i os) q ≡ b
       → sumat i os q + cond b (sum_growth (prod i os) o) 0 ≤ OFFSET_MOST * P_OPENING
   all_after q true e =
-      subst (λ (r : Place). sumat i os r + sum_growth (prod i os) o ≤ OFFSET_MOST * P_OPENING)
+      subst (λ (r : EpochScale). sumat i os r + sum_growth (prod i os) o ≤ OFFSET_MOST * P_OPENING)
       (is_place-same (last_of i os) q e)
       (finishes_within most (prod i os) o (sumat i os (last_of i os)) h less before.now)
   all_after q false e = omega (arith, before.all q)
@@ -142,7 +142,7 @@ module _ (most : ℕ) (i : Image) (os : List PoolOffset) (o : PoolOffset) (f : A
       let more = now_after (is_place (last_of i os) (place_of (after_offset (prod i os) o))) refl in
       omega (arith, snoc, more)
 
-  pub all-snoc : (q : Place) → sumat i (os ++ o ∷ []) q ≤ OFFSET_MOST * P_OPENING
+  pub all-snoc : (q : EpochScale) → sumat i (os ++ o ∷ []) q ≤ OFFSET_MOST * P_OPENING
   all-snoc q =
       let snoc = rises-snoc (start_words i) os o q in
       let more = all_after q (is_place (last_of i os) q) refl in

@@ -4,7 +4,7 @@ use Rattle.std.specs.Prelude.{fold, ◌==◌}
 use Rattle.liq_types.specs.declared.events.PoolEvent.{PoolEvent}
 use Rattle.liq_types.specs.declared.events.PoolEvent.TheVariants.{Own, Offset}
 use Rattle.liq_types.specs.Allowance.{cost_of, costs_from, weight_of}
-use Rattle.liq_types.specs.Image.{Place}
+use Rattle.liq_types.specs.Image.{EpochScale}
 use Rattle.liq_types.specs.PlainLedger.{is_own_of, own_events_of}
 use Rattle.liq_types.specs.Product.{ScaledProduct, opening_words, after_offset, place_of}
 
@@ -13,7 +13,7 @@ use Rattle.liq_types.specs.Product.{ScaledProduct, opening_words, after_offset, 
 pub record Watch : Type 0 where
   pub now : ScaledProduct
   pub amount : ℕ
-  pub place : Place
+  pub place : EpochScale
   pub weight : ℕ
   pub own_events : ℕ
 

@@ -3,21 +3,21 @@ use Rattle.std.specs.Prelude.{ℕ, ◌+◌, ◌-◌, ◌*◌, ◌^◌, ◌==◌,
 use Rattle.liq_num.specs.Quotient.{ceiling_of}
 use Rattle.liq_types.specs.declared.events.PoolEvent.{PoolEvent}
 use Rattle.liq_types.specs.declared.events.PoolEvent.TheVariants.{Own, Offset}
-use Rattle.liq_types.specs.Image.{Place}
+use Rattle.liq_types.specs.Image.{EpochScale}
 use Rattle.liq_types.specs.PlainLedger.{own_events_of}
 use Rattle.liq_types.specs.Product.{ScaledProduct, opening_words, after_offset, place_of}
 
 -- What an offset may cost an account of which this amount was recorded at this place, in 10^9ths of
 -- a unit: the amount as it counts after the scale's rises since then. An epoch that has ended costs
 -- nothing more.
-abbrev pub cost_of : ℕ → Place → Place → ℕ
+abbrev pub cost_of : ℕ → EpochScale → EpochScale → ℕ
 cost_of amount place now =
     if not (amount == 0) && now.0 == place.0
     then ceiling_of amount 1 (10 ^ (9 * (now.1 - place.1)))
     else 0
 
 -- what all offsets of the events may cost it, from these words on
-abbrev pub costs_from : ℕ → ScaledProduct → ℕ → Place → List PoolEvent → ℕ
+abbrev pub costs_from : ℕ → ScaledProduct → ℕ → EpochScale → List PoolEvent → ℕ
 costs_from account now amount place [] = 0
 costs_from account now amount place (Own owner put paid gain left ∷ es) =
     let recorded = if owner == account then left else amount in

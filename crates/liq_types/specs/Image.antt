@@ -4,7 +4,7 @@
 use Rattle.std.specs.Prelude.{◌≡◌, ℕ, ◌⊎◌, []}
 use Rattle.liq_types.specs.declared.amounts.TheConstants.{LIM, LIM_OF_VERSION_1, PRICE_OPENING, P_OPENING}
 pub use Rattle.liq_types.specs.declared.image.Image.{Image}
-pub use Rattle.liq_types.specs.Tables.{Place}
+pub use Rattle.liq_types.specs.Tables.{EpochScale}
 
 -- the most collateral inside, and the most LUSD, is one of two numbers
 abbrev pub IsLimit : ℕ → Type 0

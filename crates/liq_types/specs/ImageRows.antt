@@ -10,7 +10,7 @@ use Rattle.liq_types.specs.declared.image.SurplusRow.{SurplusRow}
 use Rattle.liq_types.specs.declared.image.FinishedSum.{FinishedSum}
 use Rattle.liq_types.specs.declared.image.DepositRow.{DepositRow}
 use Rattle.liq_types.specs.declared.image.ClientRow.{ClientRow}
-use Rattle.liq_types.specs.Tables.{Place}
+use Rattle.liq_types.specs.Tables.{EpochScale}
 
 abbrev pub wallet_row : WalletRow → ℕ × Wallet
 wallet_row r = (r.account, record { coll = r.coll; lusd = r.lusd })
@@ -30,7 +30,7 @@ trove_row r = (
 abbrev pub surplus_row : SurplusRow → ℕ × ℕ
 surplus_row r = (r.account, r.coll)
 
-abbrev pub finished_row : FinishedSum → Place × ℕ
+abbrev pub finished_row : FinishedSum → EpochScale × ℕ
 finished_row f = ((f.epoch, f.scale), f.sum)
 
 abbrev pub deposit_row : DepositRow → ℕ × Deposit

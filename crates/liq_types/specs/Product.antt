@@ -6,7 +6,7 @@ use Rattle.std.specs.Ordering.{nat_cmp, ordering_then}
 use Rattle.std.specs.declared.cmp.Ordering.{Ordering}
 use Rattle.liq_num.specs.Quotient.{floor_of}
 use Rattle.liq_types.specs.declared.amounts.TheConstants.{LIM, P_OPENING, P_LEAST}
-use Rattle.liq_types.specs.Image.{Image, Place}
+use Rattle.liq_types.specs.Image.{Image, EpochScale}
 use Rattle.liq_types.specs.State.{PoolOffset, PoolMark}
 
 -- the product, and the scale and the epoch in which it counts
@@ -77,14 +77,14 @@ prod i offsets = fold after_offset (start_words i) offsets
 
 -- ---- the sums
 
-abbrev pub place_of : ScaledProduct → Place
+abbrev pub place_of : ScaledProduct → EpochScale
 place_of w = (w.epoch, w.scale)
 
-abbrev pub is_place : Place → Place → Bool
+abbrev pub is_place : EpochScale → EpochScale → Bool
 is_place a b = a.0 == b.0 && a.1 == b.1
 
 -- places ascend by epoch and, within an epoch, by scale
-abbrev pub place_order : Place → Place → Ordering
+abbrev pub place_order : EpochScale → EpochScale → Ordering
 place_order a b = ordering_then (nat_cmp a.0 b.0) (nat_cmp a.1 b.1)
 
 -- what an offset adds to the sum of its place
@@ -92,24 +92,24 @@ abbrev pub sum_growth : ScaledProduct → PoolOffset → ℕ
 sum_growth w o = floor_of o.coll w.p o.total
 
 -- what a list of offsets, made from these words on, adds to the sum of a place
-abbrev pub growth_at : ScaledProduct → List PoolOffset → Place → ℕ
+abbrev pub growth_at : ScaledProduct → List PoolOffset → EpochScale → ℕ
 growth_at w [] place = 0
 growth_at w (o ∷ os) place =
     (if is_place (place_of w) place then sum_growth w o else 0) + growth_at (after_offset w o)
     os place
 
-abbrev pub start_sum : Image → Place → ℕ
+abbrev pub start_sum : Image → EpochScale → ℕ
 start_sum i place =
     if is_place (i.epoch, i.scale) place then i.sum
     else unwrap_or (lookup (is_place place) i.finished) 0
 
-abbrev pub sumat : Image → List PoolOffset → Place → ℕ
+abbrev pub sumat : Image → List PoolOffset → EpochScale → ℕ
 sumat i offsets place = start_sum i place + growth_at (start_words i) offsets place
 
 -- ---- the sums that are finished
 
 -- the places that a list of offsets, made from these words on, leaves behind
-abbrev pub places_left : ScaledProduct → List PoolOffset → List Place
+abbrev pub places_left : ScaledProduct → List PoolOffset → List EpochScale
 places_left w [] = []
 places_left w (o ∷ os) =
     let next = after_offset w o in
@@ -117,10 +117,10 @@ places_left w (o ∷ os) =
     if is_place (place_of w) (place_of next) then later else place_of w ∷ later
 
 -- a finished sum of 0 is not kept
-abbrev pub with_finished : List (Place × ℕ) → Place → ℕ → List (Place × ℕ)
+abbrev pub with_finished : List (EpochScale × ℕ) → EpochScale → ℕ → List (EpochScale × ℕ)
 with_finished table place sum = if sum == 0 then table else insert_entry place_order table place sum
 
-abbrev pub finished_sums : Image → List PoolOffset → List (Place × ℕ)
+abbrev pub finished_sums : Image → List PoolOffset → List (EpochScale × ℕ)
 finished_sums i offsets =
     fold (λ table place. with_finished table place (sumat i offsets place)) i.finished
     (places_left (start_words i) offsets)

@@ -10,7 +10,7 @@ use Rattle.liq_types.specs.declared.figures.Client.{Client}
 use Rattle.liq_types.specs.declared.figures.Trove.{Trove}
 use Rattle.liq_types.specs.declared.figures.Deposit.{Deposit}
 use Rattle.liq_types.specs.Codes.{value_count}
-use Rattle.liq_types.specs.Image.{Image, Place}
+use Rattle.liq_types.specs.Image.{Image, EpochScale}
 use Rattle.liq_types.specs.Product.{place_order, start_sum}
 use Rattle.liq_types.specs.State.{is_used_wallet}
 use Rattle.liq_types.specs.Tables.{Table}
@@ -120,7 +120,7 @@ abbrev pub is_product : ℕ → Bool
 is_product p = nat_le P_LEAST p && nat_le p P_OPENING
 
 -- a place is before another
-abbrev pub is_before : Place → Place → Bool
+abbrev pub is_before : EpochScale → EpochScale → Bool
 is_before a b = nat_lt a.0 b.0 || (a.0 == b.0 && nat_lt a.1 b.1)
 
 -- each record raises scale and epoch by a bounded number
@@ -137,11 +137,11 @@ has_sound_words i records =
     && is_sum_beside i.sum i.p
     && nat_le i.scale (places_most i.generation records) && nat_le i.epoch
     (places_most i.generation records)
-    && list_all (λ (row : Place × ℕ). nat_le row.1 (OFFSET_MOST * P_OPENING) && is_before row.0
+    && list_all (λ (row : EpochScale × ℕ). nat_le row.1 (OFFSET_MOST * P_OPENING) && is_before row.0
     (i.epoch, i.scale)) i.finished
 
 -- a deposit is sound by the place of now and the sum of its own place
-abbrev pub is_sound_deposit : Place → ℕ → Deposit → Bool
+abbrev pub is_sound_deposit : EpochScale → ℕ → Deposit → Bool
 is_sound_deposit now sum d =
     is_product d.p
     && not (is_before now (d.epoch, d.scale))

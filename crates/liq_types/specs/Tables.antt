@@ -8,8 +8,8 @@ abbrev pub Table : Type 0 → Type 0
 Table X = List (ℕ × X)
 
 -- an epoch and a scale: where the Stability Pool's sum is counted
-abbrev pub Place : Type 0
-Place = ℕ × ℕ
+abbrev pub EpochScale : Type 0
+EpochScale = ℕ × ℕ
 
 -- what the table has at a key
 abbrev pub at : {X : Type 0} → Table X → ℕ → Option X

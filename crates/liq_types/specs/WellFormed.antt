@@ -7,12 +7,12 @@ use Rattle.std.specs.List.Sorted.{IsStrictlySortedBy}
 use Rattle.std.specs.Map.{keys_of, values_of}
 use Rattle.std.specs.Ordering.{nat_cmp}
 use Rattle.liq_types.specs.declared.figures.Trove.{Trove}
-use Rattle.liq_types.specs.Image.{Image, Place}
+use Rattle.liq_types.specs.Image.{Image, EpochScale}
 use Rattle.liq_types.specs.State.{State, Mark, AtStart, After, TroveEntry, DepositEntry, PoolOffset}
 use Rattle.liq_types.specs.Tables.{Table}
 
 -- a place comes before another: in an earlier epoch, or at a lower scale of the same one
-abbrev pub IsBefore : Place → Place → Type 0
+abbrev pub IsBefore : EpochScale → EpochScale → Type 0
 IsBefore a b = (a.0 < b.0) ⊎ ((a.0 ≡ b.0) × (a.1 < b.1))
 
 abbrev pub IsMoment : {F : Type 0} → ℕ → Mark F → Type 0
@@ -20,7 +20,8 @@ IsMoment items (AtStart fields) = Unit {0}
 IsMoment items (After n) = n ≤ items
 
 abbrev pub AreFinished : Image → Type 0
-AreFinished i = AllByRecursion (λ (row : Place × ℕ). IsBefore row.0 (i.epoch, i.scale)) i.finished
+AreFinished i = AllByRecursion (λ (row : EpochScale × ℕ).
+    IsBefore row.0 (i.epoch, i.scale)) i.finished
 
 abbrev pub TrovesAreMarked : ℕ → Table TroveEntry → Type 0
 TrovesAreMarked items troves =

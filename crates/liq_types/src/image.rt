@@ -204,7 +204,7 @@ impl ImageRow for FinishedSum {
     ghost entry = { finished_row };
 }
 
-/// The finished sums of an image, in ascending places.
+/// The finished sums of an image, in ascending epochs and scales.
 pub type FinishedRows = ImageRows<FinishedSum>;
 
 impl ImageRow for DepositRow {

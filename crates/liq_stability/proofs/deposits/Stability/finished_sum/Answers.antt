@@ -4,7 +4,7 @@ use Rattle.std.specs.Map.{lookup}
 use Rattle.std.specs.declared.cmp.Ordering.TheVariants.{Equal}
 use Rattle.std.proofs.lemmas.List.Sorted.{answers_always}
 use Rattle.liq_types.specs.declared.amounts.TheConstants.{OFFSET_MOST, P_OPENING}
-use Rattle.liq_types.specs.Tables.{Place}
+use Rattle.liq_types.specs.Tables.{EpochScale}
 use Rattle.liq_types.specs.Product.{is_place, place_order}
 use Rattle.liq_stability.proofs.Finishing.{key, found, not_parted, sum_within, IsParted}
 use Rattle.liq_stability.proofs.Keeping.{sums_within}
@@ -12,7 +12,7 @@ use Rattle.liq_stability.proofs.deposits.Stability.finished_sum.Goals as goal
 
 pub returns-in-Ok-clause-sum : goal.returns-in-Ok-clause-sum
 returns-in-Ok-clause-sum c =
-    let place : Place = (c.args.epoch, c.args.scale) in
+    let place : EpochScale = (c.args.epoch, c.args.scale) in
     let items = c.self.inside.finished.items in
     let by_key = c.in-Ok.ensures.position (λ f. (f.epoch, f.scale)) (answers_always _ _ _ (λ f a r g called.
     search rules)) in
@@ -40,7 +40,7 @@ returns-in-Ok-clause-within c =
 
 pub returns-in-Err-clause-sum : goal.returns-in-Err-clause-sum
 returns-in-Err-clause-sum c =
-    let place : Place = (c.args.epoch, c.args.scale) in
+    let place : EpochScale = (c.args.epoch, c.args.scale) in
     let items = c.self.inside.finished.items in
     let by_key = c.in-Err.ensures.position (λ f. (f.epoch, f.scale)) (answers_always _ _ _ (λ f a r g called.
     search rules)) in
