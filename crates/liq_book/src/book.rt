@@ -17,50 +17,14 @@ use crate::service::Closed;
 use liq_core::laws::protocols_are_sound;
 use liq_outside::Disk;
 use liq_store::Store;
-use liq_types::{Answer, Entry, Hint, NoMemory, Request};
+use liq_types::{Answer, Entry, Hint, NoMemory, Request, Seq};
 use liq_views::{Publication, Publisher};
 use std::alloc::Global;
 use std::marker::{Model, PhantomData};
 use std::sync::Wait;
 
-/// Entries in their order. Contracts see the list of them.
-pub struct History {
-    list: Vec<Entry>,
-}
-
-// odd: drop written out
-impl Drop for History {
-    fn drop(self) {
-        let History { list: _ } = self;
-    }
-}
-
-impl Model for History {
-    ghost use Rattle.std.specs.Prelude.{List};
-    ghost use Rattle.liq_types.specs.declared.entries.Entry.{Entry};
-
-    ghost Value = { List Entry };
-
-    ghost view = { λ h. h.list.items };
-}
-
-impl History {
-    /// No entries.
-    pub fn new(alloc: Global) -> History
-        ensures { result ≡ [] }
-    {
-        History {
-            list: Vec::new(alloc),
-        }
-    }
-
-    /// The entries.
-    pub fn as_slice(&self) -> &[Entry]
-        ensures { result.now ≡ self.now }
-    {
-        self.list.as_slice()
-    }
-}
+/// Entries in their order.
+pub type History = Seq<Entry>;
 
 /// A store with the history of its calls, and the publisher of its list. Contracts see the store,
 /// the entries, the halt, once a call met a disk's fault, and the batches that were published or
@@ -157,7 +121,7 @@ impl<D: Disk, O: Origin> Book<D, O> {
         publisher.close(rt);
         Closed {
             store,
-            history: History { list: entries },
+            history: History::of(entries),
             halt,
             of,
         }

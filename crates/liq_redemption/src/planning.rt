@@ -7,7 +7,7 @@ ghost use Rattle.liq_redemption.specs.Answers.{Answers};
 ghost use Rattle.liq_redemption.specs.Given.{IsMarket, AreEntireWithin};
 ghost use Rattle.liq_redemption.specs.Redemption as rules;
 
-use crate::cuts::Cuts;
+use crate::cuts::{Cuts, drawn_by};
 use crate::fault::RedeemFault;
 use crate::walk::{Walk, along};
 use liq_num::{GWEI_PER_ETH, ratio_sides};
@@ -110,7 +110,7 @@ fn come_to(market: &Market, walk: Walk, amount: u64, bound: u64) -> Result<Redee
         let net = walk.first_net.unwrap_or(0);
         return Err(Refusal::NothingRedeemed { amount, net });
     }
-    let drawn = walk.cuts.drawn();
+    let drawn = drawn_by(&walk.cuts);
     let kept = Rate {
         base: market.base,
         minute: market.fee_minute,

@@ -1,10 +1,7 @@
 //! What a session works with, and what it comes to.
 
-ghost use Rattle.std.specs.Prelude.{◌≡◌};
-
 use crate::script::Script;
-use liq_types::{Answer, Desk, Reply};
-use std::marker::Model;
+use liq_types::{Answer, Desk, Reply, Seq};
 
 /// What a session works with: its script, its seat at a desk, and who finds its hints.
 #[derive(Drop)]
@@ -17,36 +14,8 @@ where
     pub hinter: H,
 }
 
-/// Replies in the order of their requests. Contracts see the list of them.
-#[derive(Drop)]
-pub struct Replies {
-    list: Vec<Reply>,
-}
-
-impl Model for Replies {
-    ghost use Rattle.std.specs.Prelude.{List};
-    ghost use Rattle.liq_types.specs.declared.replies.Reply.{Reply};
-
-    ghost Value = { List Reply };
-
-    ghost view = { λ r. r.list.items };
-}
-
-impl Replies {
-    /// The replies of a list.
-    pub(crate) fn of(list: Vec<Reply>) -> Replies
-        ensures { result ≡ list.items }
-    {
-        Replies { list }
-    }
-
-    /// The replies.
-    pub fn as_slice(&self) -> &[Reply]
-        ensures { result.now ≡ self.now }
-    {
-        self.list.as_slice()
-    }
-}
+/// Replies in the order of their requests.
+pub type Replies = Seq<Reply>;
 
 /// How a session ended.
 #[derive(Clone, Copy)]

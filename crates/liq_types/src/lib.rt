@@ -23,6 +23,7 @@ pub mod laws;
 pub mod lengths;
 pub mod replies;
 pub mod requests;
+pub mod seq;
 
 pub use codes::{code_of, numbers_of, value_count};
 pub use counting::Steps;
@@ -38,3 +39,4 @@ pub use image::{
 pub use lengths::RowCounts;
 pub use replies::{Answer, Done, Info, NoMemory, Refusal, Reply};
 pub use requests::{Call, Command, Query, Request};
+pub use seq::Seq;
