@@ -25,10 +25,10 @@ pub fn encode(alloc: Global, image: &Image) -> Result<Vec<u8>, NoMemory>
     ensures length { IfOk result (λ b. length b.items ≡ checkpoint_length image.now) }
     ensures read { IfOk result (λ b. image_at (length b.items) b.items ≡ Ok image.now) }
 {
-    written(alloc, image)
+    write_image(alloc, image)
 }
 
-fn written(alloc: Global, image: &Image) -> Result<Vec<u8>, NoMemory>
+fn write_image(alloc: Global, image: &Image) -> Result<Vec<u8>, NoMemory>
     ensures { IfOk result (λ b. Puts (name image.now.limit) b.items (contents image.now)) }
 {
     let room = counts(image)

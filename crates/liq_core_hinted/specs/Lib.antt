@@ -1,3 +1,3 @@
 pub mod Hints
 pub mod ListGuides
-pub mod Redone
+pub mod Replays

@@ -14,7 +14,7 @@ ghost use Rattle.liq_core.specs.Turn.{Plans};
 ghost use Rattle.liq_rule_step.specs.Step.{step};
 ghost use Rattle.liq_rule_step.specs.Verbs.{rotates};
 ghost use Rattle.liq_core_hinted.specs.Hints.{IsExact, hint_used};
-ghost use Rattle.liq_core_hinted.specs.Redone.{IsRedone};
+ghost use Rattle.liq_core_hinted.specs.Replays.{Replays};
 
 use crate::hints::Hints;
 use crate::list_guide::ListGuide;
@@ -188,7 +188,7 @@ impl Guided {
         steps: &mut Steps<L>,
     ) -> Result<(), RedoFault>
         ensures redone { (s : State) → StandsFor self.old s
-            → IsRedone s command.now self.new result }
+            → Replays s command.now self.new result }
         ensures counted { rotates command.now.call ≡ false
             → OnOk result (self.new.records ≡ self.old.records + 1) }
         ensures generation { rotates command.now.call ≡ false

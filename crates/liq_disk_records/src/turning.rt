@@ -16,8 +16,8 @@ use liq_journal::{DiskFault, Journal};
 use liq_outside::Disk;
 
 /// Begins the next generation with this checkpoint on the disk beside the one that is taken, as
-/// `Journal::turn` does, and tells the side that is taken from then on: the other one. After
-/// `DiskFault` the same disk is taken, and its journal is as it was.
+/// `Journal::begin_generation` does, and tells the side that is taken from then on: the other one.
+/// After `DiskFault` the same disk is taken, and its journal is as it was.
 pub fn turn<D: Disk>(
     taken: &mut Journal<D>,
     beside: &mut D,
@@ -49,7 +49,7 @@ pub fn turn<D: Disk>(
         (λ _. CrashOfCreate D.at beside.old taken.new.disk
         (taken.old.generation + 1) checkpoint.now)
         (λ _. CrashOfCreate D.at beside.old beside.new (taken.old.generation + 1) checkpoint.now) }
-    // Its device calls are those of `Journal::turn`.
+    // Its device calls are those of `Journal::begin_generation`.
     ensures calls { OnOk result (SettledIn D.at 0 (creating_calls checkpoint.now)
         beside.old taken.new.disk) }
     ensures lasts { MatchResult result
@@ -59,7 +59,7 @@ pub fn turn<D: Disk>(
         (λ _. (D.at taken.new.disk).faults ≡ (D.at beside.old).faults)
         (λ _. Counted (D.at beside.old).faults (D.at beside.new).faults) }
 {
-    match taken.turn(beside, checkpoint) {
+    match taken.begin_generation(beside, checkpoint) {
         Ok(()) => Ok(side.other()),
         Err(fault) => Err(fault),
     }

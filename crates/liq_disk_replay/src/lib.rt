@@ -9,4 +9,4 @@ mod replay;
 
 pub use fault::ReplayFault;
 pub use onlooker::Onlooker;
-pub use replay::retold;
+pub use replay::replay_commands;

@@ -26,7 +26,7 @@ use std::sync::ledger::{Blank, Ledger};
 /// under this limit, and gives the protocol after them. The onlooker notes each.
 /// [`ReplayFault::Damaged`] comes exactly where the replay does not accept a command, where there
 /// is memory.
-pub fn retold<O: Onlooker>(
+pub fn replay_commands<O: Onlooker>(
     alloc: Global,
     limit: u64,
     commands: &[Command],
@@ -42,11 +42,11 @@ pub fn retold<O: Onlooker>(
         → replay 1 (opening_with limit) commands.now ≡ Err damage }
 {
     // odd: steps counted
-    retold_on::<O, Brand>(alloc, limit, commands, onlooker, Blank::new(1))
+    replay_commands_on::<O, Brand>(alloc, limit, commands, onlooker, Blank::new(1))
 }
 
 /// The same, on a ledger of its own.
-fn retold_on<O: Onlooker, L: Ledger>(
+fn replay_commands_on<O: Onlooker, L: Ledger>(
     alloc: Global,
     limit: u64,
     commands: &[Command],

@@ -43,12 +43,12 @@ fn stake_line(line: &[u8]) -> Option<StakeLine>
     ensures { result ≡ line_of (pieces_of line.now) }
 {
     let (at, account, verb, amount) = four_words(line)?;
-    asked(at, account, verb, amount)
+    stake_line_in(at, account, verb, amount)
 }
 
 /// What four words ask for.
 #[tactic(auto, unfolding(crate::specs::Reading::line_of, crate::specs::Reading::line_by))]
-fn asked(at: &[u8], account: &[u8], verb: &[u8], amount: &[u8]) -> Option<StakeLine>
+fn stake_line_in(at: &[u8], account: &[u8], verb: &[u8], amount: &[u8]) -> Option<StakeLine>
     ensures { result ≡ line_of (at.now ∷ account.now ∷ verb.now ∷ amount.now ∷ []) }
 {
     let at = read_number(at)?;

@@ -118,7 +118,7 @@ impl Fees {
     {
         self.coll = self.coll.after(coll, self.staked);
         self.lusd = self.lusd.after(lusd, self.staked);
-        self.shares = counted(self.shares, self.staked);
+        self.shares = next_share_count(self.shares, self.staked);
     }
 
     /// What an account has staked and all that it has gained: of either asset never more than its
@@ -176,7 +176,7 @@ fn moved(amount: u64, out: bool, staked: u64, stake: u64) -> (u64, u64)
 }
 
 /// How many fees were shared, with one more that is shared where anybody has a stake.
-fn counted(shares: u64, staked: u64) -> u64
+fn next_share_count(shares: u64, staked: u64) -> u64
     requires { shares ≤ FEES_MOST }
     ensures { result ≡ (if staked == 0 then shares else shares + 1) }
 {

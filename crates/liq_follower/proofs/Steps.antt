@@ -10,8 +10,8 @@ use Rattle.liq_follower.specs.declared.header.Judged.{Judged}
 use Rattle.liq_follower.specs.declared.header.Judged.TheVariants as judged
 use Rattle.liq_follower.specs.declared.phase.Phase.{Phase}
 use Rattle.liq_follower.specs.declared.phase.Phase.TheVariants.{Header, Inside}
-use Rattle.liq_follower.specs.declared.record.Redone.TheVariants as redone
-use Rattle.liq_core_hinted.specs.Redone.{MayWantMemory}
+use Rattle.liq_follower.specs.declared.record.RecordReplay.TheVariants as redone
+use Rattle.liq_core_hinted.specs.Replays.{MayWantMemory}
 use Rattle.liq_follower.specs.Fed.{AreDamagedAt, Completes, EndsWhole, IsBegun, IsNoRecord, IsRecordOf, LackOne, LeadTo, begun_limit}
 use Rattle.liq_follower.specs.Following.{EndsAs, Followed, IsAt, IsInPhase, StandsBeforeLast}
 use Rattle.liq_follower.specs.Judging.{IsJudged, IsTaken, IsUnfit, phase_of}

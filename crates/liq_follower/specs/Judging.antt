@@ -10,11 +10,11 @@ use Rattle.liq_disk_header.specs.Layout.{generation_on, layout_on}
 use Rattle.liq_journal.specs.Written.{command_from, first_fault, header_tests}
 use Rattle.liq_follower.specs.declared.header.Judged.{Judged}
 use Rattle.liq_follower.specs.declared.header.Judged.TheVariants.{Damaged, Right, Turned}
-use Rattle.liq_follower.specs.declared.record.Redone.{Redone}
-use Rattle.liq_follower.specs.declared.record.Redone.TheVariants.{Made, NoMemory, Refused}
+use Rattle.liq_follower.specs.declared.record.RecordReplay.{RecordReplay}
+use Rattle.liq_follower.specs.declared.record.RecordReplay.TheVariants.{Made, NoMemory, Refused}
 use Rattle.liq_follower.specs.declared.phase.Phase.{Phase}
 use Rattle.liq_follower.specs.declared.phase.Phase.TheVariants as phase
-use Rattle.liq_core_hinted.specs.Redone.{MayWantMemory}
+use Rattle.liq_core_hinted.specs.Replays.{MayWantMemory}
 use Rattle.liq_follower.specs.Fed.{IsNoRecord, IsRecordOf, is_turned}
 
 -- no test of the header fails; or one does, and it isn't turned
@@ -45,10 +45,10 @@ IsTested index raw (Some command) = IsRecordOf index raw command
 IsTested index raw None = IsNoRecord index raw
 
 -- what becomes of a command in a state that stands before it
-abbrev pub IsRedone : State → Command → Core → Redone → Type 0
-IsRedone s c core Made = (ruling s c ≡ Allowed) × StandsFor core (after s c)
-IsRedone s c core Refused = (ruling s c ≡ Allowed → ⊥) × StandsFor core s
-IsRedone s c core NoMemory = MayWantMemory s c × StandsFor core s
+abbrev pub ReplaysRecord : State → Command → Core → RecordReplay → Type 0
+ReplaysRecord s c core Made = (ruling s c ≡ Allowed) × StandsFor core (after s c)
+ReplaysRecord s c core Refused = (ruling s c ≡ Allowed → ⊥) × StandsFor core s
+ReplaysRecord s c core NoMemory = MayWantMemory s c × StandsFor core s
 
 -- the record of this number has a fault, or its command is not allowed
 abbrev pub IsUnfit : State → ℕ → List ℕ → Type 0
@@ -56,7 +56,7 @@ IsUnfit s index raw = IsNoRecord index raw ⊎ ((c : Command) × IsRecordOf inde
     × (ruling s c ≡ Allowed → ⊥))
 
 -- what becomes of a whole record of this number, in a state that stands before it
-abbrev pub IsTaken : State → ℕ → List ℕ → Core → Redone → Type 0
+abbrev pub IsTaken : State → ℕ → List ℕ → Core → RecordReplay → Type 0
 IsTaken s index raw core Made =
     (c : Command) × IsRecordOf index raw c × (ruling s c ≡ Allowed) × StandsFor core (after s c)
 IsTaken s index raw core Refused = IsUnfit s index raw × StandsFor core s

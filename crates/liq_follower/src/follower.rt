@@ -12,7 +12,7 @@ use crate::answers::{Fed, FedEnd};
 use crate::header::{Judged, begun_limit, header_size, judge};
 use crate::held::{BODY_AND_DIGEST, Held};
 use crate::phase::Phase;
-use crate::record::{Redone, take};
+use crate::record::{RecordReplay, take};
 use liq_core::Protocol;
 use liq_core_hinted::Guided;
 use liq_types::NoMemory;
@@ -81,7 +81,7 @@ impl Follower {
     }
 
     /// How many bytes were taken, up to the most that a `u64` holds.
-    pub fn taken(&self) -> u64
+    pub fn bytes_taken(&self) -> u64
         ensures { (bytes : List ℕ) → IsFed bytes self.now
             → result ≡ min (length bytes) (2 ^ 64 - 1) }
     {
@@ -345,15 +345,15 @@ impl Follower {
         let index = self.guided.records().saturating_add(1);
         let raw = self.held.with(last);
         match take(&mut self.guided, &raw, index) {
-            Redone::Made => {
+            RecordReplay::Made => {
                 self.phase = Phase::Gate;
                 Ok(())
             }
-            Redone::Refused => {
+            RecordReplay::Refused => {
                 self.phase = Phase::Damaged { index };
                 Ok(())
             }
-            Redone::NoMemory => Err(NoMemory),
+            RecordReplay::NoMemory => Err(NoMemory),
         }
     }
 }

@@ -5,7 +5,7 @@ ghost use Rattle.liq_types.specs.State.{State};
 ghost use Rattle.liq_core.specs.Core.{StandsFor};
 ghost use Rattle.liq_journal.specs.Written.{is_rotate};
 ghost use Rattle.liq_disk_header.specs.RecordDigest.{record_digest};
-ghost use Rattle.liq_follower.specs.Judging.{IsRedone, IsSpelled, IsTaken, IsTested};
+ghost use Rattle.liq_follower.specs.Judging.{ReplaysRecord, IsSpelled, IsTaken, IsTested};
 
 use crate::held::BODY_AND_DIGEST;
 use liq_core_hinted::{Guided, RedoFault};
@@ -17,7 +17,7 @@ use std::sync::ledger::{Blank, Ledger};
 
 // What became of a command.
 #[derive(Clone, Copy)]
-pub enum Redone {
+pub enum RecordReplay {
     Made,
     // The rules refuse it, or it is a repetition.
     Refused,
@@ -42,7 +42,7 @@ fn has_digest(raw: &[u8; BODY_AND_DIGEST], index: u64) -> bool
 
 // The command that the body spells, whatever the digest: none where it is no command, or a
 // rotation.
-fn spelled(raw: &[u8; BODY_AND_DIGEST]) -> Option<Command>
+fn decode_record(raw: &[u8; BODY_AND_DIGEST]) -> Option<Command>
     ensures spelled { IsSpelled raw.now result }
     ensures stays { IfSome result (λ c. is_rotate c.call ≡ false) }
 {
@@ -57,37 +57,39 @@ fn spelled(raw: &[u8; BODY_AND_DIGEST]) -> Option<Command>
 
 // The command of the record of this number in the first generation: its digest is right, and its
 // body is a command that is no rotation.
-fn tested(raw: &[u8; BODY_AND_DIGEST], index: u64) -> Option<Command>
+fn test_record(raw: &[u8; BODY_AND_DIGEST], index: u64) -> Option<Command>
     ensures tested { IsTested index raw.now result }
     ensures stays { IfSome result (λ c. is_rotate c.call ≡ false) }
 {
     if !has_digest(raw, index) {
         return None;
     }
-    spelled(raw)
+    decode_record(raw)
 }
 
 // Makes the step of a command. Its steps are counted on a ledger of their own.
-pub fn redo<L: Ledger>(protocol: &mut Guided, command: &Command, blank: Blank) -> Redone
+pub fn redo<L: Ledger>(protocol: &mut Guided, command: &Command, blank: Blank) -> RecordReplay
     requires name { blank.name ≡ L.name }
     requires parts { blank.parts ≡ L.parts }
     requires one { L.parts ≡ 1 }
     requires stays { is_rotate command.now.call ≡ false }
-    ensures { (s : State) → StandsFor protocol.old s → IsRedone s command.now protocol.new result }
+    ensures { (s : State) → StandsFor protocol.old s
+        → ReplaysRecord s command.now protocol.new result }
 {
     let mut steps = Steps::<L>::new(blank);
     match protocol.redo(command, &mut steps) {
-        Ok(()) => Redone::Made,
-        Err(RedoFault::Again(_)) => Redone::Refused,
-        Err(RedoFault::No(_)) => Redone::Refused,
-        Err(RedoFault::NoMemory) => Redone::NoMemory,
+        Ok(()) => RecordReplay::Made,
+        Err(RedoFault::Again(_)) => RecordReplay::Refused,
+        Err(RedoFault::No(_)) => RecordReplay::Refused,
+        Err(RedoFault::NoMemory) => RecordReplay::NoMemory,
     }
 }
 
 // The same, on a ledger of one part.
-fn make(protocol: &mut Guided, command: &Command) -> Redone
+fn make(protocol: &mut Guided, command: &Command) -> RecordReplay
     requires stays { is_rotate command.now.call ≡ false }
-    ensures { (s : State) → StandsFor protocol.old s → IsRedone s command.now protocol.new result }
+    ensures { (s : State) → StandsFor protocol.old s
+        → ReplaysRecord s command.now protocol.new result }
 {
     // odd: steps counted
     redo::<Brand>(protocol, command, Blank::new(1))
@@ -95,11 +97,11 @@ fn make(protocol: &mut Guided, command: &Command) -> Redone
 
 // Makes the step of the command of a whole record of this number, if it has one and the rules allow
 // it.
-pub fn take(protocol: &mut Guided, raw: &[u8; BODY_AND_DIGEST], index: u64) -> Redone
+pub fn take(protocol: &mut Guided, raw: &[u8; BODY_AND_DIGEST], index: u64) -> RecordReplay
     ensures { (s : State) → StandsFor protocol.old s → IsTaken s index raw.now protocol.new result }
 {
-    match tested(raw, index) {
+    match test_record(raw, index) {
         Some(command) => make(protocol, &command),
-        None => Redone::Refused,
+        None => RecordReplay::Refused,
     }
 }

@@ -2,9 +2,9 @@
 //! begin, and how many there are.
 //!
 //! ```text
-//! create, open --> open -- append --> open, with one more record
-//!                       -- turn   --> open on the other disk, as the next generation without
-//!                                     records; the old disk stays as it was
+//! create, open --> open -- append ----------> open, with one more record
+//!                       -- begin_generation > open on the other disk, as the next generation
+//!                                             without records; the old disk stays as it was
 //! ```
 //!
 //! The count may be one above the most records that a replay accepts, so that the first record too
@@ -136,7 +136,7 @@ impl<D: Disk> Journal<D> {
     ///
     /// After `DiskFault` the journal is as it was, on its own disk. A crash leaves of the other
     /// disk what one in `create` leaves.
-    pub fn turn(&mut self, beside: &mut D, checkpoint: &[u8]) -> Result<(), DiskFault>
+    pub fn begin_generation(&mut self, beside: &mut D, checkpoint: &[u8]) -> Result<(), DiskFault>
         requires more { self.old.generation + 1 < 2 ^ 64 }
         requires limit { length checkpoint.now ≤ 2 ^ 36 }
         requires size { is_size (self.old.generation + 1) (length checkpoint.now) ≡ true }

@@ -30,7 +30,7 @@ struct Raw {
 }
 
 // The command of a record whose body begins at the place, or its first fault.
-fn tested(raw: &Raw, generation: u64, index: u64, place: u64) -> Result<Command, What>
+fn test_record(raw: &Raw, generation: u64, index: u64, place: u64) -> Result<Command, What>
     requires { place ≤ 2 ^ 40 }
     ensures { MatchResult result
         (λ c. record_on generation index place (raw.now.body ++ raw.now.stored) ≡ Ok c)
@@ -55,14 +55,14 @@ fn tested(raw: &Raw, generation: u64, index: u64, place: u64) -> Result<Command,
 }
 
 // The command that the body spells, which begins at the place; or the record's first fault.
-fn spelled(raw: &Raw, generation: u64, index: u64, place: u64) -> Result<Command, What>
+fn decode_record(raw: &Raw, generation: u64, index: u64, place: u64) -> Result<Command, What>
     requires { place ≤ 2 ^ 40 }
     ensures { MatchResult result (IsBodyOf raw.now.body)
         (λ what. record_on generation index place (raw.now.body ++ raw.now.stored) ≡ Err what) }
 {
     match decode(&raw.body) {
         Ok(command) if !matches!(command.call, Call::Rotate) => Ok(command),
-        _ => tested(raw, generation, index, place),
+        _ => test_record(raw, generation, index, place),
     }
 }
 
@@ -94,7 +94,7 @@ fn read_record<D: Disk>(
         return Ok(None);
     }
     let raw = split(&bytes[1..]);
-    match tested(&raw, generation, index, place + 1) {
+    match test_record(&raw, generation, index, place + 1) {
         Ok(_) => Ok(Some(raw.body)),
         Err(what) => Err(LookFault::Damaged(Damage { index, what })),
     }
@@ -135,7 +135,7 @@ pub fn read_body<D: Disk>(
         Err(_) => return Err(LookFault::DiskFault),
     }
     let raw = split(&bytes);
-    match tested(&raw, generation, index, place + 1) {
+    match test_record(&raw, generation, index, place + 1) {
         Ok(_) => Ok(raw.body),
         Err(what) => Err(LookFault::Damaged(Damage { index, what })),
     }
@@ -167,7 +167,7 @@ pub fn read_command<D: Disk>(
         Err(_) => return Err(LookFault::DiskFault),
     }
     let raw = split(&bytes);
-    match spelled(&raw, generation, index, place + 1) {
+    match decode_record(&raw, generation, index, place + 1) {
         Ok(command) => Ok(command),
         Err(what) => Err(LookFault::Damaged(Damage { index, what })),
     }

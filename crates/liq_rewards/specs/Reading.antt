@@ -12,7 +12,7 @@ tag_of word = if bytes_eq word (codes "tag") then Some tt else None
 unfoldable pub line_by : Option (Unit {0}) → Option ℕ → Option ℕ → Option ℕ → Option TagLine
 line_by tag account front rate =
     tag >>= λ tag. account >>= λ account. front >>= λ front. rate >>= λ rate.
-    Some (record { account = account; front = front; rate = rate })
+    Some (record { account = account; front = front; kept_part = rate })
 
 unfoldable pub line_of : List (List ℕ) → Option TagLine
 line_of (verb ∷ account ∷ front ∷ rate ∷ []) =

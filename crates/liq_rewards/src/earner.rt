@@ -80,7 +80,7 @@ impl Earner {
         requires { CanGoOn words sharing self }
         ensures { result ≡ earner_after words sharing event.now self }
     {
-        let earner = self.dealt(words, sharing);
+        let earner = self.after_sharing(words, sharing);
         match *event {
             PoolEvent::Own {
                 account,
@@ -98,7 +98,7 @@ impl Earner {
     }
 
     /// The account once the units that are due were shared or counted as unshared.
-    pub(crate) fn dealt(self, words: PoolWords, sharing: Option<Sharing>) -> Earner
+    pub(crate) fn after_sharing(self, words: PoolWords, sharing: Option<Sharing>) -> Earner
         requires due { IsSmallDue words sharing }
         requires small { IsSmall self }
         ensures { result ≡ dealt_with self words sharing }
@@ -193,15 +193,15 @@ impl Earner {
             return self.sums;
         }
         Sums {
-            first: self.risen(words, rise, 0, self.sums.first),
-            second: self.risen(words, rise, 1, self.sums.second),
-            third: self.risen(words, rise, 2, self.sums.third),
-            fourth: self.risen(words, rise, 3, self.sums.fourth),
+            first: self.sum_after_rise(words, rise, 0, self.sums.first),
+            second: self.sum_after_rise(words, rise, 1, self.sums.second),
+            third: self.sum_after_rise(words, rise, 2, self.sums.third),
+            fourth: self.sum_after_rise(words, rise, 3, self.sums.fourth),
         }
     }
 
     /// The sum at so many scales above the mark, once that at the pool's scale has risen.
-    fn risen(self, words: PoolWords, rise: u128, scales: u64, sum: u128) -> u128
+    fn sum_after_rise(self, words: PoolWords, rise: u128, scales: u64, sum: u128) -> u128
         requires scale { self.scale + scales < 2 ^ 64 }
         requires fits { sum + rise < 2 ^ 128 }
         ensures { result ≡ risen self words rise scales sum }

@@ -15,7 +15,7 @@ pub struct TagLine {
     /// The account of the front end.
     pub front: u32,
     /// The part of the rewards that the depositor keeps, over 10^18.
-    pub rate: u64,
+    pub kept_part: u64,
 }
 
 /// The line is not one on which a depositor names a front end.
@@ -38,12 +38,12 @@ fn tag_line(line: &[u8]) -> Option<TagLine>
     ensures { result ≡ line_of (pieces_of line.now) }
 {
     let (verb, account, front, rate) = four_words(line)?;
-    tagged(verb, account, front, rate)
+    tag_line_in(verb, account, front, rate)
 }
 
 /// What four words say.
 #[tactic(auto, unfolding(crate::specs::Reading::line_of, crate::specs::Reading::line_by))]
-fn tagged(verb: &[u8], account: &[u8], front: &[u8], rate: &[u8]) -> Option<TagLine>
+fn tag_line_in(verb: &[u8], account: &[u8], front: &[u8], rate: &[u8]) -> Option<TagLine>
     ensures { result ≡ line_of (verb.now ∷ account.now ∷ front.now ∷ rate.now ∷ []) }
 {
     tag_in(verb)?;
@@ -53,7 +53,7 @@ fn tagged(verb: &[u8], account: &[u8], front: &[u8], rate: &[u8]) -> Option<TagL
     Some(TagLine {
         account,
         front,
-        rate,
+        kept_part: rate,
     })
 }
 

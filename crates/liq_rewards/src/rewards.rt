@@ -158,7 +158,7 @@ impl Rewards {
         let earner = self
             .rows
             .earner(&self.words, account)
-            .dealt(self.words, sharing);
+            .after_sharing(self.words, sharing);
         RewardRow {
             account,
             reward: earner.reward(),

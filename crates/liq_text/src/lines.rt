@@ -12,7 +12,7 @@ use crate::bad_line::BadLine;
 use crate::calls::arguments;
 use crate::names::{VERBS, meaning};
 use crate::pieces::{Pieces, split_first};
-use crate::queries::asked;
+use crate::queries::parse_query;
 use crate::values;
 use liq_types::{Call, Command, Query, Request};
 
@@ -25,7 +25,7 @@ fn call(words: &mut Pieces<'_>) -> Option<Call>
 }
 
 /// The request on a line that begins as no query does.
-fn commanded(line: &[u8]) -> Option<Request>
+fn parse_command(line: &[u8]) -> Option<Request>
     requires { (rest : List ℕ) → line.now ≢ codes "? " ++ rest }
     ensures { result ≡ request_of (pieces_of line.now) }
 {
@@ -44,8 +44,8 @@ fn request(line: &[u8]) -> Option<Request>
     ensures { result ≡ request_of (pieces_of line.now) }
 {
     match line.strip_prefix(b"? ") {
-        Some(words) => Some(Request::Ask(asked(words)?)),
-        None => commanded(line),
+        Some(words) => Some(Request::Ask(parse_query(words)?)),
+        None => parse_command(line),
     }
 }
 
@@ -56,7 +56,7 @@ pub fn read_query(line: &[u8]) -> Option<Query>
     ensures only { (query : Query) → Spells line.now (Ask query) → result ≡ Some query }
 {
     match line.strip_prefix(b"? ") {
-        Some(words) => asked(words),
+        Some(words) => parse_query(words),
         None => None,
     }
 }

@@ -8,7 +8,7 @@ use liq_types::Query;
 
 /// The query that words spell. Each name is looked for with the space behind it, so that no word's
 /// end has to be found first.
-pub(crate) fn asked(words: &[u8]) -> Option<Query>
+pub(crate) fn parse_query(words: &[u8]) -> Option<Query>
     ensures { result ≡ query_of (pieces_of words.now) }
 {
     if let Some(word) = words.strip_prefix(b"wallet ") {

@@ -71,13 +71,13 @@ fn named_call(call: &Call) -> Named
         Call::Fund(account, coll) => words(b"fund", [account.into(), coll, 0, 0, 0, 0], 2),
         Call::Take(account, coll) => words(b"take", [account.into(), coll, 0, 0, 0, 0], 2),
         Call::Send(from, to, lusd) => words(b"send", [from.into(), to.into(), lusd, 0, 0, 0], 3),
-        Call::Open(account, coll, borrow, bound, hint) => hinted(
+        Call::Open(account, coll, borrow, bound, hint) => with_hint(
             b"open",
             [account.into(), coll, borrow, bound, 0, 0],
             4,
             hint,
         ),
-        Call::Adjust(account, coll_in, coll_out, borrow, repay, bound, hint) => hinted(
+        Call::Adjust(account, coll_in, coll_out, borrow, repay, bound, hint) => with_hint(
             b"adjust",
             [account.into(), coll_in, coll_out, borrow, repay, bound],
             6,
@@ -86,7 +86,7 @@ fn named_call(call: &Call) -> Named
         Call::Close(account) => words(b"close", [account.into(), 0, 0, 0, 0, 0], 1),
         Call::Provide(account, lusd) => words(b"provide", [account.into(), lusd, 0, 0, 0, 0], 2),
         Call::Withdraw(account, lusd) => words(b"withdraw", [account.into(), lusd, 0, 0, 0, 0], 2),
-        Call::GainToTrove(account, hint) => hinted(
+        Call::GainToTrove(account, hint) => with_hint(
             b"gain_to_trove",
             [account.into(), 0, 0, 0, 0, 0],
             1,
@@ -102,7 +102,7 @@ fn named_call(call: &Call) -> Named
             [liquidator.into(), count, 0, 0, 0, 0],
             2,
         ),
-        Call::Redeem(account, lusd, bound, hint) => hinted(
+        Call::Redeem(account, lusd, bound, hint) => with_hint(
             b"redeem",
             [account.into(), lusd, bound, 0, 0, 0],
             3,
@@ -151,7 +151,7 @@ fn words(name: &'static [u8], numbers: [u64; 6], count: usize) -> Named
     }
 }
 
-fn hinted(name: &'static [u8], numbers: [u64; 6], count: usize, hint: HintWords) -> Named
+fn with_hint(name: &'static [u8], numbers: [u64; 6], count: usize, hint: HintWords) -> Named
     ensures { result ≡ record {
       name = name.entry;
       numbers = numbers;

@@ -8,7 +8,7 @@ ghost use Rattle.liq_text_audit.specs.Replaying.{IsReplayed, StopsWithin};
 
 use crate::fault::ReviewFault;
 use liq_core::{Planned, Protocol};
-use liq_disk_replay::{Onlooker, retold};
+use liq_disk_replay::{Onlooker, replay_commands};
 use liq_types::{Command, NoMemory, PoolEvent};
 use std::alloc::Global;
 
@@ -29,7 +29,7 @@ pub(crate) fn replayed(alloc: Global, limit: u64, commands: &[Command]) -> Resul
     let mut seen = Seen {
         events: Vec::new(alloc),
     };
-    let protocol = retold(alloc, limit, commands, &mut seen)?;
+    let protocol = replay_commands(alloc, limit, commands, &mut seen)?;
     Ok(Made {
         protocol,
         events: seen.events,

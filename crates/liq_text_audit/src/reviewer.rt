@@ -21,7 +21,7 @@ use crate::fault::ReviewFault;
 use crate::limits::limit_gains;
 use crate::paid::gains_paid;
 use crate::replaying::replayed;
-use crate::shown::shown;
+use crate::shown::write_rows;
 use liq_audit::{Row, audit};
 use liq_core::Protocol;
 use liq_types::{Command, PoolEvent};
@@ -58,7 +58,7 @@ pub fn review(alloc: Global, limit: u64, commands: &[Command]) -> Result<Vec<u8>
     let made = replayed(alloc, limit, commands)?;
     limit_gains(&made.events)?;
     let rows = audited(alloc, &made.protocol, &made.events)?;
-    Ok(shown(alloc, &rows)?)
+    Ok(write_rows(alloc, &rows)?)
 }
 
 /// The rows of the accounts with an own operation.

@@ -10,7 +10,7 @@ use liq_types::NoMemory;
 use std::alloc::{AllocError, Global};
 
 /// A line for each row, and how many of how many are within theirs.
-pub(crate) fn shown(alloc: Global, rows: &[Row]) -> Result<Vec<u8>, NoMemory>
+pub(crate) fn write_rows(alloc: Global, rows: &[Row]) -> Result<Vec<u8>, NoMemory>
     ensures { IfOk result (λ text. text.items ≡ shown_rows rows.now) }
 {
     let mut text = Vec::new(alloc);

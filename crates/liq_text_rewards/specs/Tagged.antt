@@ -20,7 +20,7 @@ abbrev pub refusal_of : Tags → TagLine → Option TagRefusal
 refusal_of tags t =
     if nat_le ACCOUNTS t.account then Some (AccountRange t.account)
     else if nat_le ACCOUNTS t.front then Some (AccountRange t.front)
-    else if nat_lt ONE t.rate then Some (TagRate t.rate ONE)
+    else if nat_lt ONE t.kept_part then Some (TagRate t.kept_part ONE)
     else if is_some (at tags t.account) then Some (TagTwice t.account)
     else None
 
@@ -56,7 +56,7 @@ replies tags (t ∷ ts) = words_line (reply_words (refusal_of tags t)) ++ replie
 -- what the depositor keeps of its reward; the rest is the front end's
 abbrev pub kept_of : ℕ → Option TagLine → ℕ
 kept_of reward None = reward
-kept_of reward (Some t) = floor_of reward t.rate ONE
+kept_of reward (Some t) = floor_of reward t.kept_part ONE
 
 abbrev pub given_of : ℕ → Option TagLine → ℕ
 given_of reward tag = reward - kept_of reward tag

@@ -13,7 +13,7 @@ use crate::followed::followed;
 use crate::happened::{Happened, minute_of};
 use crate::owners::owners;
 use crate::text::rewards_text;
-use liq_disk_replay::{ReplayFault, retold};
+use liq_disk_replay::{ReplayFault, replay_commands};
 use liq_rewards::TagLine;
 use liq_types::Command;
 use std::alloc::Global;
@@ -42,7 +42,7 @@ pub fn rewarded(
         ≡ Err damage → ⊥) }
 {
     let mut happened = Happened::new(alloc);
-    let protocol = retold(alloc, limit, commands, &mut happened)?;
+    let protocol = replay_commands(alloc, limit, commands, &mut happened)?;
     let rewards = followed(alloc, happened.events(), minute_of(&protocol))?;
     let accounts = owners(alloc, happened.events())?;
     let mut text = Vec::new(alloc);

@@ -26,7 +26,7 @@ pub enum TagRefusal {
 }
 
 /// Answers each line, with a line of the text, and gives the tags that are accepted.
-pub(crate) fn answered(
+pub(crate) fn answer_tags(
     alloc: Global,
     lines: &[TagLine],
     text: &mut Vec<u8>,
@@ -74,9 +74,9 @@ fn refusal(tags: &BTreeMap<u32, TagLine>, line: &TagLine) -> Option<TagRefusal>
     if line.front >= ACCOUNTS {
         return Some(TagRefusal::AccountRange { value: line.front });
     }
-    if line.rate > ONE {
+    if line.kept_part > ONE {
         return Some(TagRefusal::TagRate {
-            rate: line.rate,
+            rate: line.kept_part,
             limit: ONE,
         });
     }
@@ -89,12 +89,12 @@ fn refusal(tags: &BTreeMap<u32, TagLine>, line: &TagLine) -> Option<TagRefusal>
 }
 
 /// What a depositor keeps of its reward; without a tag it is all of it.
-pub(crate) fn kept(reward: u64, tag: Option<TagLine>) -> u128
+pub(crate) fn part_kept(reward: u64, tag: Option<TagLine>) -> u128
     ensures { result ≡ kept_of reward tag }
 {
     match tag {
         None => u128::from(reward),
-        Some(tag) => part(reward, tag.rate),
+        Some(tag) => part(reward, tag.kept_part),
     }
 }
 

@@ -6,7 +6,7 @@ ghost use Rattle.liq_rewards.specs.Timed.{Timed};
 ghost use Rattle.liq_rewards.specs.Kept.{IsKeptOf};
 ghost use Rattle.liq_text_rewards.specs.Rewarded.{told, row_line};
 
-use crate::tags::answered;
+use crate::tags::answer_tags;
 use crate::told::{put_issued, put_row};
 use liq_rewards::{Rewards, TagLine};
 use liq_types::NoMemory;
@@ -43,7 +43,7 @@ fn text(
         text.items ≡ told lines.now rewards.now.minute past accounts.now) }
 {
     let mut text = Vec::new(alloc);
-    let tags = answered(alloc, lines, &mut text)?;
+    let tags = answer_tags(alloc, lines, &mut text)?;
     put_rows(&mut text, rewards, &tags, accounts)?;
     put_issued(&mut text, rewards.issued(), rewards.unshared())?;
     Ok(text)

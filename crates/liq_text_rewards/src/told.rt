@@ -5,7 +5,7 @@ ghost use Rattle.liq_text.specs.Writing.{words_line};
 ghost use Rattle.liq_text_rewards.specs.Tagged.{numbers_of, front_word};
 ghost use Rattle.liq_text_rewards.specs.Rewarded.{row_words};
 
-use crate::tags::{TagRefusal, kept};
+use crate::tags::{TagRefusal, part_kept};
 use itoa::Buffer;
 use liq_rewards::{RewardRow, TagLine};
 use liq_text::{append_line, append_number, append_numbers};
@@ -35,7 +35,7 @@ pub(crate) fn put_row(
     ensures { OnOk result (text.new.items ≡ text.old.items ++ words_line (row_words row tag)) }
 {
     let reward = u128::from(row.reward);
-    let kept = kept(row.reward, tag);
+    let kept = part_kept(row.reward, tag);
     text.extend_from_slice(Buffer::new().format(row.account).as_bytes())?;
     append_numbers(text, &[reward, row.allow, kept])?;
     put_front(text, tag)?;

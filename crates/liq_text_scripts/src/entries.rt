@@ -2,10 +2,10 @@
 
 ghost use Rattle.liq_rule_step.specs.Recorded.{recorded};
 
-use crate::output::Shown;
+use crate::output::ShownEntry;
 use liq_types::{Entry, Reply};
 
-impl Shown for Entry {
+impl ShownEntry for Entry {
     ghost entry = { recorded };
 
     fn session(&self) -> u8 {

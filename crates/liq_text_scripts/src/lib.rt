@@ -16,4 +16,4 @@ mod scripts;
 pub use input::read_scripts;
 pub use liq_text_gather::Stop;
 pub use outbox::Outbox;
-pub use output::{Shown, write_served};
+pub use output::{ShownEntry, write_served};

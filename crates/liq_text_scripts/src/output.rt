@@ -14,7 +14,7 @@ use liq_outside::{Failed, Sink};
 use liq_types::Reply;
 
 /// What the output shows of a history's entry.
-pub trait Shown {
+pub trait ShownEntry {
     /// The entry.
     ghost entry: { Self → Entry };
 
@@ -42,7 +42,7 @@ pub(crate) enum Part {
 
 /// Writes a history: the replies of each session that has any, and then the entries. Where the sink
 /// meets a fault, it holds a part of it. No memory is asked for.
-pub fn write_served<E: Shown, K: Sink>(
+pub fn write_served<E: ShownEntry, K: Sink>(
     entries: &[E],
     outbox: &mut Outbox,
     out: &mut K,
@@ -62,7 +62,7 @@ pub fn write_served<E: Shown, K: Sink>(
 }
 
 /// Sends the replies of all sessions.
-fn send_replies<E: Shown, K: Sink>(
+fn send_replies<E: ShownEntry, K: Sink>(
     entries: &[E],
     outbox: &mut Outbox,
     out: &mut K,
@@ -87,7 +87,7 @@ fn send_replies<E: Shown, K: Sink>(
 }
 
 /// Sends the replies of one session, if it has any.
-fn send_session<E: Shown, K: Sink>(
+fn send_session<E: ShownEntry, K: Sink>(
     entries: &[E],
     session: u8,
     has_entries: bool,
@@ -109,7 +109,7 @@ fn send_session<E: Shown, K: Sink>(
 }
 
 /// For each number of a session, whether some entry is that session's: one look at each entry.
-fn have_entries<E: Shown>(entries: &[E]) -> [bool; 256]
+fn have_entries<E: ShownEntry>(entries: &[E]) -> [bool; 256]
     ensures { (session : ℕ) → session < 256 → get_or result session false
         ≡ list_any (λ e. (E.entry e).session == session) entries.now }
 {
@@ -121,7 +121,7 @@ fn have_entries<E: Shown>(entries: &[E]) -> [bool; 256]
 }
 
 /// Sends the line of each entry.
-fn send_entries<E: Shown, K: Sink>(
+fn send_entries<E: ShownEntry, K: Sink>(
     entries: &[E],
     outbox: &mut Outbox,
     out: &mut K,
@@ -135,7 +135,7 @@ fn send_entries<E: Shown, K: Sink>(
 }
 
 /// Sends this part of each entry.
-fn send_each<E: Shown, K: Sink>(
+fn send_each<E: ShownEntry, K: Sink>(
     entries: &[E],
     part: Part,
     outbox: &mut Outbox,
@@ -153,7 +153,7 @@ fn send_each<E: Shown, K: Sink>(
 }
 
 /// Sends this part of an entry.
-fn send_part<E: Shown, K: Sink>(
+fn send_part<E: ShownEntry, K: Sink>(
     entry: &E,
     part: Part,
     outbox: &mut Outbox,
@@ -171,7 +171,7 @@ fn send_part<E: Shown, K: Sink>(
 }
 
 /// Sends the reply that the entry has, if it is the session's.
-fn send_own<E: Shown, K: Sink>(
+fn send_own<E: ShownEntry, K: Sink>(
     entry: &E,
     session: u8,
     outbox: &mut Outbox,

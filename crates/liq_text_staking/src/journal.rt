@@ -12,7 +12,7 @@ ghost use Rattle.liq_text_staking.specs.Staked.{staked_text};
 
 use crate::answering::answer_stakers;
 use crate::paid::Paid;
-use liq_disk_replay::{ReplayFault, retold};
+use liq_disk_replay::{ReplayFault, replay_commands};
 use liq_fees::{CHANGES_MOST, StakeLine};
 use liq_types::Command;
 use std::alloc::Global;
@@ -42,6 +42,6 @@ pub fn staked(
         → replay 1 (opening_with limit) commands.now ≡ Err damage → ⊥) }
 {
     let mut paid = Paid::new(alloc);
-    retold(alloc, limit, commands, &mut paid)?;
+    replay_commands(alloc, limit, commands, &mut paid)?;
     Ok(answer_stakers(alloc, paid.fees(), lines)?)
 }

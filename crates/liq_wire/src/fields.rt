@@ -41,20 +41,20 @@ pub fn fields_of(command: &Command) -> Fields
         Call::Take(account, coll) => plain(4, account, 0, [coll, 0, 0, 0, 0]),
         Call::Send(from, to, lusd) => plain(5, from, to, [lusd, 0, 0, 0, 0]),
         Call::Open(account, coll, borrow, bound, hints) => {
-            hinted(plain(6, account, 0, [coll, borrow, bound, 0, 0]), hints)
+            with_hints(plain(6, account, 0, [coll, borrow, bound, 0, 0]), hints)
         }
         Call::Adjust(account, coll_in, coll_out, borrow, repay, bound, hints) => {
             let amounts = [coll_in, coll_out, borrow, repay, bound];
-            hinted(plain(7, account, 0, amounts), hints)
+            with_hints(plain(7, account, 0, amounts), hints)
         }
         Call::Close(account) => plain(8, account, 0, [0; 5]),
         Call::Provide(account, lusd) => plain(9, account, 0, [lusd, 0, 0, 0, 0]),
         Call::Withdraw(account, lusd) => plain(10, account, 0, [lusd, 0, 0, 0, 0]),
-        Call::GainToTrove(account, hints) => hinted(plain(11, account, 0, [0; 5]), hints),
+        Call::GainToTrove(account, hints) => with_hints(plain(11, account, 0, [0; 5]), hints),
         Call::Liquidate(liquidator, owner) => plain(12, liquidator, owner, [0; 5]),
         Call::LiquidateLowest(liquidator, count) => plain(13, liquidator, 0, [count, 0, 0, 0, 0]),
         Call::Redeem(account, lusd, bound, hints) => {
-            hinted(plain(14, account, 0, [lusd, bound, 0, 0, 0]), hints)
+            with_hints(plain(14, account, 0, [lusd, bound, 0, 0, 0]), hints)
         }
         Call::Claim(account) => plain(15, account, 0, [0; 5]),
         Call::Rotate => plain(16, 0, 0, [0; 5]),
@@ -62,7 +62,7 @@ pub fn fields_of(command: &Command) -> Fields
 }
 
 // The fields with two hints.
-fn hinted(fields: Fields, hints: HintWords) -> Fields
+fn with_hints(fields: Fields, hints: HintWords) -> Fields
     ensures { result ≡ record fields {
       before = hint_word hints.prev;
       after = hint_word hints.next;

@@ -1,5 +1,5 @@
 -- A store of which the disk that it took was looked at, or none.
-use Rattle.std.proofs.Common.{◌≡◌, Err, Result, refl, sym, subst}
+use Rattle.std.proofs.Common.{◌≡◌, Result, refl, sym, subst}
 use Rattle.liq_outside.specs.At.{DiskAt}
 use Rattle.liq_outside.specs.Disk.{LeftNow, Looked}
 use Rattle.liq_outside.proofs.Moments.{started}
@@ -10,7 +10,6 @@ use Rattle.liq_store.specs.Causes.{counts_of}
 use Rattle.liq_store.specs.Stored.{Stored, disk_beside, taken_disk}
 use Rattle.liq_word_exit.specs.Causes.{DiskCause}
 use Rattle.liq_word_exit.specs.declared.halts.Halt.{Halt}
-use Rattle.liq_word_exit.specs.declared.halts.Halt.TheVariants.{BadLine, ReadFault, WriteFault, DiskFault, Damaged, DamagedInput, NoMemory, Limit, Rotated}
 use Rattle.liq_word_state.specs.Whole.{OnlyLooks}
 
 module _ {D : Type 0} (at : D → DiskAt) where

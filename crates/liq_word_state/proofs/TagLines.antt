@@ -11,7 +11,7 @@ pub tag_line_short : (line : List ℕ) (l : TagLine) → Spells line l → lengt
 tag_line_short line l h =
     let account = decimal l.account in
     let front = decimal l.front in
-    let rate = decimal l.rate in
+    let rate = decimal l.kept_part in
     omega (
       arith,
       ap length h.words,
@@ -20,5 +20,5 @@ tag_line_short line l h =
       length-append front (32 ∷ rate),
       number_short l.account (omega (arith, h.account)),
       number_short l.front (omega (arith, h.front)),
-      number_short l.rate h.rate,
+      number_short l.kept_part h.rate,
     )

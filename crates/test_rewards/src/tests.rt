@@ -163,7 +163,7 @@ const LINES: [(&[u8], Result<TagLine, BadTagLine>); 7] = [
         Ok(TagLine {
             account: 1,
             front: 9,
-            rate: 250_000_000_000_000_000,
+            kept_part: 250_000_000_000_000_000,
         }),
     ),
     (
@@ -171,7 +171,7 @@ const LINES: [(&[u8], Result<TagLine, BadTagLine>); 7] = [
         Ok(TagLine {
             account: 4_294_967_295,
             front: 1_048_576,
-            rate: 18_446_744_073_709_551_615,
+            kept_part: 18_446_744_073_709_551_615,
         }),
     ),
     (
@@ -179,7 +179,7 @@ const LINES: [(&[u8], Result<TagLine, BadTagLine>); 7] = [
         Ok(TagLine {
             account: 0,
             front: 0,
-            rate: 0,
+            kept_part: 0,
         }),
     ),
     (b"tag 4294967296 9 1", Err(BadTagLine)),
@@ -238,7 +238,7 @@ fn two_deposits_share(rt: HostRuntime) {
     let tag = TagLine {
         account: 1,
         front: 9,
-        rate: 250_000_000_000_000_000,
+        kept_part: 250_000_000_000_000_000,
     };
     let want = b"ok\n1 39999 8 9999 9 30000\n2 79999 10 79999 - 0\nissued 120000 unshared 0\n";
     text(&rt, rt.alloc(), &rewards, &[tag], &[1, 2], want);

@@ -4,7 +4,7 @@ ghost use Rattle.std.specs.Prelude.{◌≡◌, ◌<◌, []};
 
 use crate::tests::checks::{NOWHERE, same, shows};
 use crate::tests::drip::Drip;
-use liq_text_scripts::{Outbox, Shown, write_served};
+use liq_text_scripts::{Outbox, ShownEntry, write_served};
 use liq_types::{Done, Entry, Info, Query, Refusal, Reply, Request};
 use std::alloc::{AllocError, Global};
 use std::test::Fail;
@@ -67,7 +67,7 @@ const MIXED_OUTPUT: &[u8] =
 
 // Whether a sink that takes so many bytes in a call, and fails in the call of this number, holds
 // this text then. All is written where no call fails, and then alone.
-fn is_written<E: Shown>(
+fn is_written<E: ShownEntry>(
     alloc: Global,
     entries: &[E],
     most: usize,

@@ -7,14 +7,14 @@ use Rattle.liq_text.proofs.lines.read_query.Goals as goal
 
 pub returns-in-Some-clause-found : goal.returns-in-Some-clause-found
 returns-in-Some-clause-found c =
-    query_found c.args.line.now c.in-Some.words.now c.asked.result (strip_prefix_is Decides-eqb c.args.line.now
-    (codes "? ") (Some c.in-Some.words) c.in-Some.ensures.cases) c.asked.ensures
+    query_found c.args.line.now c.in-Some.words.now c.parse_query.result (strip_prefix_is Decides-eqb c.args.line.now
+    (codes "? ") (Some c.in-Some.words) c.in-Some.ensures.cases) c.parse_query.ensures
 
 pub returns-in-Some-clause-only : goal.returns-in-Some-clause-only
 returns-in-Some-clause-only c =
-    λ query s. query_only c.args.line.now c.in-Some.words.now c.asked.result query
+    λ query s. query_only c.args.line.now c.in-Some.words.now c.parse_query.result query
     (strip_prefix_is Decides-eqb c.args.line.now (codes "? ") (Some c.in-Some.words) c.in-Some.ensures.cases)
-    c.asked.ensures s
+    c.parse_query.ensures s
 
 pub returns-in-None-clause-only : goal.returns-in-None-clause-only
 returns-in-None-clause-only c = λ query s.

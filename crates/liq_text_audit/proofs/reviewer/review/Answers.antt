@@ -65,8 +65,12 @@ returns-in_err-rows-clause-fault c = search (
   c.deref-2.ensures.value,
 )
 
-pub returns-in_err-shown-clause-fault : goal.returns-in_err-shown-clause-fault
-returns-in_err-shown-clause-fault c = search (rules, c.in_err-shown.is, c.from_residual-in_err-shown.ensures)
+pub returns-in_err-write_rows-clause-fault : goal.returns-in_err-write_rows-clause-fault
+returns-in_err-write_rows-clause-fault c = search (
+  rules,
+  c.in_err-write_rows.is,
+  c.from_residual-in_err-write_rows.ensures,
+)
 
 pub returns-clause-text : goal.returns-clause-text
 returns-clause-text c = search (
@@ -75,7 +79,7 @@ returns-clause-text c = search (
   c.in_ok-limit_gains.ensures.within,
   c.in_ok-rows.ensures.within,
   c.in_ok-rows.ensures.rows,
-  c.in_ok-shown.ensures,
+  c.in_ok-write_rows.ensures,
   c.deref.ensures.value,
   c.deref-2.ensures.value,
   c.deref-3.ensures.value,

@@ -8,4 +8,4 @@ abbrev pub invariant-loop-entry : goal.invariant-loop-entry
 invariant-loop-entry g l =
     (length l.has_entries ≡ 256)
     × ((session : ℕ) → session < 256 → get_or l.has_entries session false
-    ≡ list_any (λ e. (g.E.Shown.entry e).session == session) (take l.entry-index l.entries))
+    ≡ list_any (λ e. (g.E.ShownEntry.entry e).session == session) (take l.entry-index l.entries))

@@ -8,7 +8,7 @@ use Rattle.liq_text_scripts.proofs.output.send_each.Goals as goal
 pub returns-in_err-send_part-clause-sends : goal.returns-in_err-send_part-clause-sends
 returns-in_err-send_part-clause-sends g c =
     let at = g.K.Sink.at in
-    let piece = sent_of g.E.Shown.entry c.args.part in
+    let piece = sent_of g.E.ShownEntry.entry c.args.part in
     let entries = c.args.entries.now in
     let fault = c.in_err-send_part.field-0.0 in
     let within : c.loop-entry.entry-index < length entries = omega (
@@ -27,7 +27,7 @@ returns-in_err-send_part-clause-sends g c =
 pub loop-entry-preserved : goal.loop-entry-preserved
 loop-entry-preserved g c =
     let at = g.K.Sink.at in
-    let piece = sent_of g.E.Shown.entry c.args.part in
+    let piece = sent_of g.E.ShownEntry.entry c.args.part in
     let entries = c.args.entries.now in
     let within : c.loop-entry.entry-index < length entries = omega (
       arith,
@@ -54,6 +54,6 @@ returns-clause-sends g c =
       c.loop-entry-test.false,
       c.loop-entry.auto.entry-index-end,
     ) in
-    each_done (sent_of g.E.Shown.entry c.args.part) entries
+    each_done (sent_of g.E.ShownEntry.entry c.args.part) entries
     (Ok tt) c.loop-entry.entry-index c.args.outbox.now c.loop-entry.outbox (at c.args.out.now).held
     (at c.loop-entry.out).held all c.loop-entry.invariant.sent

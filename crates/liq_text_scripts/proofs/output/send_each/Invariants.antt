@@ -10,7 +10,7 @@ invariant-loop-entry g l =
     let at = g.K.Sink.at in
     record {
       sent : Sends (Ok tt) l.fn.outbox
-          (flat_map (sent_of g.E.Shown.entry l.part) (take l.entry-index l.entries)) l.outbox (at l.fn.out).held
+          (flat_map (sent_of g.E.ShownEntry.entry l.part) (take l.entry-index l.entries)) l.outbox (at l.fn.out).held
           (at l.out).held;
       count : (at l.out).faults ≡ (at l.fn.out).faults;
       unshown : (at l.out).shown ≡ (at l.fn.out).shown;

@@ -10,4 +10,4 @@ returns-clause-sends g c =
     let at = g.K.Sink.at in
     subst (λ (t : List ℕ). Sends c.send_each.result c.args.outbox.now t c.send_each.new.outbox (at c.args.out.now).held
     (at c.send_each.new.out).held)
-    (sym (flat_map-map (part_text Call) g.E.Shown.entry c.args.entries.now)) c.send_each.ensures.sends
+    (sym (flat_map-map (part_text Call) g.E.ShownEntry.entry c.args.entries.now)) c.send_each.ensures.sends

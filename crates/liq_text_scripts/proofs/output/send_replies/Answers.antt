@@ -9,12 +9,12 @@ use Rattle.liq_text_scripts.proofs.output.send_replies.Goals as goal
 pub returns-in_err-send_session-clause-sends : goal.returns-in_err-send_session-clause-sends
 returns-in_err-send_session-clause-sends g c =
     let at = g.K.Sink.at in
-    let piece = session_part g.E.Shown.entry c.args.entries.now in
+    let piece = session_part g.E.ShownEntry.entry c.args.entries.now in
     let before = c.loop-before.before in
     let fault = c.in_err-send_session.field-0.0 in
     let within : before < 8 = omega (arith, c.loop-before-test.true) in
     sends_fault c.from_residual.result fault c.args.outbox.now
-    (replies_text (map g.E.Shown.entry c.args.entries.now)) c.send_session.new.outbox (at c.args.out.now).held
+    (replies_text (map g.E.ShownEntry.entry c.args.entries.now)) c.send_session.new.outbox (at c.args.out.now).held
     (at c.send_session.new.out).held c.from_residual.ensures.1
     (each_cut piece sessions fault before 0 c.args.outbox.now c.loop-before.outbox c.send_session.new.outbox
     (at c.args.out.now).held (at c.loop-before.out).held
@@ -26,7 +26,7 @@ returns-in_err-send_session-clause-sends g c =
 pub loop-before-preserved : goal.loop-before-preserved
 loop-before-preserved g c =
     let at = g.K.Sink.at in
-    let piece = session_part g.E.Shown.entry c.args.entries.now in
+    let piece = session_part g.E.ShownEntry.entry c.args.entries.now in
     let before = c.loop-before.before in
     let within : before < 8 = omega (arith, c.loop-before-test.true) in
     record {

@@ -11,7 +11,7 @@ invariant-loop-before g l =
     let at = g.K.Sink.at in
     record {
       sent : Sends (Ok tt) l.fn.outbox
-          (flat_map (session_part g.E.Shown.entry l.entries) (take l.before sessions)) l.outbox (at l.fn.out).held
+          (flat_map (session_part g.E.ShownEntry.entry l.entries) (take l.before sessions)) l.outbox (at l.fn.out).held
           (at l.out).held;
       count : (at l.out).faults ≡ (at l.fn.out).faults;
       unshown : (at l.out).shown ≡ (at l.fn.out).shown;

@@ -10,7 +10,7 @@ use Rattle.liq_text_scripts.proofs.output.send_session.Goals as goal
 pub returns-then-not-has_entries-clause-sends : goal.returns-then-not-has_entries-clause-sends
 returns-then-not-has_entries-clause-sends g c =
     let before = (g.K.Sink.at c.args.out.now).held in
-    let none = own-none g.E.Shown.entry c.args.session c.args.entries.now (sym c.requires.known
+    let none = own-none g.E.ShownEntry.entry c.args.session c.args.entries.now (sym c.requires.known
     ∙ c.if-not-has_entries.true) in
     subst (λ (own : List history.Entry). Sends (Ok tt) c.args.outbox.now (session_text c.args.session own)
     c.args.outbox.now before before) (sym none) (sends_nothing c.args.outbox.now before)
@@ -18,7 +18,7 @@ returns-then-not-has_entries-clause-sends g c =
 pub returns-in_err-send-clause-sends : goal.returns-in_err-send-clause-sends
 returns-in_err-send-clause-sends g c =
     let at = g.K.Sink.at in
-    let entry = g.E.Shown.entry in
+    let entry = g.E.ShownEntry.entry in
     let entries = c.args.entries.now in
     let fault = c.in_err-send.field-0.0 in
     let text = own-text entry c.args.session entries (sym c.requires.known ∙ c.if-not-has_entries.false) in
@@ -34,7 +34,7 @@ returns-in_err-send-clause-sends g c =
 pub returns-clause-sends : goal.returns-clause-sends
 returns-clause-sends g c =
     let at = g.K.Sink.at in
-    let entry = g.E.Shown.entry in
+    let entry = g.E.ShownEntry.entry in
     let entries = c.args.entries.now in
     let text = own-text entry c.args.session entries (sym c.requires.known ∙ c.if-not-has_entries.false) in
     subst (λ (t : List ℕ). Sends c.send_each.result c.args.outbox.now t c.send_each.new.outbox (at c.args.out.now).held

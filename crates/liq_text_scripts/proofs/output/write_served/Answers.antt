@@ -36,7 +36,7 @@ flushed result history w w1 w2 before mid after sent flush =
 pub returns-in_err-send_replies-clause-err : goal.returns-in_err-send_replies-clause-err
 returns-in_err-send_replies-clause-err g c =
     let at = g.K.Sink.at in
-    let history = map g.E.Shown.entry c.args.entries.now in
+    let history = map g.E.ShownEntry.entry c.args.entries.now in
     let fault = c.in_err-send_replies.field-0.0 in
     let waits = c.send_replies.new.outbox in
     let before = (at c.args.out.now).held in
@@ -53,7 +53,7 @@ returns-in_err-send_replies-clause-err g c =
 pub returns-in_err-send-clause-err : goal.returns-in_err-send-clause-err
 returns-in_err-send-clause-err g c =
     let at = g.K.Sink.at in
-    let history = map g.E.Shown.entry c.args.entries.now in
+    let history = map g.E.ShownEntry.entry c.args.entries.now in
     let fault = c.in_err-send.field-0.0 in
     let here = sends_more (Err fault) c.args.outbox.now
     (replies_text history) c.send_replies.new.outbox title c.send.new.self (at c.args.out.now).held
@@ -71,7 +71,7 @@ returns-in_err-send-clause-err g c =
 pub returns-in_err-send_entries-clause-err : goal.returns-in_err-send_entries-clause-err
 returns-in_err-send_entries-clause-err g c =
     let at = g.K.Sink.at in
-    let history = map g.E.Shown.entry c.args.entries.now in
+    let history = map g.E.ShownEntry.entry c.args.entries.now in
     let fault = c.in_err-send_entries.field-0.0 in
     part_written c.from_residual-in_err-send_entries.result c.args.outbox.now (served history) c.send_entries.new.outbox
     (at c.args.out.now).held (at c.send_entries.new.out).held c.requires
@@ -86,7 +86,7 @@ returns-in_err-send_entries-clause-err g c =
 pub returns-clause-ok : goal.returns-clause-ok
 returns-clause-ok g c =
     let at = g.K.Sink.at in
-    let history = map g.E.Shown.entry c.args.entries.now in
+    let history = map g.E.ShownEntry.entry c.args.entries.now in
     all_written c.flush.result c.args.outbox.now (served history) c.flush.new.self (at c.args.out.now).held
     (at c.flush.new.out).held c.requires c.flush.ensures.empty
     (flushed c.flush.result history c.args.outbox.now c.send_entries.new.outbox c.flush.new.self
@@ -99,7 +99,7 @@ returns-clause-ok g c =
 pub returns-clause-err : goal.returns-clause-err
 returns-clause-err g c =
     let at = g.K.Sink.at in
-    let history = map g.E.Shown.entry c.args.entries.now in
+    let history = map g.E.ShownEntry.entry c.args.entries.now in
     part_written c.flush.result c.args.outbox.now (served history) c.flush.new.self (at c.args.out.now).held
     (at c.flush.new.out).held c.requires
     (flushed c.flush.result history c.args.outbox.now c.send_entries.new.outbox c.flush.new.self

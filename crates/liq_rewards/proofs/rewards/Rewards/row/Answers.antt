@@ -23,15 +23,16 @@ of-sharing-requires-clause-product c = product_small _ c.self.invariant
 pub earner-requires : goal.earner-requires
 earner-requires c = row_before _ c.self.invariant c.args.account
 
-pub dealt-earner-requires-clause-small : goal.dealt-earner-requires-clause-small
-dealt-earner-requires-clause-small c =
+pub after_sharing-earner-requires-clause-small : goal.after_sharing-earner-requires-clause-small
+after_sharing-earner-requires-clause-small c =
     subst IsSmall (sym c.earner.ensures) (row_before _ c.self.invariant c.args.account)
 
 pub reward-requires-clause-small : goal.reward-requires-clause-small
 reward-requires-clause-small c =
     let own : c.earner.result ≡ earner_in (all_now c.self.inside.words c.self.inside.rows) c.args.account =
     c.earner.ensures in
-    let is = c.dealt-earner.ensures ∙ ap (λ (e : Earner). dealt_with e c.self.inside.words c.of-sharing.result) own
+    let is = c.after_sharing-earner.ensures ∙ ap (λ (e : Earner). dealt_with e c.self.inside.words
+    c.of-sharing.result) own
     ∙ ap (λ (o : Option Sharing). dealt_with (earner_in (all_now c.self.inside.words c.self.inside.rows)
     c.args.account) c.self.inside.words o) c.of-sharing.ensures.sharing in
     subst IsSmall (sym is) (row_after _ c.self.invariant c.args.account)
@@ -40,7 +41,8 @@ pub reward-requires-clause-within : goal.reward-requires-clause-within
 reward-requires-clause-within c =
     let own : c.earner.result ≡ earner_in (all_now c.self.inside.words c.self.inside.rows) c.args.account =
     c.earner.ensures in
-    let is = c.dealt-earner.ensures ∙ ap (λ (e : Earner). dealt_with e c.self.inside.words c.of-sharing.result) own
+    let is = c.after_sharing-earner.ensures ∙ ap (λ (e : Earner). dealt_with e c.self.inside.words
+    c.of-sharing.result) own
     ∙ ap (λ (o : Option Sharing). dealt_with (earner_in (all_now c.self.inside.words c.self.inside.rows)
     c.args.account) c.self.inside.words o) c.of-sharing.ensures.sharing in
     subst (λ (e : Earner). reward_by e ≤ UNITS_MOST) (sym is) (row_reward _ c.self.invariant c.args.account)
@@ -49,7 +51,8 @@ pub allowance-requires : goal.allowance-requires
 allowance-requires c =
     let own : c.earner.result ≡ earner_in (all_now c.self.inside.words c.self.inside.rows) c.args.account =
     c.earner.ensures in
-    let is = c.dealt-earner.ensures ∙ ap (λ (e : Earner). dealt_with e c.self.inside.words c.of-sharing.result) own
+    let is = c.after_sharing-earner.ensures ∙ ap (λ (e : Earner). dealt_with e c.self.inside.words
+    c.of-sharing.result) own
     ∙ ap (λ (o : Option Sharing). dealt_with (earner_in (all_now c.self.inside.words c.self.inside.rows)
     c.args.account) c.self.inside.words o) c.of-sharing.ensures.sharing in
     subst IsSmall (sym is) (row_after _ c.self.invariant c.args.account)
@@ -64,10 +67,11 @@ told : (c : goal.After-allowance) (past : List Timed) → IsKeptOf c.args.self.n
 told c past h =
     let own : c.earner.result ≡ earner_in (all_now c.self.inside.words c.self.inside.rows) c.args.account =
     c.earner.ensures in
-    let is = c.dealt-earner.ensures ∙ ap (λ (e : Earner). dealt_with e c.self.inside.words c.of-sharing.result) own
+    let is = c.after_sharing-earner.ensures ∙ ap (λ (e : Earner). dealt_with e c.self.inside.words
+    c.of-sharing.result) own
     ∙ ap (λ (o : Option Sharing). dealt_with (earner_in (all_now c.self.inside.words c.self.inside.rows)
     c.args.account) c.self.inside.words o) c.of-sharing.ensures.sharing in
-    row_told c.args.account c.reward.result c.allowance.result c.dealt-earner.result c.reward.ensures
+    row_told c.args.account c.reward.result c.allowance.result c.after_sharing-earner.result c.reward.ensures
     c.allowance.ensures
     ∙ ap (λ (e : Earner). row_by c.args.account e) is
     ∙ row_is _ past (subst (λ (v : Kept). IsKeptOf v past) (sym c.self.view_is) h) c.args.account

@@ -4,7 +4,7 @@ use Rattle.liq_text.specs.Reading.{a_number, account_of, call_of, others, pieces
 use Rattle.liq_text.specs.Pieces.{first_word, fails, unless}
 use Rattle.liq_text.proofs.FormLaws.{command_read}
 use Rattle.liq_text.proofs.LineLaws.{no_client, no_question}
-use Rattle.liq_text.proofs.lines.commanded.Goals as goal
+use Rattle.liq_text.proofs.lines.parse_command.Goals as goal
 
 pub returns-in_err-client : goal.returns-in_err-client
 returns-in_err-client c =

@@ -1,7 +1,7 @@
 use Rattle.std.proofs.Common.{◌≡◌, ◌++◌, List, ℕ, subst, ◌∙◌}
 use Rattle.liq_checkpoint.specs.Spelling.{Puts, contents, name}
 use Rattle.liq_checkpoint.proofs.Putting.{Puts-then}
-use Rattle.liq_checkpoint.proofs.encoding.written.Goals as goal
+use Rattle.liq_checkpoint.proofs.encoding.write_image.Goals as goal
 
 pub returns : goal.returns
 returns c =

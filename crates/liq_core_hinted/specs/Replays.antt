@@ -19,6 +19,6 @@ IsUnmade s c (No refusal) = ruling s c ≡ Refused refusal
 IsUnmade s c NoMemory = MayWantMemory s c
 
 -- a command that is made again in this state: its step is made, or none
-abbrev pub IsRedone : State → Command → Core → Result (Unit {0}) RedoFault → Type 0
-IsRedone s c core (Ok done) = (ruling s c ≡ Allowed) × StandsFor core (after s c)
-IsRedone s c core (Err fault) = IsUnmade s c fault × StandsFor core s
+abbrev pub Replays : State → Command → Core → Result (Unit {0}) RedoFault → Type 0
+Replays s c core (Ok done) = (ruling s c ≡ Allowed) × StandsFor core (after s c)
+Replays s c core (Err fault) = IsUnmade s c fault × StandsFor core s

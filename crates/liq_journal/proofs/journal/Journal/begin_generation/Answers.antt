@@ -1,7 +1,7 @@
 use Rattle.std.proofs.Common.{◌+◌}
 use Rattle.std.proofs.lemmas.Result.{err_from_is_err_and}
 use Rattle.liq_journal.proofs.Opening.{begun_settled}
-use Rattle.liq_journal.proofs.journal.Journal.turn.Goals as goal
+use Rattle.liq_journal.proofs.journal.Journal.begin_generation.Goals as goal
 
 pub returns-in_err-make-clause-reads : goal.returns-in_err-make-clause-reads
 returns-in_err-make-clause-reads g c =

@@ -1,5 +1,5 @@
 use Rattle.liq_text_rewards.proofs.Tagging.{replies_last, replies_next, tags_last, tags_next}
-use Rattle.liq_text_rewards.proofs.tags.answered.Goals as goal
+use Rattle.liq_text_rewards.proofs.tags.answer_tags.Goals as goal
 
 pub loop-line-preserved : goal.loop-line-preserved
 loop-line-preserved c =

@@ -2,7 +2,7 @@ use Rattle.std.proofs.Common.{ℕ, List, ◌++◌, length, ap, ◌∙◌}
 use Rattle.std.specs.List.{flat_map}
 use Rattle.liq_text_audit.specs.Shown.{shown, line_of, last_line}
 use Rattle.liq_text_audit.proofs.Lines.{no_more}
-use Rattle.liq_text_audit.proofs.shown.shown.Goals as goal
+use Rattle.liq_text_audit.proofs.shown.write_rows.Goals as goal
 
 pub returns : goal.returns
 unfolding shown

@@ -4,7 +4,7 @@ use Rattle.liq_rule_step.specs.Rules.{done_of}
 use Rattle.liq_core.specs.Core.{Core}
 use Rattle.liq_disk_replay.specs.Retold.{IsRetold}
 use Rattle.liq_disk_replay.proofs.Replays.{begun, next_made, next_stops, all_made, makes_same, has_come, done_same, handed_fault}
-use Rattle.liq_disk_replay.proofs.replay.retold_on.Goals as goal
+use Rattle.liq_disk_replay.proofs.replay.replay_commands_on.Goals as goal
 
 pub loop-i-init : goal.loop-i-init
 loop-i-init g c = begun g.O.Onlooker.adds c.args.limit c.args.commands.now c.with_limit-protocol.result _

@@ -1,6 +1,6 @@
 use Rattle.liq_journal.proofs.Testing.{not_rotate}
 use Rattle.liq_follower.proofs.Tests.{spells, spells_none, spells_rotation}
-use Rattle.liq_follower.proofs.record.spelled.Goals as goal
+use Rattle.liq_follower.proofs.record.decode_record.Goals as goal
 
 pub returns-in-Rotate-clause-spelled : goal.returns-in-Rotate-clause-spelled
 returns-in-Rotate-clause-spelled c = spells_rotation c.args.raw.now c.body_of.result c.body_of.ensures c.in-Ok.command

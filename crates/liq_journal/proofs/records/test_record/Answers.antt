@@ -1,7 +1,7 @@
 use Rattle.std.proofs.Common.{◌∙◌, sym, ap, rules}
 use Rattle.liq_journal.specs.Written.{command_from}
 use Rattle.liq_journal.proofs.Testing.{differs, agrees, rotation, no_rotation}
-use Rattle.liq_journal.proofs.records.tested.Goals as goal
+use Rattle.liq_journal.proofs.records.test_record.Goals as goal
 
 pub returns-then-ne : goal.returns-then-ne
 returns-then-ne c = differs c.args.generation c.args.index c.args.place c.args.raw.now.body c.args.raw.now.stored

@@ -4,7 +4,7 @@ use Rattle.std.proofs.lemmas.Bool.Decides.{Decides-eqb}
 use Rattle.std.proofs.lemmas.Slice.Eq.{strip_prefix_is}
 use Rattle.liq_text.specs.Reading.{account_of}
 use Rattle.liq_text.proofs.QueryLaws.{wallet_read, trove_read, deposit_read, next_number_read, pools_read, system_read, nothing_asked}
-use Rattle.liq_text.proofs.queries.asked.Goals as goal
+use Rattle.liq_text.proofs.queries.parse_query.Goals as goal
 
 pub returns-in_err-account : goal.returns-in_err-account
 returns-in_err-account c =

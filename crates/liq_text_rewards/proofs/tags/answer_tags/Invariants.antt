@@ -1,7 +1,7 @@
 use Rattle.std.proofs.Common.{◌≡◌, ◌++◌, [], drop}
 use Rattle.std.specs.Prelude.{fold}
 use Rattle.liq_text_rewards.specs.Tagged.{with_tag, tags_of, replies}
-use Rattle.liq_text_rewards.proofs.tags.answered.Given as goal
+use Rattle.liq_text_rewards.proofs.tags.answer_tags.Given as goal
 
 abbrev pub invariant-loop-line : goal.invariant-loop-line
 invariant-loop-line l = record {
