@@ -15,7 +15,7 @@ use Rattle.liq_disk_pair.specs.declared.side.Side.TheVariants.{Left, Right}
 use Rattle.liq_disk_pair.specs.Kept.{IsSettledFor}
 use Rattle.liq_disk_pair.specs.Pair.{commands_on, state_on}
 use Rattle.liq_disk_pair.specs.Replay.{outcome}
-use Rattle.liq_disk_pair.specs.Sides.{beside, has_odd, on, other}
+use Rattle.liq_disk_pair.specs.Sides.{has_odd, on, other}
 use Rattle.liq_core.proofs.Alike.{core_alike}
 use Rattle.liq_disk_pair.proofs.Beginning.{created_state}
 use Rattle.liq_disk_pair.proofs.Commands.{commands_by}
@@ -34,7 +34,7 @@ use Rattle.liq_store.specs.Standing.{HasCounts, IsCounted, IsHeldOn}
 use Rattle.liq_store.specs.Stored.{disk_beside}
 use Rattle.liq_store.specs.Within.{IsWithin, stored}
 use Rattle.liq_store.proofs.Appending.{all_has}
-use Rattle.liq_store.proofs.Going.{Going, order_going, taken_is, told_by}
+use Rattle.liq_store.proofs.Going.{Going, beside_is, order_going, taken_is, told_by}
 use Rattle.liq_store.proofs.OneDisk.{some_same, told_too}
 
 -- what holds of a store that begins
@@ -71,10 +71,6 @@ stood odd held generation start count core parity is holds =
     (one_journal odd held generation start count core parity is holds) is.stands)
 
 -- ---- by the side of the disk that is taken
-
-pub beside_is : {D : Type 0} (side : Side) (t b : D) → beside side (on side t b) (on side b t) ≡ b
-beside_is Left t b = refl
-beside_is Right t b = refl
 
 settled_with : (side : Side) (held now : List ℕ) (w : Written) (s : State) → LeadsTo w s
     → IsAside (has_odd (other side)) now w.generation → Stands (has_odd side) held w
