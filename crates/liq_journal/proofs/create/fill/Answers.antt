@@ -1,4 +1,7 @@
-use Rattle.std.proofs.Common.{◌≡◌, ◌+◌, ◌∙◌, length, option_map, rules}
+use Rattle.std.proofs.Common.{◌≡◌, ◌+◌, ◌∙◌, List, ℕ, Option, IfSome, length, option_map, rules, subst, sym}
+use Rattle.std.proofs.lemmas.Result.{err_from_is_err_and}
+use Rattle.std.specs.Result.{OnOk}
+use Rattle.liq_outside.specs.Disk.{LeftNow, Only}
 use Rattle.liq_disk_header.specs.Layout.{version_2, header_size}
 use Rattle.liq_journal.specs.Crash.{IsShut, filled}
 use Rattle.liq_outside.proofs.Moments.{call}
@@ -77,3 +80,56 @@ returns-clause-called g c =
       };
       cause = c.sync.ensures.cause;
     })
+
+-- ---- without an `Ok` there is nothing to show
+
+pub returns-in_err-write_behind-clause-filled : goal.returns-in_err-write_behind-clause-filled
+returns-in_err-write_behind-clause-filled g c =
+    let p = err_from_is_err_and c.from_residual.result c.from_residual.ensures.1 in rw p.1 tt
+
+pub returns-in_err-write_behind-clause-durable : goal.returns-in_err-write_behind-clause-durable
+returns-in_err-write_behind-clause-durable g c =
+    let p = err_from_is_err_and c.from_residual.result c.from_residual.ensures.1 in rw p.1 tt
+
+pub returns-in_err-write_behind-clause-calls : goal.returns-in_err-write_behind-clause-calls
+returns-in_err-write_behind-clause-calls g c =
+    let p = err_from_is_err_and c.from_residual.result c.from_residual.ensures.1 in rw p.1 tt
+
+pub returns-in_err-write_behind-2-clause-filled : goal.returns-in_err-write_behind-2-clause-filled
+returns-in_err-write_behind-2-clause-filled g c =
+    let p = err_from_is_err_and c.from_residual-in_err-write_behind-2.result
+    c.from_residual-in_err-write_behind-2.ensures.1 in rw p.1 tt
+
+pub returns-in_err-write_behind-2-clause-durable : goal.returns-in_err-write_behind-2-clause-durable
+returns-in_err-write_behind-2-clause-durable g c =
+    let p = err_from_is_err_and c.from_residual-in_err-write_behind-2.result
+    c.from_residual-in_err-write_behind-2.ensures.1 in rw p.1 tt
+
+pub returns-in_err-write_behind-2-clause-calls : goal.returns-in_err-write_behind-2-clause-calls
+returns-in_err-write_behind-2-clause-calls g c =
+    let p = err_from_is_err_and c.from_residual-in_err-write_behind-2.result
+    c.from_residual-in_err-write_behind-2.ensures.1 in rw p.1 tt
+
+pub returns-in_err-write_behind-3-clause-filled : goal.returns-in_err-write_behind-3-clause-filled
+returns-in_err-write_behind-3-clause-filled g c =
+    let p = err_from_is_err_and c.from_residual-in_err-write_behind-3.result
+    c.from_residual-in_err-write_behind-3.ensures.1 in rw p.1 tt
+
+pub returns-in_err-write_behind-3-clause-durable : goal.returns-in_err-write_behind-3-clause-durable
+returns-in_err-write_behind-3-clause-durable g c =
+    let p = err_from_is_err_and c.from_residual-in_err-write_behind-3.result
+    c.from_residual-in_err-write_behind-3.ensures.1 in rw p.1 tt
+
+pub returns-in_err-write_behind-3-clause-calls : goal.returns-in_err-write_behind-3-clause-calls
+returns-in_err-write_behind-3-clause-calls g c =
+    let p = err_from_is_err_and c.from_residual-in_err-write_behind-3.result
+    c.from_residual-in_err-write_behind-3.ensures.1 in rw p.1 tt
+
+pub returns-in_err-write_behind-clause-called : goal.returns-in_err-write_behind-clause-called
+returns-in_err-write_behind-clause-called g c =
+    record { lasts = c.write_behind.ensures.called.lasts; cause = search rules }
+
+pub returns-clause-durable : goal.returns-clause-durable
+returns-clause-durable g c =
+    subst (λ (o : Option (List ℕ)). OnOk c.sync.result (IfSome o (λ held. Only held (LeftNow g.D.Disk.at
+    c.sync.new.self)))) (sym c.sync.ensures.same) c.sync.ensures.synced

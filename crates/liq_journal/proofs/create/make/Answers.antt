@@ -87,3 +87,7 @@ from_start (Some held) = omega arith
 
 pub write_synced-requires-clause-inside : goal.write_synced-requires-clause-inside
 write_synced-requires-clause-inside g c = from_start (g.D.Disk.at c.fill.new.disk).seen
+
+pub returns-in_err-fill-clause-calls : goal.returns-in_err-fill-clause-calls
+returns-in_err-fill-clause-calls g c =
+    let p = err_from_is_err_and c.from_residual-in_err-fill.result c.from_residual-in_err-fill.ensures.1 in rw p.1 tt
