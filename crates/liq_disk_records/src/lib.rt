@@ -16,5 +16,5 @@ mod writing;
 pub use again::replay;
 pub use answers::AcceptedFault;
 pub use choosing::{is_of, later_side};
-pub use turning::turn;
+pub use turning::begin_generation;
 pub use writing::write_record;

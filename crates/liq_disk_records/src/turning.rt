@@ -18,7 +18,7 @@ use liq_outside::Disk;
 /// Begins the next generation with this checkpoint on the disk beside the one that is taken, as
 /// `Journal::begin_generation` does, and tells the side that is taken from then on: the other one.
 /// After `DiskFault` the same disk is taken, and its journal is as it was.
-pub fn turn<D: Disk>(
+pub fn begin_generation<D: Disk>(
     taken: &mut Journal<D>,
     beside: &mut D,
     side: Side,

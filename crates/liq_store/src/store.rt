@@ -46,7 +46,7 @@ use crate::telling::{clear, note};
 use liq_core::Protocol;
 use liq_core_hinted::{Guided, Hints, words_of};
 use liq_disk_pair::Side;
-use liq_disk_records::{AcceptedFault, later_side, turn, write_record};
+use liq_disk_records::{AcceptedFault, begin_generation, later_side, write_record};
 use liq_journal::Journal;
 use liq_outside::{Disk, Sink};
 use liq_types::{Answer, Call, Command, Hint, ListChange, Reply, Request};
@@ -255,7 +255,12 @@ impl<D: Disk> Store<D> {
             else {
                 return Answer::NoMemory;
             };
-            let side = match turn(&mut self.taken, &mut self.beside, self.side, &checkpoint) {
+            let side = match begin_generation(
+                &mut self.taken,
+                &mut self.beside,
+                self.side,
+                &checkpoint,
+            ) {
                 Ok(side) => side,
                 Err(_) => {
                     self.stopped = Some(sum_of_faults(&self.taken, &self.beside));

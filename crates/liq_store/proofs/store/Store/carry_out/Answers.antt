@@ -106,7 +106,8 @@ returns-in_default-checkpoint_after-clause-disks g c =
 
 pub invariant_of-self-in-Err : goal.invariant_of-self-in-Err
 invariant_of-self-in-Err g c =
-    let t = turns_by g.D.Disk.at c.self.inside.side c.self.inside.taken c.self.inside.beside c.turn.new.beside
+    let t = turns_by g.D.Disk.at c.self.inside.side c.self.inside.taken c.self.inside.beside
+    c.begin_generation.new.beside
     c.self.inside.protocol c.self.inside.stopped c.in-Do.command c.deref.result.now (ap (λ (o : Stored g.row.D.Denot).
     o.stopped) c.self.view_is ∙ c.requires.going) c.self.invariant
     (rotation_from c.self.inside.protocol c.prepare.new.protocol c.protocol.result.now c.in-Ready.planned
@@ -114,15 +115,16 @@ invariant_of-self-in-Err g c =
     (c.in-Ready.ensures.ready.0 ∙ unhinted_rotation c.in-Do.command c.in-Rotate.is) c.deref.ensures.value
     c.in-Ok.ensures.rotation)
     c.in-Err.ensures.lasts.telling c.in-Err.ensures.crash c.in-Err.ensures.lasts.time in
-    subst (λ (j : JournalOn g.row.D.Denot). IsWithin g.D.Disk.at c.self.inside.side j c.turn.new.beside
+    subst (λ (j : JournalOn g.row.D.Denot). IsWithin g.D.Disk.at c.self.inside.side j c.begin_generation.new.beside
     c.prepare.new.protocol (Some c.sum_of_faults.result) c.prepare.new.changes.items) (sym c.in-Err.ensures.kept)
-    (turning_halts g.D.Disk.at c.self.inside.side c.self.inside.taken c.self.inside.beside c.turn.new.beside
+    (turning_halts g.D.Disk.at c.self.inside.side c.self.inside.taken c.self.inside.beside c.begin_generation.new.beside
     c.self.inside.protocol c.in-Do.command c.deref.result.now t g.met.D.Disk.seen_may_stay c.self.inside.stopped
     c.self.invariant c.prepare.new.protocol c.prepare.ensures.same c.sum_of_faults.result)
 
 pub returns-in-Err-clause-order : goal.returns-in-Err-clause-order
 returns-in-Err-clause-order g c =
-    let t = turns_by g.D.Disk.at c.self.inside.side c.self.inside.taken c.self.inside.beside c.turn.new.beside
+    let t = turns_by g.D.Disk.at c.self.inside.side c.self.inside.taken c.self.inside.beside
+    c.begin_generation.new.beside
     c.self.inside.protocol c.self.inside.stopped c.in-Do.command c.deref.result.now (ap (λ (o : Stored g.row.D.Denot).
     o.stopped) c.self.view_is ∙ c.requires.going) c.self.invariant
     (rotation_from c.self.inside.protocol c.prepare.new.protocol c.protocol.result.now c.in-Ready.planned
@@ -130,16 +132,18 @@ returns-in-Err-clause-order g c =
     (c.in-Ready.ensures.ready.0 ∙ unhinted_rotation c.in-Do.command c.in-Rotate.is) c.deref.ensures.value
     c.in-Ok.ensures.rotation)
     c.in-Err.ensures.lasts.telling c.in-Err.ensures.crash c.in-Err.ensures.lasts.time in
-    subst (λ (j : JournalOn g.row.D.Denot). IsInOrder g.D.Disk.at (stored c.self.inside.side j c.turn.new.beside
+    subst (λ (j : JournalOn g.row.D.Denot). IsInOrder g.D.Disk.at (stored c.self.inside.side j
+    c.begin_generation.new.beside
     c.prepare.new.protocol (Some c.sum_of_faults.result) c.prepare.new.changes.items)) (sym c.in-Err.ensures.kept)
-    (turning_halts g.D.Disk.at c.self.inside.side c.self.inside.taken c.self.inside.beside c.turn.new.beside
+    (turning_halts g.D.Disk.at c.self.inside.side c.self.inside.taken c.self.inside.beside c.begin_generation.new.beside
     c.self.inside.protocol c.in-Do.command c.deref.result.now t {changes = c.prepare.new.changes.items}
     g.met.D.Disk.seen_may_stay c.self.inside.stopped c.self.invariant c.prepare.new.protocol c.prepare.ensures.same
     c.sum_of_faults.result).order
 
 pub returns-in-Err-clause-disks : goal.returns-in-Err-clause-disks
 returns-in-Err-clause-disks g c =
-    let t = turns_by g.D.Disk.at c.self.inside.side c.self.inside.taken c.self.inside.beside c.turn.new.beside
+    let t = turns_by g.D.Disk.at c.self.inside.side c.self.inside.taken c.self.inside.beside
+    c.begin_generation.new.beside
     c.self.inside.protocol c.self.inside.stopped c.in-Do.command c.deref.result.now (ap (λ (o : Stored g.row.D.Denot).
     o.stopped) c.self.view_is ∙ c.requires.going) c.self.invariant
     (rotation_from c.self.inside.protocol c.prepare.new.protocol c.protocol.result.now c.in-Ready.planned
@@ -148,87 +152,110 @@ returns-in-Err-clause-disks g c =
     c.in-Ok.ensures.rotation)
     c.in-Err.ensures.lasts.telling c.in-Err.ensures.crash c.in-Err.ensures.lasts.time in
     subst (λ (j : JournalOn g.row.D.Denot). WritesOn g.D.Disk.at c.args.self.now c.args.request.now answer.DiskFault
-    (stored c.self.inside.side j c.turn.new.beside c.prepare.new.protocol (Some c.sum_of_faults.result)
+    (stored c.self.inside.side j c.begin_generation.new.beside c.prepare.new.protocol (Some c.sum_of_faults.result)
     c.prepare.new.changes.items)) (sym c.in-Err.ensures.kept)
-    (turning_failed g.D.Disk.at c.self.inside.side c.self.inside.taken c.self.inside.beside c.turn.new.beside
+    (turning_failed g.D.Disk.at c.self.inside.side c.self.inside.taken c.self.inside.beside
+    c.begin_generation.new.beside
     c.self.inside.protocol c.in-Do.command c.deref.result.now t c.self.inside.stopped c.self.inside.changes.items
     c.self.invariant c.args.self.now c.self.view_is c.args.request.now c.in-Do.is c.prepare.new.protocol
     (Some c.sum_of_faults.result) c.prepare.new.changes.items)
 
 pub invariant_of-self-in-Rotate : goal.invariant_of-self-in-Rotate
 invariant_of-self-in-Rotate g c =
-    let t = turns_by g.D.Disk.at c.self.inside.side c.self.inside.taken c.self.inside.beside c.turn.new.taken.disk
+    let t = turns_by g.D.Disk.at c.self.inside.side c.self.inside.taken c.self.inside.beside
+    c.begin_generation.new.taken.disk
     c.self.inside.protocol c.self.inside.stopped c.in-Do.command c.deref.result.now (ap (λ (o : Stored g.row.D.Denot).
     o.stopped) c.self.view_is ∙ c.requires.going) c.self.invariant
     (rotation_from c.self.inside.protocol c.prepare.new.protocol c.protocol.result.now c.in-Ready.planned
     c.in-Do.command c.in-Ok.checkpoint.items c.deref.result.now c.prepare.ensures.same c.protocol.ensures
     (c.in-Ready.ensures.ready.0 ∙ unhinted_rotation c.in-Do.command c.in-Rotate.is) c.deref.ensures.value
     c.in-Ok.ensures.rotation)
-    c.in-Ok-turn.ensures.lasts.telling c.in-Ok-turn.ensures.crash c.in-Ok-turn.ensures.lasts.time in
-    subst (λ (x : Side). IsWithin g.D.Disk.at x c.turn.new.taken c.turn.new.beside c.make-done.new.protocol
-    c.self.inside.stopped c.prepare.new.changes.items) (sym c.in-Ok-turn.ensures.side)
-    (subst (λ (d : g.row.D.Denot). IsWithin g.D.Disk.at (other c.self.inside.side) c.turn.new.taken d
-    c.make-done.new.protocol c.self.inside.stopped c.prepare.new.changes.items) (sym c.in-Ok-turn.ensures.exchanged)
-    (subst (λ (o : Option ℕ). IsWithin g.D.Disk.at (other c.self.inside.side) c.turn.new.taken c.self.inside.taken.disk
+    c.in-Ok-begin_generation.ensures.lasts.telling c.in-Ok-begin_generation.ensures.crash
+    c.in-Ok-begin_generation.ensures.lasts.time in
+    subst (λ (x : Side). IsWithin g.D.Disk.at x c.begin_generation.new.taken c.begin_generation.new.beside
+    c.make-done.new.protocol
+    c.self.inside.stopped c.prepare.new.changes.items) (sym c.in-Ok-begin_generation.ensures.side)
+    (subst (λ (d : g.row.D.Denot). IsWithin g.D.Disk.at (other c.self.inside.side) c.begin_generation.new.taken d
+    c.make-done.new.protocol c.self.inside.stopped c.prepare.new.changes.items) (sym
+    c.in-Ok-begin_generation.ensures.exchanged)
+    (subst (λ (o : Option ℕ). IsWithin g.D.Disk.at (other c.self.inside.side) c.begin_generation.new.taken
+    c.self.inside.taken.disk
     c.make-done.new.protocol o c.prepare.new.changes.items)
     (sym (ap (λ (o : Stored g.row.D.Denot). o.stopped) c.self.view_is ∙ c.requires.going))
-    (turning_within g.D.Disk.at c.self.inside.side c.self.inside.taken c.self.inside.beside c.turn.new.taken.disk
+    (turning_within g.D.Disk.at c.self.inside.side c.self.inside.taken c.self.inside.beside
+    c.begin_generation.new.taken.disk
     c.self.inside.protocol c.in-Do.command c.deref.result.now t c.make-done.new.protocol
     (state_of c.self.inside.protocol) c.prepare.ensures.stands (λ t so. let is = c.in-Ready.ensures.prepared t so
     in prepared_steps c.make-done.new.protocol t c.in-Do.command c.in-Ready.planned is (c.make-done.ensures.state t
     (stands_after c.self.inside.protocol c.prepare.new.protocol t c.prepare.ensures.same so)))
-    c.in-Ok-turn.ensures.durable c.in-Ok-turn.ensures.created
-    c.turn.new.taken.generation c.turn.new.taken.limit c.turn.new.taken.start c.turn.new.taken.count
-    c.in-Ok-turn.ensures.known.0 c.in-Ok-turn.ensures.known.3 c.in-Ok-turn.ensures.settled)))
+    c.in-Ok-begin_generation.ensures.durable c.in-Ok-begin_generation.ensures.created
+    c.begin_generation.new.taken.generation c.begin_generation.new.taken.limit c.begin_generation.new.taken.start
+    c.begin_generation.new.taken.count
+    c.in-Ok-begin_generation.ensures.known.0 c.in-Ok-begin_generation.ensures.known.3
+    c.in-Ok-begin_generation.ensures.settled)))
 
 pub returns-in-Rotate-clause-order : goal.returns-in-Rotate-clause-order
 returns-in-Rotate-clause-order g c =
-    let t = turns_by g.D.Disk.at c.self.inside.side c.self.inside.taken c.self.inside.beside c.turn.new.taken.disk
+    let t = turns_by g.D.Disk.at c.self.inside.side c.self.inside.taken c.self.inside.beside
+    c.begin_generation.new.taken.disk
     c.self.inside.protocol c.self.inside.stopped c.in-Do.command c.deref.result.now (ap (λ (o : Stored g.row.D.Denot).
     o.stopped) c.self.view_is ∙ c.requires.going) c.self.invariant
     (rotation_from c.self.inside.protocol c.prepare.new.protocol c.protocol.result.now c.in-Ready.planned
     c.in-Do.command c.in-Ok.checkpoint.items c.deref.result.now c.prepare.ensures.same c.protocol.ensures
     (c.in-Ready.ensures.ready.0 ∙ unhinted_rotation c.in-Do.command c.in-Rotate.is) c.deref.ensures.value
     c.in-Ok.ensures.rotation)
-    c.in-Ok-turn.ensures.lasts.telling c.in-Ok-turn.ensures.crash c.in-Ok-turn.ensures.lasts.time in
-    subst (λ (x : Side). IsInOrder g.D.Disk.at (stored x c.turn.new.taken c.turn.new.beside c.make-done.new.protocol
-    c.self.inside.stopped c.prepare.new.changes.items)) (sym c.in-Ok-turn.ensures.side)
-    (subst (λ (d : g.row.D.Denot). IsInOrder g.D.Disk.at (stored (other c.self.inside.side) c.turn.new.taken d
-    c.make-done.new.protocol c.self.inside.stopped c.prepare.new.changes.items)) (sym c.in-Ok-turn.ensures.exchanged)
-    (subst (λ (o : Option ℕ). IsInOrder g.D.Disk.at (stored (other c.self.inside.side) c.turn.new.taken
+    c.in-Ok-begin_generation.ensures.lasts.telling c.in-Ok-begin_generation.ensures.crash
+    c.in-Ok-begin_generation.ensures.lasts.time in
+    subst (λ (x : Side). IsInOrder g.D.Disk.at (stored x c.begin_generation.new.taken c.begin_generation.new.beside
+    c.make-done.new.protocol
+    c.self.inside.stopped c.prepare.new.changes.items)) (sym c.in-Ok-begin_generation.ensures.side)
+    (subst (λ (d : g.row.D.Denot). IsInOrder g.D.Disk.at (stored (other c.self.inside.side)
+    c.begin_generation.new.taken d
+    c.make-done.new.protocol c.self.inside.stopped c.prepare.new.changes.items)) (sym
+    c.in-Ok-begin_generation.ensures.exchanged)
+    (subst (λ (o : Option ℕ). IsInOrder g.D.Disk.at (stored (other c.self.inside.side) c.begin_generation.new.taken
     c.self.inside.taken.disk c.make-done.new.protocol o c.prepare.new.changes.items))
     (sym (ap (λ (o : Stored g.row.D.Denot). o.stopped) c.self.view_is ∙ c.requires.going))
-    (turning_within g.D.Disk.at c.self.inside.side c.self.inside.taken c.self.inside.beside c.turn.new.taken.disk
+    (turning_within g.D.Disk.at c.self.inside.side c.self.inside.taken c.self.inside.beside
+    c.begin_generation.new.taken.disk
     c.self.inside.protocol c.in-Do.command c.deref.result.now t {changes = c.prepare.new.changes.items}
     c.make-done.new.protocol (state_of c.self.inside.protocol) c.prepare.ensures.stands
     (λ t so. let is = c.in-Ready.ensures.prepared t so
     in prepared_steps c.make-done.new.protocol t c.in-Do.command c.in-Ready.planned is (c.make-done.ensures.state t
     (stands_after c.self.inside.protocol c.prepare.new.protocol t c.prepare.ensures.same so)))
-    c.in-Ok-turn.ensures.durable c.in-Ok-turn.ensures.created
-    c.turn.new.taken.generation c.turn.new.taken.limit c.turn.new.taken.start c.turn.new.taken.count
-    c.in-Ok-turn.ensures.known.0 c.in-Ok-turn.ensures.known.3 c.in-Ok-turn.ensures.settled).order))
+    c.in-Ok-begin_generation.ensures.durable c.in-Ok-begin_generation.ensures.created
+    c.begin_generation.new.taken.generation c.begin_generation.new.taken.limit c.begin_generation.new.taken.start
+    c.begin_generation.new.taken.count
+    c.in-Ok-begin_generation.ensures.known.0 c.in-Ok-begin_generation.ensures.known.3
+    c.in-Ok-begin_generation.ensures.settled).order))
 
 pub returns-in-Rotate-clause-disks : goal.returns-in-Rotate-clause-disks
 returns-in-Rotate-clause-disks g c =
-    let t = turns_by g.D.Disk.at c.self.inside.side c.self.inside.taken c.self.inside.beside c.turn.new.taken.disk
+    let t = turns_by g.D.Disk.at c.self.inside.side c.self.inside.taken c.self.inside.beside
+    c.begin_generation.new.taken.disk
     c.self.inside.protocol c.self.inside.stopped c.in-Do.command c.deref.result.now (ap (λ (o : Stored g.row.D.Denot).
     o.stopped) c.self.view_is ∙ c.requires.going) c.self.invariant
     (rotation_from c.self.inside.protocol c.prepare.new.protocol c.protocol.result.now c.in-Ready.planned
     c.in-Do.command c.in-Ok.checkpoint.items c.deref.result.now c.prepare.ensures.same c.protocol.ensures
     (c.in-Ready.ensures.ready.0 ∙ unhinted_rotation c.in-Do.command c.in-Rotate.is) c.deref.ensures.value
     c.in-Ok.ensures.rotation)
-    c.in-Ok-turn.ensures.lasts.telling c.in-Ok-turn.ensures.crash c.in-Ok-turn.ensures.lasts.time in
+    c.in-Ok-begin_generation.ensures.lasts.telling c.in-Ok-begin_generation.ensures.crash
+    c.in-Ok-begin_generation.ensures.lasts.time in
     subst (λ (x : Side). WritesOn g.D.Disk.at c.args.self.now c.args.request.now
-    (answer.Reply (Said c.make-done.result)) (stored x c.turn.new.taken c.turn.new.beside c.make-done.new.protocol
-    c.self.inside.stopped c.prepare.new.changes.items)) (sym c.in-Ok-turn.ensures.side)
+    (answer.Reply (Said c.make-done.result)) (stored x c.begin_generation.new.taken c.begin_generation.new.beside
+    c.make-done.new.protocol
+    c.self.inside.stopped c.prepare.new.changes.items)) (sym c.in-Ok-begin_generation.ensures.side)
     (subst (λ (d : g.row.D.Denot). WritesOn g.D.Disk.at c.args.self.now c.args.request.now
-    (answer.Reply (Said c.make-done.result)) (stored (other c.self.inside.side) c.turn.new.taken d
-    c.make-done.new.protocol c.self.inside.stopped c.prepare.new.changes.items)) (sym c.in-Ok-turn.ensures.exchanged)
-    (turning_done g.D.Disk.at c.self.inside.side c.self.inside.taken c.self.inside.beside c.turn.new.taken.disk
+    (answer.Reply (Said c.make-done.result)) (stored (other c.self.inside.side) c.begin_generation.new.taken d
+    c.make-done.new.protocol c.self.inside.stopped c.prepare.new.changes.items)) (sym
+    c.in-Ok-begin_generation.ensures.exchanged)
+    (turning_done g.D.Disk.at c.self.inside.side c.self.inside.taken c.self.inside.beside
+    c.begin_generation.new.taken.disk
     c.self.inside.protocol c.in-Do.command c.deref.result.now t c.self.inside.stopped c.self.inside.changes.items
     c.self.invariant c.args.self.now c.self.view_is c.args.request.now c.in-Do.is (Said c.make-done.result)
-    c.make-done.new.protocol c.self.inside.stopped c.prepare.new.changes.items c.turn.new.taken.generation
-    c.turn.new.taken.limit c.turn.new.taken.start c.turn.new.taken.count c.in-Ok-turn.ensures.known.2))
+    c.make-done.new.protocol c.self.inside.stopped c.prepare.new.changes.items c.begin_generation.new.taken.generation
+    c.begin_generation.new.taken.limit c.begin_generation.new.taken.start c.begin_generation.new.taken.count
+    c.in-Ok-begin_generation.ensures.known.2))
 
 pub returns-in-Rotate-clause-step : goal.returns-in-Rotate-clause-step
 returns-in-Rotate-clause-step g c s stands =
@@ -533,7 +560,8 @@ returns-clause-stops g c = ap (λ (o : Stored g.row.D.Denot). o.stopped) c.self.
 
 pub returns-in-Err-clause-stops : goal.returns-in-Err-clause-stops
 returns-in-Err-clause-stops g c =
-    stopped_on g.D.Disk.at c.self.inside.side c.turn.new.taken.disk c.turn.new.beside c.args.self.now.stopped
+    stopped_on g.D.Disk.at c.self.inside.side c.begin_generation.new.taken.disk c.begin_generation.new.beside
+    c.args.self.now.stopped
     c.sum_of_faults.result c.requires.going c.sum_of_faults.ensures
 
 pub returns-in-Err-write_record-clause-stops : goal.returns-in-Err-write_record-clause-stops
@@ -565,22 +593,26 @@ returns-clause-cause g c =
 
 pub returns-in-Rotate-clause-cause : goal.returns-in-Rotate-clause-cause
 returns-in-Rotate-clause-cause g c =
-    ap₂ (λ (x : Side) (d : g.row.D.Denot). counts_of g.D.Disk.at (on x c.turn.new.taken.disk d)
-    (on x d c.turn.new.taken.disk)) c.in-Ok-turn.ensures.side c.in-Ok-turn.ensures.exchanged
-    ∙ turned_still g.D.Disk.at c.self.inside.side c.self.inside.taken.disk c.self.inside.beside c.turn.new.taken.disk
-    c.in-Ok-turn.ensures.cause
+    ap₂ (λ (x : Side) (d : g.row.D.Denot). counts_of g.D.Disk.at (on x c.begin_generation.new.taken.disk d)
+    (on x d c.begin_generation.new.taken.disk)) c.in-Ok-begin_generation.ensures.side
+    c.in-Ok-begin_generation.ensures.exchanged
+    ∙ turned_still g.D.Disk.at c.self.inside.side c.self.inside.taken.disk c.self.inside.beside
+    c.begin_generation.new.taken.disk
+    c.in-Ok-begin_generation.ensures.cause
     ∙ ap (λ (o : Stored g.row.D.Denot). counts_of g.D.Disk.at o.left o.right) c.self.view_is
 
 pub returns-in-Err-clause-cause : goal.returns-in-Err-clause-cause
 returns-in-Err-clause-cause g c =
     let side = c.self.inside.side in
     let before = counts_of g.D.Disk.at c.args.self.now.left c.args.self.now.right in
-    subst (λ (j : JournalOn g.row.D.Denot). OneRose before (counts_of g.D.Disk.at (on side j.disk c.turn.new.beside)
-    (on side c.turn.new.beside j.disk))) (sym c.in-Err.ensures.kept)
+    subst (λ (j : JournalOn g.row.D.Denot). OneRose before (counts_of g.D.Disk.at (on side j.disk
+    c.begin_generation.new.beside)
+    (on side c.begin_generation.new.beside j.disk))) (sym c.in-Err.ensures.kept)
     (subst (λ (o : Stored g.row.D.Denot). OneRose (counts_of g.D.Disk.at o.left o.right) (counts_of g.D.Disk.at
-    (on side c.self.inside.taken.disk c.turn.new.beside) (on side c.turn.new.beside c.self.inside.taken.disk)))
+    (on side c.self.inside.taken.disk c.begin_generation.new.beside) (on side c.begin_generation.new.beside
+    c.self.inside.taken.disk)))
     c.self.view_is
-    (beside_rose g.D.Disk.at side c.self.inside.taken.disk c.self.inside.beside c.turn.new.beside
+    (beside_rose g.D.Disk.at side c.self.inside.taken.disk c.self.inside.beside c.begin_generation.new.beside
     c.in-Err.ensures.cause.later c.in-Err.ensures.cause.rose))
 
 pub returns-in-Err-write_record-clause-cause : goal.returns-in-Err-write_record-clause-cause
@@ -622,14 +654,14 @@ checkpoint_after-requires-clause-planned g c s stands =
     (c.in-Ready.ensures.prepared s (stands_before c.self.inside.protocol c.prepare.new.protocol s c.prepare.ensures.same
     (subst (λ (k : Core). StandsFor k s) c.protocol.ensures stands))).1
 
-pub turn-requires-clause-more : goal.turn-requires-clause-more
-turn-requires-clause-more g c =
+pub begin_generation-requires-clause-more : goal.begin_generation-requires-clause-more
+begin_generation-requires-clause-more g c =
     let here = c.self.invariant.generation_is ∙ sym (ap (λ (i : Image). i.generation) c.prepare.ensures.same.image)
     ∙ sym (ap (λ (k : Core). k.image.generation) c.protocol.ensures) in
     omega (arith, here, c.checkpoint_after.ensures.generation)
 
-pub turn-requires-clause-size : goal.turn-requires-clause-size
-turn-requires-clause-size g c =
+pub begin_generation-requires-clause-size : goal.begin_generation-requires-clause-size
+begin_generation-requires-clause-size g c =
     let here = c.self.invariant.generation_is ∙ sym (ap (λ (i : Image). i.generation) c.prepare.ensures.same.image)
     ∙ sym (ap (λ (k : Core). k.image.generation) c.protocol.ensures) in
     (λ i. is_size (here i + 1) (length (c.deref.ensures.value i))) ∙ c.in-Ok.ensures.size
