@@ -1,9 +1,8 @@
 -- What a call of the store leaves of a book.
-use Rattle.std.proofs.Common.{◌≡◌, ℕ, ◌+◌, ◌≤◌, ◌<◌, List, [], ◌∷◌, ◌++◌, map, length, Option, Some, None, Result, Ok, Err, Bool, ◌==◌, sym, refl, ap, ◌∙◌, subst, arith, length-append}
+use Rattle.std.proofs.Common.{◌≡◌, ℕ, ◌+◌, ◌≤◌, ◌<◌, List, [], ◌∷◌, ◌++◌, length, Option, Some, None, Result, Ok, Err, Bool, ◌==◌, sym, refl, ap, ◌∙◌, subst, arith, length-append}
 use Rattle.std.specs.Result.{MatchResult}
 use Rattle.std.specs.Prelude.{IsSome, ◌↔◌}
 use Rattle.std.specs.Option.{IsSomeAnd, option_map}
-use Rattle.std.proofs.lemmas.List.{length-map, map-append}
 use Rattle.std.proofs.lemmas.List.Sums.{count_by-le-length, length-filter}
 use Rattle.liq_outside.specs.At.{DiskAt}
 use Rattle.liq_outside.specs.Disk.{GoesOn, LeftNow}
@@ -16,7 +15,6 @@ use Rattle.liq_types.specs.declared.requests.Request.{Request}
 use Rattle.liq_types.specs.declared.requests.Request.TheVariants.{Ask, Do}
 use Rattle.liq_types.specs.State.{State}
 use Rattle.liq_core.specs.Core.{StandsFor}
-use Rattle.liq_rule_step.specs.History as history
 use Rattle.liq_rule_step.specs.History.{own_entries, requests_of, state_after}
 use Rattle.liq_rule_step.proofs.Histories.{legal-empty, legal-snoc, state-snoc}
 use Rattle.liq_disk_pair.specs.Past.{AtCommand}
@@ -31,23 +29,17 @@ use Rattle.liq_book.specs.declared.items.Halt.{Halt}
 use Rattle.liq_book.specs.declared.items.TheConstants.{ENTRIES_MOST}
 use Rattle.liq_book.specs.Booked.{IsBook, KeepsDisks}
 use Rattle.liq_book.specs.Entered.{Enters, IsTestedFirst}
-use Rattle.liq_rule_step.specs.Recorded.{recorded}
 use Rattle.liq_book.specs.Origin.{GoesOnFrom, IsAtOrigin}
 use Rattle.liq_book.specs.Past.{KeepsPast, since_origin}
 use Rattle.liq_book.proofs.Pasts.{begins_past, forgets_past, requests_more}
 use Rattle.liq_types.proofs.Tests.{value_of}
 
 -- a session has no more entries than there are
-pub own_few : (session : ℕ) (entries : List Entry) → length (own_entries session (map recorded entries))
+pub own_few : (session : ℕ) (entries : List Entry) → length (own_entries session entries)
     ≤ length entries
 own_few session entries =
-    let p : history.Entry → Bool = λ (e : history.Entry). e.session == session in
-    omega (
-      arith,
-      length-filter p (map recorded entries),
-      count_by-le-length p (map recorded entries),
-      length-map entries recorded,
-    )
+    let p : Entry → Bool = λ (e : Entry). e.session == session in
+    omega (arith, length-filter p entries, count_by-le-length p entries)
 
 -- a store that answers otherwise was not stopped
 pub goes : (stopped : Option ℕ) → ((sum : ℕ) → stopped ≡ Some sum → ⊥) → stopped ≡ None
@@ -101,13 +93,13 @@ module _ {D : Type 0} (at : D → DiskAt) where
     Booking store entries halt =
         IsBook at base left_origin right_origin (record { store = store; entries = entries; halt = halt })
 
-    abbrev Keeps : List history.Entry → Option Halt → Stored D → Type 0
+    abbrev Keeps : List Entry → Option Halt → Stored D → Type 0
     Keeps entries halt store = KeepsPast at left_origin right_origin base (requests_of entries) halt store
 
     -- what is kept of the past where there is no halt
     past_of : (store : Stored D) (entries : List Entry) (halt : Option Halt)
-        → halt ≡ None → Booking store entries halt → Keeps (map recorded entries) None store
-    past_of store entries halt none b = subst (λ (h : Option Halt). Keeps (map recorded entries) h store) none b.past
+        → halt ≡ None → Booking store entries halt → Keeps entries None store
+    past_of store entries halt none b = subst (λ (h : Option Halt). Keeps entries h store) none b.past
 
     pub begins : (store : Stored D)
         → store.stopped ≡ None → IsAtOrigin at base left_origin right_origin store → IsInOrder at store
@@ -137,13 +129,13 @@ module _ {D : Type 0} (at : D → DiskAt) where
       cause = b.cause;
       left = b.left;
       right = b.right;
-      past = forgets_past at left_origin right_origin base (requests_of (map recorded entries)) halt old changes b.past;
+      past = forgets_past at left_origin right_origin base (requests_of entries) halt old changes b.past;
     }) where
-      other : KeepsDisks at halt (state_after base (map recorded entries)) old
-          → KeepsDisks at halt (state_after base (map recorded entries)) (record old { changes = changes })
+      other : KeepsDisks at halt (state_after base entries) old
+          → KeepsDisks at halt (state_after base entries) (record old { changes = changes })
       other keeps = by halt keeps where
-        by : (h : Option Halt) → KeepsDisks at h (state_after base (map recorded entries)) old
-            → KeepsDisks at h (state_after base (map recorded entries)) (record old { changes = changes })
+        by : (h : Option Halt) → KeepsDisks at h (state_after base entries) old
+            → KeepsDisks at h (state_after base entries) (record old { changes = changes })
         by None k = k
         by (Some h) k = k
 
@@ -160,29 +152,26 @@ module _ {D : Type 0} (at : D → DiskAt) where
         (old new : Stored D) (entries : List Entry) (halt : Option Halt)
         (request : Request) (reply : Reply) (session calls : ℕ)
         → Booking old entries halt → length entries < ENTRIES_MOST
-        → length (own_entries session (map recorded entries)) ≡ calls
+        → length (own_entries session entries) ≡ calls
         → old.stopped ≡ None → IsInOrder at old → Called old request (answer.Reply reply) new
         → Booking new (entries ++ record { session = session; index = calls + 1; request = request; reply = reply }
         ∷ []) halt
     enters old new entries halt request reply session calls b few counted going ordered c =
         let e : Entry = record { session = session; index = calls + 1; request = request; reply = reply } in
-        let s : State = state_after base (map recorded entries) in
+        let s : State = state_after base entries in
         let none : halt ≡ None = no_halt halt old.stopped b.halt going in
         let step = c.step_is going s b.state in
-        let all : map recorded (entries ++ e ∷ []) ≡ map recorded entries ++ recorded e ∷ [] =
-        map-append recorded entries (e ∷ []) in
-        let stands : StandsFor new.core (state_after base (map recorded (entries ++ e ∷ []))) =
-        rw (all, state-snoc base (map recorded entries) (recorded e)) step.0 in
+        let stands : StandsFor new.core (state_after base (entries ++ e ∷ [])) = rw (state-snoc base entries e) step.0 in
         let still : new.stopped ≡ None = c.stops ∙ going in
         subst (λ (h : Option Halt). Booking new (entries ++ e ∷ []) h) (sym none) (record {
           few = omega (arith, length-append entries (e ∷ []), few);
-          legal = rw all (legal-snoc base (map recorded entries) (recorded e) b.legal (record {
+          legal = legal-snoc base entries e b.legal (record {
             reply_is = sym step.1;
             index_is = ap (λ n. n + 1) (sym counted);
-          }));
+          });
           state = stands;
           halt = still;
-          keeps = going_keeps new (state_after base (map recorded (entries ++ e ∷ []))) c.order still stands;
+          keeps = going_keeps new (state_after base (entries ++ e ∷ [])) c.order still stands;
           cause = c.cause ∙ (rw none at b.cause);
           left = goes_from left_origin old.left new.left b.left c.disks.left_time c.disks.left_telling;
           right = goes_from right_origin old.right new.right b.right c.disks.right_time c.disks.right_telling;
@@ -191,7 +180,7 @@ module _ {D : Type 0} (at : D → DiskAt) where
               (sym (requests_more entries e))
               (λ l r told_left told_right.
               goes_on at may_stay (since_origin left_origin right_origin) l r base
-              (requests_of (map recorded entries)) old new
+              (requests_of entries) old new
               (past_of old entries halt none b l r told_left told_right) ordered request reply still (c.step_is going)
               c.disks);
         })
@@ -201,7 +190,7 @@ module _ {D : Type 0} (at : D → DiskAt) where
         → Booking old entries halt → old.stopped ≡ None → IsInOrder at old → Called old request answer.NoMemory new
         → Booking new entries halt
     stays old new entries halt request b going ordered c =
-        let s : State = state_after base (map recorded entries) in
+        let s : State = state_after base entries in
         let none : halt ≡ None = no_halt halt old.stopped b.halt going in
         let stands = (c.step_is going s b.state).0 in
         let still : new.stopped ≡ None = c.stops ∙ going in
@@ -216,7 +205,7 @@ module _ {D : Type 0} (at : D → DiskAt) where
           right = goes_from right_origin old.right new.right b.right c.disks.right_time c.disks.right_telling;
           past = λ l r told_left told_right.
               waits at may_stay (since_origin left_origin right_origin) l r base
-              (requests_of (map recorded entries)) old new
+              (requests_of entries) old new
               (past_of old entries halt none b l r told_left told_right) ordered request still (c.step_is going)
               c.disks;
         })
@@ -227,7 +216,7 @@ module _ {D : Type 0} (at : D → DiskAt) where
         → new.stopped ≡ Some sum
         → Booking new entries (Some (record { session = session; request = request; faults = sum }))
     halts old new entries halt request session sum b going ordered c stopped =
-        let s : State = state_after base (map recorded entries) in
+        let s : State = state_after base entries in
         let none : halt ≡ None = no_halt halt old.stopped b.halt going in
         let stands = (c.step_is going s b.state).0 in
         record {
@@ -255,10 +244,10 @@ module _ {D : Type 0} (at : D → DiskAt) where
                 AtCommand failed.0,
                 (failed.0, failed.1, refl),
                 stops at may_stay (since_origin left_origin right_origin) l r base
-                    (requests_of (map recorded entries)) old new earlier ordered request failed.0 failed.1
+                    (requests_of entries) old new earlier ordered request failed.0 failed.1
                     (c.step_is going) c.disks,
                 stops_kept at may_stay (since_origin left_origin right_origin) l r base
-                    (requests_of (map recorded entries)) old new earlier ordered request failed.0 failed.1
+                    (requests_of entries) old new earlier ordered request failed.0 failed.1
                     (c.step_is going) c.disks,
               );
         }
@@ -274,9 +263,9 @@ module _ {D : Type 0} (at : D → DiskAt) where
       going_on answer.NoMemory is going = stays old new entries halt request b going ordered (rw is at c)
       going_on answer.DiskFault is going = absurd (no_fault is)
       going_on (answer.Stopped faults) is going =
-          absurd (rw is at (c.step_is going (state_after base (map recorded entries)) b.state))
+          absurd (rw is at (c.step_is going (state_after base entries) b.state))
       going_on (answer.HistoryFull most) is going =
-          absurd (rw is at (c.step_is going (state_after base (map recorded entries)) b.state))
+          absurd (rw is at (c.step_is going (state_after base entries) b.state))
 
       by_stop : (o : Option ℕ) → old.stopped ≡ o → Booking new entries halt
       by_stop None is = going_on a refl is
@@ -298,9 +287,9 @@ module _ {D : Type 0} (at : D → DiskAt) where
           going_on answer.NoMemory is going = ((refl, refl), few)
           going_on answer.DiskFault is going = absurd (no_fault is)
           going_on (answer.Stopped faults) is going =
-              absurd (rw is at (c.step_is going (state_after base (map recorded entries)) b.state))
+              absurd (rw is at (c.step_is going (state_after base entries) b.state))
           going_on (answer.HistoryFull most) is going =
-              absurd (rw is at (c.step_is going (state_after base (map recorded entries)) b.state))
+              absurd (rw is at (c.step_is going (state_after base entries) b.state))
 
           by_stop : (o : Option ℕ) → old.stopped ≡ o
               → Enters base session calls request a (record { store = first; entries = entries; halt = halt })

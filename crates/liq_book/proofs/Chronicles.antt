@@ -5,7 +5,6 @@ use Rattle.std.proofs.lemmas.List.{append-nil}
 use Rattle.std.proofs.lemmas.List.Elements.{filter-append}
 use Rattle.std.proofs.lemmas.Bool.Decides.{nat_tests}
 use Rattle.liq_types.specs.declared.requests.Request.{Request}
-use Rattle.liq_rule_step.specs.History as history
 use Rattle.liq_rule_step.specs.History.{own_entries}
 use Rattle.liq_lock.specs.History.{Behind, NoneOf}
 use Rattle.liq_lock.proofs.Histories.{one_in}
@@ -13,28 +12,26 @@ use Rattle.liq_types.specs.declared.entries.Entry.{Entry}
 use Rattle.liq_book.specs.declared.items.Halt.{Halt}
 use Rattle.liq_book.specs.declared.items.Item.{Item}
 use Rattle.liq_book.specs.declared.items.Item.TheVariants as item
-use Rattle.liq_rule_step.specs.Recorded.{recorded}
 use Rattle.liq_book.specs.Items.{chronicle, entries_of, faulted_in, or_else, session_of}
 
 pub entries_of-append : (xs ys : List Item) → entries_of (xs ++ ys) ≡ entries_of xs ++ entries_of ys
 entries_of-append [] ys = refl
-entries_of-append (item.Entry e ∷ xs) ys = ap (λ es. recorded e ∷ es) (entries_of-append xs ys)
+entries_of-append (item.Entry e ∷ xs) ys = ap (λ es. e ∷ es) (entries_of-append xs ys)
 entries_of-append (item.Halt h ∷ xs) ys = entries_of-append xs ys
 
-pub entries_of-map : (entries : List Entry) → entries_of (map item.Entry entries) ≡ map recorded entries
+pub entries_of-map : (entries : List Entry) → entries_of (map item.Entry entries) ≡ entries
 entries_of-map [] = refl
-entries_of-map (e ∷ entries) = ap (λ es. recorded e ∷ es) (entries_of-map entries)
+entries_of-map (e ∷ entries) = ap (λ es. e ∷ es) (entries_of-map entries)
 
 -- the entries of a chronicle are those of the book
-pub entries_of-chronicle : (entries : List Entry) (halt : Option Halt) → entries_of (chronicle entries halt)
-    ≡ map recorded entries
+pub entries_of-chronicle : (entries : List Entry) (halt : Option Halt) → entries_of (chronicle entries halt) ≡ entries
 entries_of-chronicle entries None = entries_of-map entries
 entries_of-chronicle entries (Some halt) = entries_of-append (map item.Entry entries) (item.Halt halt ∷ [])
     ∙ (append-nil (entries_of (map item.Entry entries)) ∙ entries_of-map entries)
 
-pub own_entries-append : (session : ℕ) (xs ys : List history.Entry) → own_entries session (xs ++ ys)
+pub own_entries-append : (session : ℕ) (xs ys : List Entry) → own_entries session (xs ++ ys)
     ≡ own_entries session xs ++ own_entries session ys
-own_entries-append session xs ys = filter-append (λ (e : history.Entry). e.session == session) xs ys
+own_entries-append session xs ys = filter-append (λ (e : Entry). e.session == session) xs ys
 
 or_else-none : (o : Option Request) → or_else o None ≡ o
 or_else-none None = refl

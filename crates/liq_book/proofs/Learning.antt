@@ -1,14 +1,13 @@
 -- What a session learns from a call that was made at the book.
 use Rattle.std.proofs.Common.{ℕ, ◌+◌, ◌≡◌, List, [], ◌∷◌, ◌++◌, map, length, Option, Some, None, refl, sym, ap, ◌∙◌, arith, length-append}
 use Rattle.std.specs.Option.{IsSomeAnd}
-use Rattle.std.proofs.lemmas.List.{append-nil, length-map, map-append}
+use Rattle.std.proofs.lemmas.List.{append-nil, map-append}
 use Rattle.liq_types.specs.Desks.{faulted_after, own_after}
 use Rattle.liq_types.specs.declared.replies.Answer.{Answer}
 use Rattle.liq_types.specs.declared.replies.Answer.TheVariants as answer
 use Rattle.liq_types.specs.declared.replies.Reply.{Reply}
 use Rattle.liq_types.specs.declared.requests.Request.{Request}
 use Rattle.liq_types.specs.State.{State}
-use Rattle.liq_rule_step.specs.History as history
 use Rattle.liq_rule_step.specs.History.{own_entries}
 use Rattle.liq_lock.specs.History.{Behind, GoesOn, NoneOf}
 use Rattle.liq_lock.proofs.Histories.{in_one, nothing_in_nil}
@@ -19,7 +18,6 @@ use Rattle.liq_book.specs.declared.items.Item.TheVariants as item
 use Rattle.liq_book.specs.Answered.{Answered, IsLimited}
 use Rattle.liq_book.specs.Booked.{Booked}
 use Rattle.liq_book.specs.Entered.{Enters, IsTestedFirst}
-use Rattle.liq_rule_step.specs.Recorded.{recorded}
 use Rattle.liq_book.specs.Items.{calls_of, chronicle, entries_of, faulted_in, session_of}
 use Rattle.liq_book.proofs.Chronicles.{entries_of-append, entries_of-chronicle, faulted_behind, faulted_in-append, faulted_on, own_behind, own_entries-append, own_on, same_session}
 
@@ -96,7 +94,7 @@ pub learns : {D : Type 0} (base : State) (session calls : ℕ) (request : Reques
     → Answered base session calls request a before (items_in new)
 learns base session calls request (answer.Reply reply) old new before b h =
     let e : Entry = record { session = session; index = calls + 1; request = request; reply = reply } in
-    let entries : entries_of (before ++ b.0) ≡ map recorded old.entries = ap entries_of (sym b.1)
+    let entries : entries_of (before ++ b.0) ≡ old.entries = ap entries_of (sym b.1)
     ∙ entries_of-chronicle old.entries old.halt in (
       b.0,
       b.2,
@@ -121,7 +119,7 @@ learns base session calls request (answer.Stopped faults) old new before b h = r
 learns base session calls request (answer.HistoryFull entries) old new before b h = (rw (same_items old new h.0) b, h.1)
 
 many : {D : Type 0} (book : Booked D) → length (entries_of (items_in book)) ≡ length book.entries
-many book = ap length (entries_of-chronicle book.entries book.halt) ∙ length-map book.entries recorded
+many book = ap length (entries_of-chronicle book.entries book.halt)
 
 pub limits : {D : Type 0} (base : State) (session calls : ℕ) (request : Request) (a : Answer) (old new : Booked D)
     → Enters base session calls request a old new → IsTestedFirst old.entries a → IsLimited a (items_in new)
@@ -143,21 +141,21 @@ limits base session calls request (answer.HistoryFull entries) old new h few =
 -- the seat counts what the book has of its session
 pub counts : {D : Type 0} (session calls : ℕ) (book : Booked D) (before : List Item)
     → Behind session_of (items_in book) (session ∷ []) before → length (own_entries session (entries_of before)) ≡ calls
-    → length (own_entries session (map recorded book.entries)) ≡ calls
+    → length (own_entries session book.entries) ≡ calls
 counts session calls book before b counted =
-    ap (λ (es : List history.Entry). length (own_entries session es))
+    ap (λ (es : List Entry). length (own_entries session es))
     (sym (entries_of-chronicle book.entries book.halt))
     ∙ (ap length (own_behind session (items_in book) before b) ∙ counted)
 
 own_last : (session : ℕ) (before between : List Item) (e : Entry) → e.session ≡ session
     → NoneOf session_of (session ∷ []) between
     → own_entries session (entries_of ((before ++ between) ++ item.Entry e ∷ []))
-    ≡ own_entries session (entries_of before) ++ recorded e ∷ []
+    ≡ own_entries session (entries_of before) ++ e ∷ []
 own_last session before between e its none =
-    let last : own_entries session (recorded e ∷ []) ≡ recorded e ∷ [] = rw (its, same_session session) refl in
+    let last : own_entries session (e ∷ []) ≡ e ∷ [] = rw (its, same_session session) refl in
     rw (
       entries_of-append (before ++ between) (item.Entry e ∷ []),
-      own_entries-append session (entries_of (before ++ between)) (recorded e ∷ []),
+      own_entries-append session (entries_of (before ++ between)) (e ∷ []),
       last,
       own_on session before between none,
     ) refl
@@ -203,7 +201,7 @@ pub counts_reply : (base : State) (session calls : ℕ) (request : Request) (rep
     → length (own_entries session (entries_of before)) ≡ calls
     → length (own_entries session (entries_of after)) ≡ calls + 1
 counts_reply base session calls request reply before after a counted =
-    let e : history.Entry = record { session = session; index = calls + 1; request = request; reply = reply } in
+    let e : Entry = record { session = session; index = calls + 1; request = request; reply = reply } in
     rw (own_reply base session calls request reply before after a) (omega (
       arith,
       counted,
@@ -216,20 +214,20 @@ pub calls_after : (base : State) (session calls : ℕ) (request : Request) (a : 
     → Answered base session calls request a before after
     → calls_of session after ≡ own_after (calls_of session before) request a
 calls_after base session calls request (answer.Reply reply) before after a =
-    let e : history.Entry = record { session = session; index = calls + 1; request = request; reply = reply } in
-    ap (map (λ (e : history.Entry). (e.request, e.reply))) (own_reply base session calls request reply before after a)
-    ∙ map-append (λ (e : history.Entry). (e.request, e.reply)) (own_entries session (entries_of before)) (e ∷ [])
+    let e : Entry = record { session = session; index = calls + 1; request = request; reply = reply } in
+    ap (map (λ (e : Entry). (e.request, e.reply))) (own_reply base session calls request reply before after a)
+    ∙ map-append (λ (e : Entry). (e.request, e.reply)) (own_entries session (entries_of before)) (e ∷ [])
 calls_after base session calls request answer.NoMemory before after a =
-    ap (map (λ (e : history.Entry). (e.request, e.reply))) (own_other base session calls request answer.NoMemory before
+    ap (map (λ (e : Entry). (e.request, e.reply))) (own_other base session calls request answer.NoMemory before
     after (λ reply e. cc) a)
 calls_after base session calls request answer.DiskFault before after a =
-    ap (map (λ (e : history.Entry). (e.request, e.reply))) (own_other base session calls request answer.DiskFault before
+    ap (map (λ (e : Entry). (e.request, e.reply))) (own_other base session calls request answer.DiskFault before
     after (λ reply e. cc) a)
 calls_after base session calls request (answer.Stopped faults) before after a =
-    ap (map (λ (e : history.Entry). (e.request, e.reply))) (own_other base session calls request (answer.Stopped faults)
+    ap (map (λ (e : Entry). (e.request, e.reply))) (own_other base session calls request (answer.Stopped faults)
     before after (λ reply e. cc) a)
 calls_after base session calls request (answer.HistoryFull entries) before after a =
-    ap (map (λ (e : history.Entry). (e.request, e.reply))) (own_other base session calls request
+    ap (map (λ (e : Entry). (e.request, e.reply))) (own_other base session calls request
     (answer.HistoryFull entries) before after (λ reply e. cc) a)
 
 pub faults_after : (base : State) (session calls : ℕ) (request : Request) (a : Answer) (before after : List Item)
@@ -263,5 +261,5 @@ faults_after base session calls request (answer.HistoryFull entries) before afte
 -- items of others leave a session's calls
 pub calls_behind : (session : ℕ) (after before : List Item) → Behind session_of after (session ∷ []) before
     → calls_of session after ≡ calls_of session before
-calls_behind session after before b = ap (map (λ (e : history.Entry). (e.request, e.reply)))
+calls_behind session after before b = ap (map (λ (e : Entry). (e.request, e.reply)))
     (own_behind session after before b)

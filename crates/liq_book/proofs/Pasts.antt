@@ -1,5 +1,5 @@
 -- What a crash may have left of a book's disks since its origin, through what a book does.
-use Rattle.std.proofs.Common.{◌≡◌, ℕ, List, [], ◌∷◌, ◌++◌, map, Option, Some, None, sym, refl, ap, ◌∙◌, subst, arith}
+use Rattle.std.proofs.Common.{◌≡◌, ℕ, List, [], ◌∷◌, ◌++◌, Option, Some, None, sym, refl, ◌∙◌, subst, arith}
 use Rattle.std.specs.Option.{option_map}
 use Rattle.std.proofs.lemmas.List.{map-append}
 use Rattle.liq_outside.specs.At.{DiskAt}
@@ -9,9 +9,7 @@ use Rattle.liq_types.specs.declared.events.ListChange.{ListChange}
 use Rattle.liq_types.specs.declared.requests.Request.{Request}
 use Rattle.liq_types.specs.State.{State}
 use Rattle.liq_core.specs.Core.{StandsFor}
-use Rattle.liq_rule_step.specs.History as history
 use Rattle.liq_rule_step.specs.History.{requests_of}
-use Rattle.liq_rule_step.specs.Recorded.{recorded}
 use Rattle.liq_disk_pair.specs.declared.side.Side.{Side}
 use Rattle.liq_disk_pair.specs.declared.side.Side.TheVariants.{Left, Right}
 use Rattle.liq_disk_pair.specs.Past.{NoFault}
@@ -43,10 +41,9 @@ at_itself at store stands =
 
 -- the requests of entries with one more behind them
 pub requests_more : (entries : List Entry) (e : Entry)
-    → requests_of (map recorded (entries ++ e ∷ [])) ≡ requests_of (map recorded entries) ++ e.request ∷ []
+    → requests_of (entries ++ e ∷ []) ≡ requests_of entries ++ e.request ∷ []
 requests_more entries e =
-    ap requests_of (map-append recorded entries (e ∷ []))
-    ∙ map-append (λ (e : history.Entry). e.request) (map recorded entries) (recorded e ∷ [])
+    map-append (λ (e : Entry). e.request) entries (e ∷ [])
 
 module _ {D : Type 0} (at : D → DiskAt) (left_origin right_origin : DiskAt) where
   abbrev Keeps : State → List Request → Option Halt → Stored D → Type 0

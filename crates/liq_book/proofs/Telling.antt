@@ -1,9 +1,8 @@
 -- What a store tells leads from the last version on, and what a book publishes stays true.
-use Rattle.std.proofs.Common.{◌≡◌, ℕ, ◌≤◌, List, [], ◌∷◌, ◌++◌, map, length, ◌⊎◌, inl, inr, Option, None, Result, Ok, Err, refl, sym, ap, ◌∙◌, subst, append-nil, append_assoc}
+use Rattle.std.proofs.Common.{◌≡◌, ℕ, ◌≤◌, List, [], ◌∷◌, ◌++◌, length, ◌⊎◌, inl, inr, Option, None, Result, Ok, Err, refl, sym, ap, ◌∙◌, subst, append-nil, append_assoc}
 use Rattle.std.specs.List.Sorted.{IsStrictlySortedBy}
 use Rattle.std.specs.Result.{MatchResult}
 use Rattle.std.specs.Ordering.{nat_cmp}
-use Rattle.std.proofs.lemmas.List.{length-map, map-append}
 use Rattle.std.proofs.lemmas.Map.Made.{keys_of-map_values}
 use Rattle.liq_types.specs.declared.entries.Entry.{Entry}
 use Rattle.liq_types.specs.declared.replies.Answer.{Answer}
@@ -17,10 +16,8 @@ use Rattle.liq_types.specs.State.{State, opening}
 use Rattle.liq_types.specs.WellFormed.{IsWellFormed, TablesAscend}
 use Rattle.liq_stability.specs.Position.{deposit_row}
 use Rattle.liq_troves.specs.StakeSums.{trove_row}
-use Rattle.liq_rule_step.specs.History as history
 use Rattle.liq_rule_step.specs.History.{state_after}
 use Rattle.liq_rule_step.specs.Image.{image}
-use Rattle.liq_rule_step.specs.Recorded.{recorded}
 use Rattle.liq_rule_step.specs.Rules.{call_changes}
 use Rattle.liq_rule_step.specs.Step.{Ruling, Refused, Repeated, Allowed, after_ruling, ruling, step}
 use Rattle.liq_rule_step.specs.View.{all_followed, view_of}
@@ -89,7 +86,7 @@ module _ {D : Type 0} (base : State) where
       let all : published ++ waiting ≡ h.first.0 ∷ (h.first.1 ++ waiting) =
       ap (λ (bs : List Given). bs ++ waiting) h.first.2 in
       let each : AreViews base [] (h.first.0 ∷ (h.first.1 ++ waiting)) =
-      subst (AreViews base []) all (subst (λ (es : List Entry). AreViews base (map recorded es) (published ++ waiting))
+      subst (AreViews base []) all (subst (λ (es : List Entry). AreViews base es (published ++ waiting))
       none.0 h.each) in
       record {
         first = h.first;
@@ -98,30 +95,26 @@ module _ {D : Type 0} (base : State) where
             ap (all_followed (seen_after (published ++ waiting))) none.1
             ∙ ap (λ (bs : List Given). seen_after bs) all
             ∙ view_at_first base h.first.0 (h.first.1 ++ waiting) each
-            ∙ ap (λ (es : List Entry). view_of (state_after base (map recorded es))) (sym none.0);
+            ∙ ap (λ (es : List Entry). view_of (state_after base es)) (sym none.0);
       }
 
   -- an entry, with what its call told
   pub entry_more : (old new : Stored D) (entries : List Entry) (e : Entry) (halt now : Option Halt)
       (published waiting : List Given) → Publishes old entries halt published waiting
-      → IsSoundImage old.core.image old.core.records → StandsFor old.core (state_after base (map recorded entries))
-      → new.changes ≡ old.changes ++ told (state_after base (map recorded entries)) e.request (answer.Reply e.reply)
+      → IsSoundImage old.core.image old.core.records → StandsFor old.core (state_after base entries)
+      → new.changes ≡ old.changes ++ told (state_after base entries) e.request (answer.Reply e.reply)
       → Publishes new (entries ++ e ∷ []) now published waiting
   entry_more old new entries e halt now published waiting h sound stands tells =
-      let s : State = state_after base (map recorded entries) in
-      let all : map recorded (entries ++ e ∷ []) ≡ map recorded entries ++ recorded e ∷ [] =
-      map-append recorded entries (e ∷ []) in
+      let s : State = state_after base entries in
       record {
         first = h.first;
-        each = subst (λ (es : List history.Entry). AreViews base es (published ++ waiting)) (sym all)
-            (views_grow base (map recorded entries) (recorded e) (published ++ waiting) h.each);
+        each = views_grow base entries e (published ++ waiting) h.each;
         folds =
             ap (all_followed (seen_after (published ++ waiting))) tells
             ∙ folds_on (published ++ waiting) old.changes (told_of s e.request) (view_of s)
             (view_of (step s e.request).0) h.folds (leads s e.request stands.formed
             (in_order old.core s sound stands))
-            ∙ ap view_of (sym (state-snoc base (map recorded entries) (recorded e)))
-            ∙ ap (λ (es : List history.Entry). view_of (state_after base es)) (sym all);
+            ∙ ap view_of (sym (state-snoc base entries e));
       }
 
   -- ---- a publication
@@ -131,21 +124,16 @@ module _ {D : Type 0} (base : State) where
 
   one_more_view : (store : Stored D) (entries : List Entry) (halt : Option Halt) (published waiting : List Given)
       → Publishes store entries halt published waiting
-      → AreViews base (map recorded entries) ((published ++ waiting) ++ batch store entries ∷ [])
+      → AreViews base entries ((published ++ waiting) ++ batch store entries ∷ [])
   one_more_view store entries halt published waiting h =
-      subst (λ n. AreViews base (map recorded entries) ((published ++ waiting) ++ record {
-        changes = store.changes;
-        number = n;
-      } ∷ [])) (length-map entries recorded)
-      (views_with base (map recorded entries) (published ++ waiting) store.changes h.folds h.each)
+      views_with base entries (published ++ waiting) store.changes h.folds h.each
 
   -- the number of entries is not below any that was published
   pub not_below : (store : Stored D) (entries : List Entry) (halt : Option Halt) (published waiting : List Given)
       → Publishes store entries halt published waiting
       → last_from 0 (published ++ waiting) ≤ length entries
   not_below store entries halt published waiting h =
-      subst (λ n. last_from 0 (published ++ waiting) ≤ n) (length-map entries recorded)
-      (last_low base (map recorded entries) (published ++ waiting) h.each)
+      last_low base entries (published ++ waiting) h.each
 
   -- it went out, with what waited
   pub goes_out : (store new : Stored D) (entries : List Entry) (halt : Option Halt)
@@ -164,13 +152,13 @@ module _ {D : Type 0} (base : State) where
               ∙ ap (λ (bs : List Given). bs ++ (waiting ++ batch store entries ∷ [])) h.first.2,
           h.first.3,
         );
-        each = subst (AreViews base (map recorded entries)) (sym all) (one_more_view store entries halt published
+        each = subst (AreViews base entries) (sym all) (one_more_view store entries halt published
             waiting h);
         folds =
             ap (all_followed (seen_after (published' ++ waiting'))) cleared
             ∙ ap (λ (bs : List Given). all_followed (seen_after bs) []) all
             ∙ folds_out (published ++ waiting) store.changes (length entries)
-            (view_of (state_after base (map recorded entries))) h.folds;
+            (view_of (state_after base entries)) h.folds;
       }
 
   -- without memory it was not taken, or it waits
@@ -187,12 +175,12 @@ module _ {D : Type 0} (base : State) where
       subst (λ (bs : List Given). Publishes store entries halt bs waiting') (sym same)
       (subst (λ (bs : List Given). Publishes store entries halt published bs) (sym more) (record {
         first = h.first;
-        each = subst (AreViews base (map recorded entries)) (sym all) (one_more_view store entries halt published
+        each = subst (AreViews base entries) (sym all) (one_more_view store entries halt published
             waiting h);
         folds =
             ap (λ (bs : List Given). all_followed (seen_after bs) store.changes) all
             ∙ folds_again (published ++ waiting) store.changes (length entries)
-            (view_of (state_after base (map recorded entries))) h.folds;
+            (view_of (state_after base entries)) h.folds;
       }))
 
   -- ---- the beginning

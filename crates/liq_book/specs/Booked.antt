@@ -1,5 +1,5 @@
 -- A book as contracts see it, and what holds of every book.
-use Rattle.std.specs.Prelude.{ℕ, ◌≡◌, ◌≤◌, List, map, length, Option, Some, None}
+use Rattle.std.specs.Prelude.{ℕ, ◌≡◌, ◌≤◌, List, length, Option, Some, None}
 use Rattle.std.specs.Option.{option_map}
 use Rattle.liq_outside.specs.At.{DiskAt}
 use Rattle.liq_outside.specs.Disk.{LeftNow}
@@ -14,7 +14,6 @@ use Rattle.liq_store.specs.Stored.{Stored}
 use Rattle.liq_types.specs.declared.entries.Entry.{Entry}
 use Rattle.liq_book.specs.declared.items.Halt.{Halt}
 use Rattle.liq_book.specs.declared.items.TheConstants.{ENTRIES_MOST}
-use Rattle.liq_rule_step.specs.Recorded.{recorded}
 use Rattle.liq_book.specs.Origin.{GoesOnFrom, faults_at}
 use Rattle.liq_book.specs.Past.{KeepsPast}
 
@@ -26,7 +25,7 @@ pub record Booked (D : Type 0) : Type 0 where
 
 -- the state after all entries
 abbrev pub state_of_book : {D : Type 0} → State → Booked D → State
-state_of_book base book = state_after base (map recorded book.entries)
+state_of_book base book = state_after base book.entries
 
 -- A count rose exactly where there is a halt, and else both are as they were.
 abbrev pub CausesHalt : Option Halt → Faults → Faults → Type 0
@@ -56,7 +55,7 @@ pub record IsBook
     {D : Type 0} (at : D → DiskAt) (base : State) (left_origin right_origin : DiskAt)
     (book : Booked D) : Type 0 where
   pub few : length book.entries ≤ ENTRIES_MOST
-  pub legal : IsLegal base (map recorded book.entries)
+  pub legal : IsLegal base book.entries
   pub state : StandsFor book.store.core (state_of_book base book)
   pub halt : book.store.stopped ≡ option_map (λ h. h.faults) book.halt
   pub keeps : KeepsDisks at book.halt (state_of_book base book) book.store
@@ -66,5 +65,4 @@ pub record IsBook
   pub left : GoesOnFrom left_origin (at book.store.left)
   pub right : GoesOnFrom right_origin (at book.store.right)
   pub past :
-      KeepsPast at left_origin right_origin base (requests_of (map recorded book.entries))
-      book.halt book.store
+      KeepsPast at left_origin right_origin base (requests_of book.entries) book.halt book.store

@@ -3,8 +3,7 @@ use Rattle.std.specs.Prelude.{ℕ, ◌≡◌, ◌==◌, ◌⊎◌, if◌then◌e
 use Rattle.std.specs.Prelude.{◌++◌, List, [], ◌∷◌, map, length, Option, Some, None}
 use Rattle.liq_types.specs.declared.replies.Reply.{Reply}
 use Rattle.liq_types.specs.declared.requests.Request.{Request}
-use Rattle.liq_rule_step.specs.History as history
-use Rattle.liq_rule_step.specs.Recorded.{recorded}
+use Rattle.liq_rule_step.specs.History.{own_entries}
 use Rattle.liq_types.specs.declared.entries.Entry.{Entry}
 use Rattle.liq_book.specs.declared.items.Halt.{Halt}
 use Rattle.liq_book.specs.declared.items.Item.{Item}
@@ -22,16 +21,15 @@ session_of (item.Entry e) = e.session
 session_of (item.Halt h) = h.session
 
 -- the entries among items
-abbrev pub entries_of : List Item → List history.Entry
+abbrev pub entries_of : List Item → List Entry
 entries_of [] = []
-entries_of (item.Entry e ∷ items) = recorded e ∷ entries_of items
+entries_of (item.Entry e ∷ items) = e ∷ entries_of items
 entries_of (item.Halt h ∷ items) = entries_of items
 
 -- a session's requests that were answered, with their replies
 abbrev pub calls_of : ℕ → List Item → List (Request × Reply)
 calls_of session items =
-    map (λ (e : history.Entry). (e.request, e.reply))
-    (history.own_entries session (entries_of items))
+    map (λ (e : Entry). (e.request, e.reply)) (own_entries session (entries_of items))
 
 abbrev pub or_else : Option Request → Option Request → Option Request
 or_else (Some request) other = Some request

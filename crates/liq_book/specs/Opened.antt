@@ -5,7 +5,7 @@ use mathlib.Core.Option.{some}
 use lib.ListN.{get_elem?}
 use Rattle.liq_types.specs.declared.events.ListChange.{ListChange}
 use Rattle.liq_types.specs.State.{State}
-use Rattle.liq_rule_step.specs.History as history
+use Rattle.liq_types.specs.declared.entries.Entry.{Entry}
 use Rattle.liq_rule_step.specs.View.{view_after}
 use Rattle.liq_list_version.specs.Versions.{Numbered}
 use Rattle.liq_views.specs.declared.publisher.Publisher.{Publisher}
@@ -22,7 +22,7 @@ HasOpened changes p =
     (published p ≡ record { changes = changes; number = 0 } ∷ []) × (waiting p ≡ [])
 
 -- a version of the history: the view after its first entries, as many as its number says
-abbrev pub IsVersionOf : State → List history.Entry → Numbered → Type 0
+abbrev pub IsVersionOf : State → List Entry → Numbered → Type 0
 IsVersionOf base entries v =
     (v.number ≤ length entries) × (v.view ≡ view_after base entries v.number)
 

@@ -1,6 +1,6 @@
 -- What a book publishes: batches of the list's changes, each under the number of entries that it
 -- comes behind.
-use Rattle.std.specs.Prelude.{◌≡◌, ◌≤◌, ◌==◌, ◌⊎◌, List, [], ◌∷◌, ◌++◌, map, length, Option, Result}
+use Rattle.std.specs.Prelude.{◌≡◌, ◌≤◌, ◌==◌, ◌⊎◌, List, [], ◌∷◌, ◌++◌, length, Option, Result}
 use Rattle.std.specs.Prelude.{MatchResult, IsTrue}
 use Rattle.std.specs.List.{list_any}
 use Rattle.liq_types.specs.State.{State}
@@ -8,8 +8,6 @@ use Rattle.liq_types.specs.declared.entries.Entry.{Entry}
 use Rattle.liq_types.specs.declared.replies.Answer.{Answer}
 use Rattle.liq_types.specs.declared.replies.Answer.TheVariants as answer
 use Rattle.liq_types.specs.declared.replies.Reply.TheVariants as reply
-use Rattle.liq_rule_step.specs.History as history
-use Rattle.liq_rule_step.specs.Recorded.{recorded}
 use Rattle.liq_rule_step.specs.View.{all_followed, list_kinds, view_of, view_after}
 use Rattle.liq_views.specs.Batches.{Given, version_after}
 use Rattle.liq_store.specs.Stored.{Stored}
@@ -35,7 +33,7 @@ abbrev pub all_batches : {D : Type 0} → OpenBook D → List Given
 all_batches b = b.published ++ b.waiting
 
 -- Of every batch, n being its number: the batches up to and with it make the view after n entries.
-abbrev pub AreViews : State → List history.Entry → List Given → Type 0
+abbrev pub AreViews : State → List Entry → List Given → Type 0
 AreViews base entries batches =
     (before after : List Given) (b : Given) → batches ≡ before ++ b ∷ after
     → (b.number ≤ length entries)
@@ -48,7 +46,7 @@ pub record IsPublishing {D : Type 0} (base : State) (b : OpenBook D) : Type 0 wh
   pub first :
       (opened : Given) × (more : List Given) × (b.published ≡ opened ∷ more)
       × (opened.number ≡ 0)
-  pub each : AreViews base (map recorded b.book.entries) (all_batches b)
+  pub each : AreViews base b.book.entries (all_batches b)
   pub folds :
       all_followed (version_after (all_batches b)).view b.book.store.changes
       ≡ view_of (state_of_book base b.book)

@@ -1,10 +1,9 @@
 //! The value behind the lock of a service: a store, all that was entered, and the publisher of the
 //! list.
 
-ghost use Rattle.std.specs.Prelude.{◌≡◌, ◌≤◌, ◌⊎◌, IfOk, map, length, [], ◌∷◌, None};
+ghost use Rattle.std.specs.Prelude.{◌≡◌, ◌≤◌, ◌⊎◌, IfOk, length, [], ◌∷◌, None};
 ghost use Rattle.std.specs.Option.{option_map};
 ghost use Rattle.liq_rule_step.specs.History.{IsLegal, own_entries};
-ghost use Rattle.liq_rule_step.specs.Recorded.{recorded};
 ghost use Rattle.liq_store.specs.Keeping.{IsInOrder};
 ghost use Rattle.liq_views.specs.Publishers.{published, waiting};
 ghost use Rattle.liq_book.specs.Items.{chronicle};
@@ -132,11 +131,11 @@ impl<D: Disk, O: Origin> Book<D, O> {
     /// store. After a disk's fault there is a halt. It publishes nothing: what it changed in the
     /// list goes out with the next publication.
     pub(crate) fn call(&mut self, session: u8, calls: u32, request: &Request, hint: &Hint) -> Answer
-        requires calls { length (own_entries session (map recorded self.old.book.entries)) ≡ calls }
+        requires calls { length (own_entries session self.old.book.entries) ≡ calls }
         ensures enters { Enters O.state session calls request.now result self.old.book
             self.new.book }
         ensures first { IsTestedFirst self.old.book.entries result }
-        ensures legal { IsLegal O.state (map recorded self.new.book.entries) }
+        ensures legal { IsLegal O.state self.new.book.entries }
         ensures few { length self.new.book.entries ≤ ENTRIES_MOST }
         ensures silent { PublishesNothing self.old self.new }
     {

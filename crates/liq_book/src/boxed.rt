@@ -1,8 +1,7 @@
 //! A book behind one pointer, so that a turn at the lock moves 8 bytes and not the book.
 
-ghost use Rattle.std.specs.Prelude.{◌≡◌, ◌≤◌, IfErr, IfOk, length, map};
+ghost use Rattle.std.specs.Prelude.{◌≡◌, ◌≤◌, IfErr, IfOk, length};
 ghost use Rattle.liq_rule_step.specs.History.{IsLegal, own_entries};
-ghost use Rattle.liq_rule_step.specs.Recorded.{recorded};
 ghost use Rattle.liq_book.specs.Booked.{IsBook};
 ghost use Rattle.liq_book.specs.Closing.{booked_by};
 ghost use Rattle.liq_book.specs.Entered.{Enters, IsTestedFirst};
@@ -67,12 +66,11 @@ impl<D: Disk, O: Origin> BoxedBook<D, O> {
 
     /// As [`Book::call`].
     pub(crate) fn call(&mut self, session: u8, calls: u32, request: &Request, hint: &Hint) -> Answer
-        requires calls { length (own_entries session
-            (map recorded self.old.boxed.value.book.entries)) ≡ calls }
+        requires calls { length (own_entries session self.old.boxed.value.book.entries) ≡ calls }
         ensures enters { Enters O.state session calls request.now result self.old.boxed.value.book
             self.new.boxed.value.book }
         ensures first { IsTestedFirst self.old.boxed.value.book.entries result }
-        ensures legal { IsLegal O.state (map recorded self.new.boxed.value.book.entries) }
+        ensures legal { IsLegal O.state self.new.boxed.value.book.entries }
         ensures few { length self.new.boxed.value.book.entries ≤ ENTRIES_MOST }
     {
         self.boxed.call(session, calls, request, hint)

@@ -1,9 +1,8 @@
 //! What readers see of what a book publishes. The function here does nothing: it is the place where
 //! the facts of its contract are proved.
 
-ghost use Rattle.std.specs.Prelude.{◌≡◌, ◌⊎◌, [], map};
+ghost use Rattle.std.specs.Prelude.{◌≡◌, ◌⊎◌, []};
 ghost use Rattle.liq_types.specs.State.{State};
-ghost use Rattle.liq_rule_step.specs.Recorded.{recorded};
 ghost use Rattle.liq_views.specs.declared.rule.Sight.{Sight};
 ghost use Rattle.liq_views.specs.declared.shelf.Shelf.{Shelf};
 ghost use Rattle.liq_views.specs.Batches.{version_after};
@@ -21,10 +20,10 @@ pub fn readers_see_the_history<D>()
     ensures seen { (base : State) (b : OpenBook D) (x : Shelf) (reader : Sight)
         → IsPublishing base b → IsRead b.published x reader
         → (reader.seen ≡ [])
-        ⊎ IsVersionOf base (map recorded b.book.entries) (version_after reader.seen) }
+        ⊎ IsVersionOf base b.book.entries (version_after reader.seen) }
     ensures looked { (base : State) (b : OpenBook D) (x : Shelf) (reader : Sight)
         → IsPublishing base b → IsRead b.published x reader → x ≡ after_all reader.seen
-        → IsVersionOf base (map recorded b.book.entries) (version_after reader.seen) }
+        → IsVersionOf base b.book.entries (version_after reader.seen) }
 {
     // odd: law called
     ends_see_beginnings();

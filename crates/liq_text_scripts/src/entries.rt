@@ -1,12 +1,10 @@
 //! The output shows the entries of a history.
 
-ghost use Rattle.liq_rule_step.specs.Recorded.{recorded};
-
 use crate::output::ShownEntry;
 use liq_types::{Entry, Reply};
 
 impl ShownEntry for Entry {
-    ghost entry = { recorded };
+    ghost entry = { λ e. e };
 
     fn session(&self) -> u8 {
         self.session

@@ -1,11 +1,11 @@
 -- Serving says the same of each state for which the store's protocol stands.
-use Rattle.std.proofs.Common.{ℕ, inl, inr, ⊎_elim, List, map, Option, Some, None, ◌∙◌, ◌≡◌, sym, subst, refl}
+use Rattle.std.proofs.Common.{ℕ, inl, inr, ⊎_elim, List, Option, Some, None, ◌∙◌, ◌≡◌, sym, subst, refl}
 use Rattle.liq_types.specs.declared.requests.Command.{Command}
 use Rattle.liq_types.specs.declared.requests.Request.{Request}
 use Rattle.liq_types.specs.declared.requests.Request.TheVariants.{Do, Ask}
 use Rattle.liq_types.specs.State.{State}
 use Rattle.liq_outside.specs.At.{DiskAt}
-use Rattle.liq_rule_step.specs.History as history
+use Rattle.liq_types.specs.declared.entries.Entry.{Entry}
 use Rattle.liq_rule_step.specs.History.{IsLegal, requests_of}
 use Rattle.liq_rule_step.specs.Memory.{IsAccepted}
 use Rattle.liq_rule_step.proofs.AlikeReads.{Alike}
@@ -16,7 +16,6 @@ use Rattle.liq_store.proofs.Past.{past_alike}
 use Rattle.liq_sessions.specs.declared.script.Script.{Script}
 use Rattle.liq_store.specs.Keeping.{IsKeptAround}
 use Rattle.liq_store.specs.Leaving.{RestAtEnd}
-use Rattle.liq_rule_step.specs.Recorded.{recorded}
 use Rattle.liq_book.specs.declared.items.Halt.{Halt}
 use Rattle.liq_book.specs.Past.{IsFaultOf, LeavesFrom, since_origin}
 use Rattle.liq_word_serve.specs.Ends.{halt_of}
@@ -25,7 +24,7 @@ use Rattle.liq_word_serve.specs.declared.served.End.TheVariants as end
 use Rattle.liq_word_serve.specs.declared.served.Served.{Served}
 use Rattle.liq_word_serve.specs.Serves.{AreSettled, LeavesDisks, Serves}
 
-legal_alike : {s t : State} → Alike s t → (entries : List history.Entry) → IsLegal s entries → IsLegal t entries
+legal_alike : {s t : State} → Alike s t → (entries : List Entry) → IsLegal s entries → IsLegal t entries
 legal_alike alike entries legal = record {
   replies = legal.replies ∙ replies_alike (requests_of entries) alike;
   indices = legal.indices;
@@ -50,7 +49,7 @@ module _ {D : Type 0} (at : D → DiskAt) where
         (settled.settled l r told_left told_right);
   }
 
-  disks_alike : (scripts : List Script) (entries : List history.Entry) {s t : State} → Alike s t
+  disks_alike : (scripts : List Script) (entries : List Entry) {s t : State} → Alike s t
       → (e : End) (left right : D)
       → LeavesDisks at scripts entries s e left right → LeavesDisks at scripts entries t e left right
   disks_alike scripts entries alike end.All left right disks = settles_alike alike left right disks
@@ -115,7 +114,7 @@ module _ {D : Type 0} (at : D → DiskAt) where
       (served : Served D)
       → Serves at s left_origin right_origin scripts served → Serves at t left_origin right_origin scripts served
   serves_alike alike left_origin right_origin scripts served it =
-      let entries : List history.Entry = map recorded served.history in
+      let entries : List Entry = served.history in
       record {
         legal = legal_alike alike entries it.legal;
         fronts = it.fronts;

@@ -8,7 +8,6 @@ use Rattle.std.proofs.lemmas.List.Elements.{Contains-append_left, Contains-appen
 use Rattle.liq_outside.specs.At.{DiskAt}
 use Rattle.liq_outside.specs.Disk.{LeftNow}
 use Rattle.liq_types.specs.State.{State}
-use Rattle.liq_rule_step.specs.History as history
 use Rattle.liq_rule_step.specs.History.{state_after}
 use Rattle.liq_rule_step.proofs.Histories.{legal-empty}
 use Rattle.liq_lock.specs.declared.lock.Lock.{Lock}
@@ -31,7 +30,6 @@ use Rattle.liq_book.specs.declared.items.Item.TheVariants as item
 use Rattle.liq_book.specs.declared.origin.Origin.{Ghosts}
 use Rattle.liq_book.specs.declared.seat.BookSeat.{BookSeat}
 use Rattle.liq_book.specs.declared.items.TheConstants.{ENTRIES_MOST}
-use Rattle.liq_rule_step.specs.Recorded.{recorded}
 use Rattle.liq_book.specs.Items.{calls_of, chronicle, entries_of, faulted_in, session_of}
 use Rattle.liq_book.specs.Origin.{IsAtOrigin}
 use Rattle.liq_book.specs.Seats.{AreSeated, IsNewSeat, items_seen, session_at}
@@ -218,7 +216,7 @@ entries_there entries None i there = there
 entries_there entries (Some halt) i there = Contains-append_left (map item.Entry entries) (item.Halt halt ∷ []) i there
 
 -- no script has a reply, or one lacks one
-abbrev LacksReply : List Script → List history.Entry → Type 0
+abbrev LacksReply : List Script → List Entry → Type 0
 LacksReply scripts entries =
     AllByRecursion (λ (script : Script). answered_of script.session entries ≡ []) scripts ⊎ ((script : Script)
     × Contains scripts script × (IsServedWhole entries script → ⊥))
@@ -226,11 +224,11 @@ LacksReply scripts entries =
 lacks : (scripts : List Script) → AreNumbered scripts → sum_by (λ (script : Script). length script.requests) scripts
     ≤ ENTRIES_MOST
     → (entries : List Entry) → AllByRecursion (λ (e : Entry). (1 ≤ e.session) × (e.session ≤ length scripts)) entries
-    → AllByRecursion (IsServedFrom (map recorded entries)) scripts
-    → LacksReply scripts (map recorded entries) → LacksMemory scripts (map recorded entries)
+    → AllByRecursion (IsServedFrom entries) scripts
+    → LacksReply scripts entries → LacksMemory scripts entries
 lacks scripts numbered total entries within fronts (inl none) = inl (none_left scripts numbered entries within none)
 lacks scripts numbered total entries within fronts (inr one) =
-    let front = all_at (IsServedFrom (map recorded entries)) scripts one.0 (all_to (IsServedFrom (map recorded entries))
+    let front = all_at (IsServedFrom entries) scripts one.0 (all_to (IsServedFrom entries)
     scripts fronts) one.1 in
     inr (has_room scripts numbered total entries within fronts one.0 one.1 front one.2, one)
 
@@ -239,8 +237,7 @@ module _ {D : Type 0} (at : D → DiskAt) (base : State) (left_origin right_orig
       → AreNumbered scripts → Leaves at base left_origin right_origin (length scripts) all seats served
       → All (IsTold (chronicle_of served)) scripts
       → (e : End) → served.end ≡ e
-      → LeavesDisks at scripts (map recorded served.history)
-      (state_after base (map recorded served.history)) e served.left served.right
+      → LeavesDisks at scripts served.history (state_after base served.history) e served.left served.right
   disks_by all seats served numbered l told end.All is = rw is at l.disks
   disks_by all seats served numbered l told end.NoMemory is = rw is at l.disks
   disks_by all seats served numbered l told (end.DiskFault halt) is =
@@ -250,7 +247,7 @@ module _ {D : Type 0} (at : D → DiskAt) (base : State) (left_origin right_orig
       ∷ []) (item.Halt halt) (one_in (item.Halt halt) []) in
       let range = l.within (item.Halt halt) (rw items there) in
       let script = script_of scripts numbered halt.session range.0 range.1 in
-      let entries : entries_of left ≡ map recorded served.history = entries_of-chronicle served.history (Some halt) in
+      let entries : entries_of left ≡ served.history = entries_of-chronicle served.history (Some halt) in
       let next = next_told (map item.Entry served.history) halt script.0
       (rw items at (all_at (IsTold (chronicle_of served)) scripts script.0 told script.1)) script.2 in
       let kept = rw is at l.disks in
@@ -265,16 +262,16 @@ module _ {D : Type 0} (at : D → DiskAt) (base : State) (left_origin right_orig
       → Serves at base left_origin right_origin scripts served
   serves all seats served numbered l told whole total short =
       let items : List Item = chronicle_of served in
-      let entries : entries_of items ≡ map recorded served.history =
+      let entries : entries_of items ≡ served.history =
       entries_of-chronicle served.history (halt_of served.end) in
-      let fronts : AllByRecursion (IsServedFrom (map recorded served.history)) scripts =
+      let fronts : AllByRecursion (IsServedFrom served.history) scripts =
       subst (λ es. AllByRecursion (IsServedFrom es) scripts) entries (all_so (IsTold items)
       (IsServedFrom (entries_of items)) (front_told items) scripts told) in
       let within = entries_within (λ n. (1 ≤ n) × (n ≤ length scripts)) served.history (λ i there. l.within i
       (entries_there served.history (halt_of served.end) i there)) in
       record {
         legal = l.legal;
-        fronts = all_to (IsServedFrom (map recorded served.history)) scripts fronts;
+        fronts = all_to (IsServedFrom served.history) scripts fronts;
         whole = λ is. rw (← entries) (all_to (IsServedWhole (entries_of items)) scripts
             (whole (whole_end (halt_of served.end) all (sym l.end ∙ is))));
         memory = λ is. lacks scripts numbered total served.history within fronts (subst (LacksReply scripts) entries
@@ -296,7 +293,7 @@ module _ {D : Type 0} (at : D → DiskAt) (base : State) (left_origin right_orig
     legal = rw history_is (legal-empty base);
     fronts = rw history_is (λ k d within. ((slice_index_or scripts k d).requests, refl));
     whole = λ is. absurd (let e : end.NoMemory ≡ end.All = sym end_is ∙ is in cc);
-    memory = λ is. inl (ap (map recorded) history_is);
+    memory = λ is. inl history_is;
     sessions = rw history_is (λ k d within. absurd (omega arith));
     disks = rw (end_is, history_is, left_is, right_is) (settles at store base order going origin.state);
     since = record {

@@ -1,16 +1,14 @@
 -- Entries are counted by the scripts of their sessions.
-use Rattle.std.proofs.Common.{ℕ, zero, suc, ◌+◌, ◌≤◌, ◌<◌, ◌≡◌, List, [], ◌∷◌, map, length, Bool, true, false, cond, refl, sym, ap, ◌∙◌, subst, length-append, eq-eqb, arith}
+use Rattle.std.proofs.Common.{ℕ, zero, suc, ◌+◌, ◌≤◌, ◌<◌, ◌≡◌, List, [], ◌∷◌, length, Bool, true, false, cond, refl, sym, ap, ◌∙◌, subst, length-append, eq-eqb, arith}
 use Rattle.std.specs.Prelude.{◌==◌, All, Contains, slice_index_or, sum_by}
 use Rattle.std.specs.List.{AllByRecursion}
 use Rattle.std.proofs.lemmas.List.{append-nil, length-map}
 use Rattle.std.proofs.lemmas.List.Sums.{get_or-le-sum_by, sum_by-cons}
-use Rattle.liq_rule_step.specs.History as history
 use Rattle.liq_rule_step.specs.History.{own_entries}
 use Rattle.liq_sessions.specs.declared.script.Script.{Script}
 use Rattle.liq_sessions.specs.declared.script.TheConstants.{REQUESTS_MOST}
 use Rattle.liq_types.specs.declared.entries.Entry.{Entry}
 use Rattle.liq_book.specs.declared.items.TheConstants.{ENTRIES_MOST}
-use Rattle.liq_rule_step.specs.Recorded.{recorded}
 use Rattle.liq_word_serve.specs.Answered.{IsServedFrom, IsServedWhole, answered_of}
 use Rattle.liq_word_serve.specs.Serves.{AreNumbered}
 use Rattle.liq_word_serve.proofs.Told.{script_of}
@@ -47,22 +45,22 @@ sum_none f (x ∷ xs) none = omega (arith, sum_by-cons f x xs, none.0, sum_none 
 -- ---- entries
 
 -- how many entries the script's session has
-pub own : List history.Entry → Script → ℕ
+pub own : List Entry → Script → ℕ
 own entries script = length (own_entries script.session entries)
 
-own_is : (entries : List history.Entry) (script : Script)
+own_is : (entries : List Entry) (script : Script)
     → own entries script ≡ length (answered_of script.session entries)
 unfolding own
-own_is entries script = sym (length-map (own_entries script.session entries) (λ (e : history.Entry). e.request))
+own_is entries script = sym (length-map (own_entries script.session entries) (λ (e : Entry). e.request))
 
 one_if : Bool → ℕ
 one_if true = 1
 one_if false = 0
 
-hit : history.Entry → Script → ℕ
+hit : Entry → Script → ℕ
 hit e script = one_if (e.session == script.session)
 
-own-cons : (e : history.Entry) (entries : List history.Entry) (script : Script) → own (e ∷ entries) script
+own-cons : (e : Entry) (entries : List Entry) (script : Script) → own (e ∷ entries) script
     ≡ hit e script + own entries script
 unfolding own hit one_if
 own-cons e entries script = by (e.session == script.session) where
@@ -71,7 +69,7 @@ own-cons e entries script = by (e.session == script.session) where
   by true = omega arith
   by false = omega arith
 
-owns-cons : (e : history.Entry) (entries : List history.Entry) (scripts : List Script)
+owns-cons : (e : Entry) (entries : List Entry) (scripts : List Script)
     → sum_by (own (e ∷ entries)) scripts ≡ sum_by (hit e) scripts + sum_by (own entries) scripts
 owns-cons e entries [] = refl
 owns-cons e entries (script ∷ scripts) =
@@ -85,7 +83,7 @@ owns-cons e entries (script ∷ scripts) =
     )
 
 -- the script of its session is hit
-hit_one : (e : history.Entry) (scripts : List Script) (script : Script) → Contains scripts script
+hit_one : (e : Entry) (scripts : List Script) (script : Script) → Contains scripts script
     → script.session ≡ e.session → 1 ≤ sum_by (hit e) scripts
 unfolding hit one_if
 hit_one e scripts script there same =
@@ -97,14 +95,14 @@ hit_one e scripts script there same =
 -- each entry is one of a script's session
 pub counted : (scripts : List Script) → AreNumbered scripts → (entries : List Entry)
     → AllByRecursion (λ (e : Entry). (1 ≤ e.session) × (e.session ≤ length scripts)) entries
-    → length entries ≤ sum_by (own (map recorded entries)) scripts
+    → length entries ≤ sum_by (own entries) scripts
 counted scripts numbered [] within = omega arith
 counted scripts numbered (e ∷ entries) within =
     let script = script_of scripts numbered e.session within.0.0 within.0.1 in
     omega (
       arith,
-      owns-cons (recorded e) (map recorded entries) scripts,
-      hit_one (recorded e) scripts script.0 script.1 script.2,
+      owns-cons e entries scripts,
+      hit_one e scripts script.0 script.1 script.2,
       counted scripts numbered entries within.1,
     )
 
@@ -117,19 +115,19 @@ empty (x ∷ xs) none = absurd (omega arith)
 -- no entry is left where none is of a script's session
 pub none_left : (scripts : List Script) → AreNumbered scripts → (entries : List Entry)
     → AllByRecursion (λ (e : Entry). (1 ≤ e.session) × (e.session ≤ length scripts)) entries
-    → AllByRecursion (λ (script : Script). answered_of script.session (map recorded entries) ≡ []) scripts
-    → map recorded entries ≡ []
+    → AllByRecursion (λ (script : Script). answered_of script.session entries ≡ []) scripts
+    → entries ≡ []
 none_left scripts numbered entries within none =
-    let sum : sum_by (own (map recorded entries)) scripts ≡ 0 = sum_none (own (map recorded entries)) scripts
+    let sum : sum_by (own entries) scripts ≡ 0 = sum_none (own entries) scripts
     (owns_none scripts none) in
-    ap (map recorded) (empty entries (omega (arith, sum, counted scripts numbered entries within))) where
+    empty entries (omega (arith, sum, counted scripts numbered entries within)) where
       owns_none : (list : List Script)
-          → AllByRecursion (λ (script : Script). answered_of script.session (map recorded entries) ≡ []) list
-          → AllByRecursion (λ (script : Script). own (map recorded entries) script ≡ 0) list
+          → AllByRecursion (λ (script : Script). answered_of script.session entries ≡ []) list
+          → AllByRecursion (λ (script : Script). own entries script ≡ 0) list
       owns_none [] h = tt
-      owns_none (script ∷ list) h = (own_is (map recorded entries) script ∙ ap length h.0, owns_none list h.1)
+      owns_none (script ∷ list) h = (own_is entries script ∙ ap length h.0, owns_none list h.1)
 
-own_front : (entries : List history.Entry) (script : Script) → IsServedFrom entries script
+own_front : (entries : List Entry) (script : Script) → IsServedFrom entries script
     → own entries script ≤ length script.requests
 own_front entries script front = omega (
   arith,
@@ -138,7 +136,7 @@ own_front entries script front = omega (
   length-append (answered_of script.session entries) front.0,
 )
 
-own_short : (entries : List history.Entry) (script : Script) → IsServedFrom entries script
+own_short : (entries : List Entry) (script : Script) → IsServedFrom entries script
     → (IsServedWhole entries script → ⊥) → own entries script < length script.requests
 own_short entries script ([], is) short = absurd (short (is ∙ append-nil (answered_of script.session entries)))
 own_short entries script (request ∷ rest, is) short = omega (
@@ -148,7 +146,7 @@ own_short entries script (request ∷ rest, is) short = omega (
   length-append (answered_of script.session entries) (request ∷ rest),
 )
 
-own_fronts : (entries : List history.Entry) (scripts : List Script) → AllByRecursion (IsServedFrom entries) scripts
+own_fronts : (entries : List Entry) (scripts : List Script) → AllByRecursion (IsServedFrom entries) scripts
     → AllByRecursion (λ (script : Script). own entries script ≤ length script.requests) scripts
 own_fronts entries [] fronts = tt
 own_fronts entries (script ∷ scripts) fronts = (own_front entries script fronts.0, own_fronts entries scripts fronts.1)
@@ -157,20 +155,19 @@ own_fronts entries (script ∷ scripts) fronts = (own_front entries script front
 pub has_room : (scripts : List Script) → AreNumbered scripts
     → sum_by (λ (script : Script). length script.requests) scripts ≤ ENTRIES_MOST
     → (entries : List Entry) → AllByRecursion (λ (e : Entry). (1 ≤ e.session) × (e.session ≤ length scripts)) entries
-    → AllByRecursion (IsServedFrom (map recorded entries)) scripts
-    → (script : Script) → Contains scripts script → IsServedFrom (map recorded entries) script
-    → (IsServedWhole (map recorded entries) script → ⊥)
-    → length (map recorded entries) < ENTRIES_MOST
+    → AllByRecursion (IsServedFrom entries) scripts
+    → (script : Script) → Contains scripts script → IsServedFrom entries script
+    → (IsServedWhole entries script → ⊥)
+    → length entries < ENTRIES_MOST
 has_room scripts numbered total entries within fronts script there front short =
-    let f : Script → ℕ = own (map recorded entries) in
+    let f : Script → ℕ = own entries in
     let g : Script → ℕ = λ (s : Script). length s.requests in
     let less : f (slice_index_or scripts there.0 script) < g (slice_index_or scripts there.0 script) =
-    subst (λ (s : Script). f s < g s) (sym there.2) (own_short (map recorded entries) script front short) in
+    subst (λ (s : Script). f s < g s) (sym there.2) (own_short entries script front short) in
     omega (
       arith,
-      length-map entries recorded,
       counted scripts numbered entries within,
-      sum_less f g scripts there.0 script (own_fronts (map recorded entries) scripts fronts) there.1 less,
+      sum_less f g scripts there.0 script (own_fronts entries scripts fronts) there.1 less,
       total,
     )
 

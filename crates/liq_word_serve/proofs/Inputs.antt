@@ -2,7 +2,6 @@
 use Rattle.std.proofs.Common.{ℕ, zero, suc, ◌+◌, ◌<◌, ◌≤◌, ◌≡◌, ◌⊎◌, inl, inr, List, [], ◌∷◌, map, length, false, true, Option, Some, None, Result, Ok, Err, refl, sym, ap, ap₂, ◌∙◌, subst, arith}
 use Rattle.std.specs.Prelude.{◌↔◌, ◌≢◌, All, Contains, IsSome, Vec, slice_index_or}
 use Rattle.std.specs.List.{AllByRecursion}
-use Rattle.std.proofs.lemmas.List.Elements.{All-map}
 use Rattle.std.specs.Global.{Global}
 use Rattle.liq_outside.specs.At.{DiskAt, SinkAt}
 use Rattle.liq_outside.specs.Disk.{GoesOn, LeftNow}
@@ -13,12 +12,11 @@ use Rattle.liq_types.specs.declared.requests.Request.{Request}
 use Rattle.liq_types.specs.declared.requests.Request.TheVariants.{Do, Ask}
 use Rattle.liq_types.specs.State.{State}
 use Rattle.liq_core.specs.Core.{StandsFor}
-use Rattle.liq_rule_step.specs.History as history
+use Rattle.liq_types.specs.declared.entries.Entry.{Entry}
 use Rattle.liq_rule_step.specs.History.{state_after}
 use Rattle.liq_rule_step.specs.Memory.{IsAccepted}
 use Rattle.liq_rule_step.specs.Step.{Ruling, Allowed, after, after_ruling, ruling}
 use Rattle.liq_rule_step.proofs.Histories.{legal-empty}
-use Rattle.liq_rule_step.specs.Recorded.{recorded}
 use Rattle.liq_journal.specs.declared.damage.Damage.{Damage}
 use Rattle.liq_journal.specs.Opened.{OpenLeaves}
 use Rattle.liq_disk_pair.specs.declared.side.Side.{Side}
@@ -73,7 +71,7 @@ mapped f (x ∷ xs) zero y within is = (x, sym is)
 mapped f (x ∷ xs) (suc k) y within is = mapped f xs k y (omega arith) is
 
 -- the next request of a script is that of its session
-next_asked : (asked : List (ℕ × Request)) (scripts : List Script) (entries : List history.Entry) (request : Request)
+next_asked : (asked : List (ℕ × Request)) (scripts : List Script) (entries : List Entry) (request : Request)
     (script : Script) (session : ℕ) → scripts ≡ scripts_of asked
     → Contains scripts script → script.session ≡ session → IsNextOf entries request script
     → IsNextOf entries request (script_of asked session)
@@ -311,8 +309,8 @@ module _ {D : Type 0} (disk_at : D → DiskAt) (store : Stored D) (scripts : Lis
   abbrev ServesAt : State → Type 0
   ServesAt s = Serves disk_at s (disk_at store.left) (disk_at store.right) scripts served
 
-  abbrev entries : List history.Entry
-  entries = map recorded served.history
+  abbrev entries : List Entry
+  entries = served.history
 
   disks_by : (start : State) → ServesAt start → (how : Finish) → IsFinishOf served.end how → (l r : List ℕ)
       → HoldsAfter disk_at how (halted_in served.end) entries l r start served.left served.right
@@ -406,24 +404,22 @@ module _ {D : Type 0} (disk_at : D → DiskAt) (store : Stored D) (scripts : Lis
           → LeavesOpening disk_at left right store.left store.right → IsInOrder disk_at store
           → (IsSome (disk_at store.left).seen ↔ IsSome (disk_at left).seen)
           → (IsSome (disk_at store.right).seen ↔ IsSome (disk_at right).seen)
-          → (how : Finish) → IsFinishOf served.end how → Written sink_at how (map recorded served.history) out out_now
+          → (how : Finish) → IsFinishOf served.end how → Written sink_at how served.history out out_now
           → ServesInput sink_at disk_at before unread out out_now left right
           (record { left = served.left; right = served.right; finish = how })
       serves_input few read opened base serves serves_at may_stay opening order left_telling right_telling how how_is
           written =
           record {
             asked = asked;
-            history = map recorded served.history;
+            history = served.history;
             answered = record {
               few = few;
               read = λ bytes told.
                   subst (λ (r : Result (Unit {0}) Stop). EndsAfter r bytes unread asked)
                   (sym (reads_whole served.end how how_is)) (read bytes told);
-              fronts = by_session (IsServedFrom (map recorded served.history)) asked scripts are serves.fronts;
-              sessions =
-                  All-map (λ (e : history.Entry). (1 ≤ e.session) × (e.session ≤ SESSIONS)) recorded served.history
-                  (λ k d within.
-                  let range = serves.sessions k d within in (range.0, omega (arith, range.1, ap length are)));
+              fronts = by_session (IsServedFrom served.history) asked scripts are serves.fronts;
+              sessions = λ k d within.
+                  let range = serves.sessions k d within in (range.0, omega (arith, range.1, ap length are));
               halted = halted_in served.end;
               answers = answers_by base serves how how_is;
               legal = λ l r start told_l told_r is. (serves_at start (stands_at l r start told_l told_r is)).legal;

@@ -1,5 +1,5 @@
 -- What is left is what the closed book had.
-use Rattle.std.proofs.Common.{ℕ, ◌≡◌, List, [], ◌∷◌, map, Bool, true, false, Option, Some, None, refl, sym, ap, ◌∙◌, subst}
+use Rattle.std.proofs.Common.{ℕ, ◌≡◌, List, [], ◌∷◌, Bool, true, false, Option, Some, None, refl, sym, ap, ◌∙◌, subst}
 use Rattle.std.specs.Prelude.{All}
 use Rattle.liq_types.specs.State.{State}
 use Rattle.liq_rule_step.specs.History.{requests_of, state_after}
@@ -13,7 +13,6 @@ use Rattle.liq_book.specs.declared.items.Item.{Item}
 use Rattle.liq_book.specs.declared.origin.Origin.{Ghosts}
 use Rattle.liq_book.specs.declared.seat.BookSeat.{BookSeat}
 use Rattle.liq_book.specs.Booked.{IsBook}
-use Rattle.liq_rule_step.specs.Recorded.{recorded}
 use Rattle.liq_book.specs.Items.{chronicle, session_of}
 use Rattle.liq_book.specs.Seats.{items_seen, session_at}
 use Rattle.liq_book.proofs.Pasts.{past_left}
@@ -46,8 +45,8 @@ module _ {D : Type 0} (at : D → DiskAt) where
   module _ (base : State) (left_origin right_origin : DiskAt) where
     keeps : (store : Stored D) (history : List Entry) (halt : Option Halt) → IsInOrder at store
         → IsBook at base left_origin right_origin (record { store = store; entries = history; halt = halt })
-        → KeepsBehind at halt (state_after base (map recorded history)) store.left store.right
-    keeps store history None order book = settles store (state_after base (map recorded history)) order book.halt
+        → KeepsBehind at halt (state_after base history) store.left store.right
+    keeps store history None order book = settles store (state_after base history) order book.halt
         book.state
     keeps store history (Some halt) order book = book.keeps
 
@@ -78,6 +77,6 @@ module _ {D : Type 0} (at : D → DiskAt) where
             past =
                 rw (halt_is, history_is, left_is, right_is)
                 (past_left at left_origin right_origin base
-                (requests_of (map recorded history)) halt store order book.halt book.past);
+                (requests_of history) halt store order book.halt book.past);
           };
         }

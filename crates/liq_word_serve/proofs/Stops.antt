@@ -1,5 +1,5 @@
 -- What a stop leaves of the disks, at any moment of serving an input.
-use Rattle.std.proofs.Common.{ℕ, ◌≡◌, ◌≢◌, ◌≤◌, inl, inr, List, [], map, Option, Some, None, Ok, refl, sym, subst, arith}
+use Rattle.std.proofs.Common.{ℕ, ◌≡◌, ◌≢◌, ◌≤◌, inl, inr, List, [], Option, Some, None, Ok, refl, sym, subst, arith}
 use Rattle.std.specs.Prelude.{IfSome, IsSome, ◌↔◌, false}
 use Rattle.liq_outside.specs.At.{DiskAt}
 use Rattle.liq_outside.specs.Disk.{GoesOn, LeavesOnly, LeftNow, Only}
@@ -9,9 +9,8 @@ use Rattle.liq_types.specs.declared.requests.Request.{Request}
 use Rattle.liq_types.specs.declared.requests.Request.TheVariants.{Do, Ask}
 use Rattle.liq_types.specs.State.{State}
 use Rattle.liq_types.proofs.Tests.{value_of}
-use Rattle.liq_rule_step.specs.History as history
+use Rattle.liq_types.specs.declared.entries.Entry.{Entry}
 use Rattle.liq_rule_step.specs.History.{requests_of, state_after}
-use Rattle.liq_rule_step.specs.Recorded.{recorded}
 use Rattle.liq_journal.specs.Opened.{OpenLeaves}
 use Rattle.liq_disk_pair.specs.declared.side.Side.{Side}
 use Rattle.liq_disk_pair.specs.declared.side.Side.TheVariants.{Left, Right}
@@ -53,7 +52,7 @@ halted_in end.NoMemory = None
 
 module _ {D : Type 0} (at : D → DiskAt) (left right : D) where
   -- what a stop leaves of these disks, when serving them finished so
-  abbrev pub LeavesAt : Finish → Option (ℕ × Command) → List history.Entry → D → D → Type 0
+  abbrev pub LeavesAt : Finish → Option (ℕ × Command) → List Entry → D → D → Type 0
   LeavesAt how halted entries now_left now_right =
       (l r : List ℕ) (start : State) → (at left).seen ≡ Some l → (at right).seen ≡ Some r
       → Only l (LeftNow at left) → Only r (LeftNow at right)
@@ -72,7 +71,7 @@ module _ {D : Type 0} (at : D → DiskAt) (left right : D) where
 
 module _ {D : Type 0} (at : D → DiskAt)
     (may_stay : (disk : D) (held : List ℕ) → (at disk).seen ≡ Some held → LeftNow at disk held) (left right : D) where
-  abbrev At : Finish → Option (ℕ × Command) → List history.Entry → D → D → Type 0
+  abbrev At : Finish → Option (ℕ × Command) → List Entry → D → D → Type 0
   At = LeavesAt at left right
 
   -- ---- nothing was opened
@@ -132,8 +131,8 @@ module _ {D : Type 0} (at : D → DiskAt)
   -- ---- the sessions were served
 
   module _ (store : Stored D) (scripts : List Script) (served : Served D) where
-    abbrev entries : List history.Entry
-    entries = map recorded served.history
+    abbrev entries : List Entry
+    entries = served.history
 
     -- what was left by the book, whose disks told a and b at its origin
     abbrev LeftBy : List ℕ → List ℕ → State → Fault → Type 0

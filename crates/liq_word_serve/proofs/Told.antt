@@ -7,8 +7,8 @@ use Rattle.std.proofs.lemmas.List.Elements.{Contains-get_or}
 use Rattle.liq_types.specs.declared.replies.Answer.TheVariants as answer
 use Rattle.liq_types.specs.declared.replies.Reply.{Reply}
 use Rattle.liq_types.specs.declared.requests.Request.{Request}
-use Rattle.liq_rule_step.specs.History as history
-use Rattle.liq_rule_step.specs.History.{own_entries}
+use Rattle.liq_types.specs.declared.entries.Entry.{Entry}
+use Rattle.liq_rule_step.specs.History.{own_entries, requests_of}
 use Rattle.liq_lock.specs.History.{Behind}
 use Rattle.liq_sessions.specs.declared.done.SessionEnd.{SessionEnd}
 use Rattle.liq_sessions.specs.declared.done.SessionEnd.TheVariants as session_end
@@ -80,9 +80,9 @@ firsts-zip [] (y ∷ ys) few = absurd (omega arith)
 firsts-zip (x ∷ xs) [] few = refl
 firsts-zip (x ∷ xs) (y ∷ ys) few = ap (λ rest. x ∷ rest) (firsts-zip xs ys (omega arith))
 
-requests_shown : (entries : List history.Entry)
-    → map (λ (p : Request × Reply). p.0) (map (λ (e : history.Entry). (e.request, e.reply)) entries)
-    ≡ history.requests_of entries
+requests_shown : (entries : List Entry)
+    → map (λ (p : Request × Reply). p.0) (map (λ (e : Entry). (e.request, e.reply)) entries)
+    ≡ requests_of entries
 requests_shown [] = refl
 requests_shown (e ∷ entries) = ap (λ rest. e.request ∷ rest) (requests_shown entries)
 
@@ -118,7 +118,7 @@ answered_by : (left seen : List Item) (script : Script) (replies : List Reply)
     → calls_of script.session seen ≡ zip script.requests replies → length replies ≤ length script.requests
     → answered_of script.session (entries_of left) ≡ take (length replies) script.requests
 answered_by left seen script replies behind calls few =
-    ap (map (λ (e : history.Entry). e.request)) (own_behind script.session left seen behind)
+    ap (map (λ (e : Entry). e.request)) (own_behind script.session left seen behind)
     ∙ (sym (requests_shown (own_entries script.session (entries_of seen)))
     ∙ (ap (map (λ (p : Request × Reply). p.0)) calls ∙ firsts-zip script.requests replies few))
 
@@ -139,7 +139,7 @@ told_by left seen script replies end behind calls few faulted = record {
 -- a seat that saw nothing
 pub answered_none : (left : List Item) (script : Script) → Behind session_of left (script.session ∷ []) []
     → answered_of script.session (entries_of left) ≡ []
-answered_none left script behind = ap (map (λ (e : history.Entry). e.request))
+answered_none left script behind = ap (map (λ (e : Entry). e.request))
     (own_behind script.session left [] behind)
 
 pub told_none : (left : List Item) (script : Script) → Behind session_of left (script.session ∷ []) []

@@ -1,11 +1,11 @@
 -- What serving scripts leaves.
-use Rattle.std.specs.Prelude.{ℕ, ◌≡◌, ◌≤◌, ◌<◌, ◌+◌, List, map, length, slice_index_or}
+use Rattle.std.specs.Prelude.{ℕ, ◌≡◌, ◌≤◌, ◌<◌, ◌+◌, List, length, slice_index_or}
 use Rattle.std.specs.Prelude.{All, Contains, Some, None, sum_by}
 use Rattle.liq_outside.specs.At.{DiskAt}
 use Rattle.liq_outside.specs.Disk.{LeftNow}
 use Rattle.liq_types.specs.declared.requests.Request.{Request}
 use Rattle.liq_types.specs.State.{State}
-use Rattle.liq_rule_step.specs.History as history
+use Rattle.liq_types.specs.declared.entries.Entry.{Entry}
 use Rattle.liq_rule_step.specs.History.{IsLegal, requests_of, state_after}
 use Rattle.liq_rule_step.specs.Memory.{IsAccepted}
 use Rattle.liq_disk_pair.specs.declared.side.Side.{Side}
@@ -14,7 +14,6 @@ use Rattle.liq_store.specs.Keeping.{IsAtRest, IsKeptAround}
 use Rattle.liq_store.specs.Stored.{Stored}
 use Rattle.liq_sessions.specs.declared.script.Script.{Script}
 use Rattle.liq_book.specs.Booked.{CausesHalt}
-use Rattle.liq_rule_step.specs.Recorded.{recorded}
 use Rattle.liq_book.specs.declared.items.TheConstants.{ENTRIES_MOST}
 use Rattle.liq_book.specs.Origin.{GoesOnFrom, TellsList, faults_at}
 use Rattle.liq_book.specs.Past.{LeavesFrom}
@@ -61,7 +60,7 @@ module _ {D : Type 0} (at : D → DiskAt) where
 
   -- Settled; or, after a fault, kept with one request more, which is the next one of the session
   -- whose call met it, and a command that the rules accept there.
-  abbrev pub LeavesDisks : List Script → List history.Entry → State → End → D → D → Type 0
+  abbrev pub LeavesDisks : List Script → List Entry → State → End → D → D → Type 0
   LeavesDisks scripts entries s end.All left right = AreSettled s left right
   LeavesDisks scripts entries s end.NoMemory left right = AreSettled s left right
   LeavesDisks scripts entries s (end.DiskFault halt) left right =
@@ -81,7 +80,7 @@ pub record HasGoneOn
   pub left_time : GoesOnFrom left_origin (at served.left)
   pub right_time : GoesOnFrom right_origin (at served.right)
   pub past :
-      LeavesFrom at left_origin right_origin base (requests_of (map recorded served.history))
+      LeavesFrom at left_origin right_origin base (requests_of served.history)
       (halt_of served.end) served.left served.right
 
 -- The history is legal from the state with which the service began. Each session's entries in it
@@ -90,12 +89,12 @@ pub record HasGoneOn
 pub record Serves
     {D : Type 0} (at : D → DiskAt) (base : State) (left_origin right_origin : DiskAt)
     (scripts : List Script) (served : Served D) : Type 0 where
-  pub legal : IsLegal base (map recorded served.history)
-  pub fronts : All (IsServedFrom (map recorded served.history)) scripts
-  pub whole : served.end ≡ end.All → All (IsServedWhole (map recorded served.history)) scripts
-  pub memory : served.end ≡ end.NoMemory → LacksMemory scripts (map recorded served.history)
+  pub legal : IsLegal base served.history
+  pub fronts : All (IsServedFrom served.history) scripts
+  pub whole : served.end ≡ end.All → All (IsServedWhole served.history) scripts
+  pub memory : served.end ≡ end.NoMemory → LacksMemory scripts served.history
   pub sessions : All (λ e. (1 ≤ e.session) × (e.session ≤ length scripts)) served.history
   pub disks :
-      LeavesDisks at scripts (map recorded served.history)
-      (state_after base (map recorded served.history)) served.end served.left served.right
+      LeavesDisks at scripts served.history (state_after base served.history) served.end
+      served.left served.right
   pub since : HasGoneOn at base left_origin right_origin served

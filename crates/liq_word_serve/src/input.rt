@@ -1,14 +1,13 @@
 //! The word `serve`: what the lines of all sessions ask is answered at once over two disks, and the
 //! history is written.
 
-ghost use Rattle.std.specs.Prelude.{◌≡◌, ◌↔◌, [], map, IsSome};
+ghost use Rattle.std.specs.Prelude.{◌≡◌, ◌↔◌, [], IsSome};
 ghost use Rattle.liq_outside.specs.Disk.{GoesOn};
 ghost use Rattle.liq_types.specs.declared.amounts.TheConstants.{LINES_MOST};
 ghost use Rattle.liq_store.specs.Causes.{counts_of};
 ghost use Rattle.liq_text_lines.specs.Reading.{taken_most, ReadsAtMost};
 ghost use Rattle.liq_text_lines.specs.declared.stops.Stop.{Stop};
 ghost use Rattle.liq_text_scripts.specs.Gathering.{ReadCause};
-ghost use Rattle.liq_rule_step.specs.Recorded.{recorded};
 ghost use Rattle.liq_word_serve.specs.Input.{AreAtRest, DiskCause, IsFinishOf, IsShown, ServesInput, WriteCause, Written};
 ghost use Rattle.liq_word_serve.specs.Input.{reading_of};
 
@@ -151,7 +150,7 @@ fn write_end<K: Sink, D: Disk>(
 ) -> Finish
     requires { outbox.old ≡ [] }
     ensures finish { IsFinishOf end result }
-    ensures written { Written K.at result (map recorded history.now) out.old out.new }
+    ensures written { Written K.at result history.now out.old out.new }
     ensures shown { IsShown D.at K.at left.now right.now out.old out.new result }
     ensures cause { WriteCause result (K.at out.old).faults (K.at out.new).faults }
 {

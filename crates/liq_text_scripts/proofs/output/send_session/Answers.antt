@@ -1,6 +1,6 @@
 use Rattle.std.proofs.Common.{ℕ, List, Ok, Err, sym, subst, ◌∙◌}
 use Rattle.std.specs.List.{flat_map}
-use Rattle.liq_rule_step.specs.History as history
+use Rattle.liq_types.specs.declared.entries.Entry.{Entry}
 use Rattle.liq_text_scripts.specs.Output.{session_text}
 use Rattle.liq_text_scripts.specs.Sending.{Sends, heading}
 use Rattle.liq_text_scripts.proofs.Own.{own_line, own-none, own-text, session_part}
@@ -12,7 +12,7 @@ returns-then-not-has_entries-clause-sends g c =
     let before = (g.K.Sink.at c.args.out.now).held in
     let none = own-none g.E.ShownEntry.entry c.args.session c.args.entries.now (sym c.requires.known
     ∙ c.if-not-has_entries.true) in
-    subst (λ (own : List history.Entry). Sends (Ok tt) c.args.outbox.now (session_text c.args.session own)
+    subst (λ (own : List Entry). Sends (Ok tt) c.args.outbox.now (session_text c.args.session own)
     c.args.outbox.now before before) (sym none) (sends_nothing c.args.outbox.now before)
 
 pub returns-in_err-send-clause-sends : goal.returns-in_err-send-clause-sends

@@ -1,8 +1,7 @@
-use Rattle.std.proofs.Common.{arith, ◌≡◌, map, List, ℕ, Some, Result, subst, sym}
+use Rattle.std.proofs.Common.{arith, ◌≡◌, List, ℕ, Some, Result, subst, sym}
 use Rattle.std.specs.Prelude.{◌↔◌}
 use Rattle.liq_core.specs.Core.{state_of}
 use Rattle.liq_types.specs.declared.entries.Entry.{Entry}
-use Rattle.liq_rule_step.specs.Recorded.{recorded}
 use Rattle.liq_text_lines.specs.declared.stops.Stop.{Stop}
 use Rattle.liq_text_lines.proofs.Readings.{takes_none}
 use Rattle.liq_text_scripts.specs.Gathering.{ReadCause}
@@ -91,7 +90,7 @@ returns-clause-served g c =
     })
     opening.order opening.left_telling opening.right_telling how c.write_end-finish.ensures.finish
     (subst (λ (entries : List Entry).
-    Written g.K.Sink.at how (map recorded entries) c.args.out.now c.write_end-finish.new.out)
+    Written g.K.Sink.at how entries c.args.out.now c.write_end-finish.new.out)
     c.as_slice.ensures c.write_end-finish.ensures.written)
 
 pub returns-clause-disks : goal.returns-clause-disks

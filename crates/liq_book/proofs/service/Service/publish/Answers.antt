@@ -1,8 +1,6 @@
 use Rattle.std.proofs.Common.{◌≡◌, [], length, Ok, Err, Result, sym, ap, ◌∙◌, append-nil}
-use Rattle.std.proofs.lemmas.List.{length-map}
 use Rattle.liq_lock.specs.Seats.{seen_in, seen_of}
 use Rattle.liq_lock.proofs.Histories.{nothing_in_nil}
-use Rattle.liq_rule_step.specs.Recorded.{recorded}
 use Rattle.liq_book.proofs.Chronicles.{entries_of-chronicle, own_behind}
 use Rattle.liq_book.specs.Booked.{Booked}
 use Rattle.liq_book.specs.Entered.{IsAsBefore}
@@ -61,5 +59,5 @@ returns-clause-sent g c =
     c.publish-sent.ensures.sent in
     let many : length (entries_of (items_in new)) ≡ length old.entries =
     ap length (entries_of-chronicle new.entries new.halt)
-    ∙ (length-map new.entries recorded ∙ ap length same.0) in
+    ∙ ap length same.0 in
     rw (c.give.ensures.seen, many) c.publish-sent.ensures.number
