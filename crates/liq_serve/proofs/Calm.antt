@@ -131,24 +131,24 @@ stopped_by P end wanted holds (inr is) = inr (ap status_of is)
 -- ---- of lines that are answered
 
 -- of the first generation
-answers_beside_done : (s : State) (end : End) → s.generation ≡ 1 → IsAnswerOf s end
+answers_beside_done : (s : State) (all : List Command) (end : End) → s.generation ≡ 1 → IsAnswerOf s all end
     → status_of end ≢ 4 → status_of end ≢ 5 → IsDone (status_of end)
-answers_beside_done s (Ok done) first h sink disk = inl refl
-answers_beside_done s (Err WriteFault) first h sink disk = absurd (sink refl)
-answers_beside_done s (Err DiskFault) first h sink disk = absurd (disk refl)
-answers_beside_done s (Err NoMemory) first h sink disk = inr refl
-answers_beside_done s (Err (Rotated generation)) first h sink disk = absurd (omega (arith, first, h.0))
-answers_beside_done s (Err _) first h sink disk = absurd h
+answers_beside_done s all (Ok done) first h sink disk = inl refl
+answers_beside_done s all (Err WriteFault) first h sink disk = absurd (sink refl)
+answers_beside_done s all (Err DiskFault) first h sink disk = absurd (disk refl)
+answers_beside_done s all (Err NoMemory) first h sink disk = inr refl
+answers_beside_done s all (Err (Rotated generation)) first h sink disk = absurd (omega (arith, first, h.0))
+answers_beside_done s all (Err _) first h sink disk = absurd h
 
 -- of a later one
-answers_beside_rotated : (s : State) (end : End) → 1 < s.generation → IsAnswerOf s end
+answers_beside_rotated : (s : State) (all : List Command) (end : End) → 1 < s.generation → IsAnswerOf s all end
     → status_of end ≢ 5 → (status_of end ≡ 9) ⊎ (status_of end ≡ 7)
-answers_beside_rotated s (Ok done) later h disk = absurd (omega (arith, later, h))
-answers_beside_rotated s (Err WriteFault) later h disk = absurd (omega (arith, later, h))
-answers_beside_rotated s (Err DiskFault) later h disk = absurd (disk refl)
-answers_beside_rotated s (Err NoMemory) later h disk = inr refl
-answers_beside_rotated s (Err (Rotated generation)) later h disk = inl refl
-answers_beside_rotated s (Err _) later h disk = absurd h
+answers_beside_rotated s all (Ok done) later h disk = absurd (omega (arith, later, h.0))
+answers_beside_rotated s all (Err WriteFault) later h disk = absurd (omega (arith, later, h.0))
+answers_beside_rotated s all (Err DiskFault) later h disk = absurd (disk refl)
+answers_beside_rotated s all (Err NoMemory) later h disk = inr refl
+answers_beside_rotated s all (Err (Rotated generation)) later h disk = inl refl
+answers_beside_rotated s all (Err _) later h disk = absurd h
 
 module _
     {S K D : Type 0} (source_at : S → SourceAt) (sink_at : K → SinkAt) (disk_at : D → DiskAt)
@@ -160,13 +160,13 @@ module _
       → (bytes l r : List ℕ) (start : State) (all : List X) → (source_at before.source).left ≡ Some bytes
       → (disk_at before.left).seen ≡ Some l → (disk_at before.right).seen ≡ Some r
       → state_on l r ≡ Ok start → AllZip Says (lines_in bytes) all → length all ≤ LINES_MOST → status_of end ≢ 3
-      → IsAnswerOf start end ⊎ (status_of end ≡ 7)
+      → IsAnswerOf start (commands_on l r) end ⊎ (status_of end ≡ 7)
   lines_came end answered bytes l r start all told told_l told_r is spelled few read = by answered.came where
     by : ((answered.reading ≡ end) × StopsUnopened source_at sink_at disk_at before after end
         × Tells source_at sink_at disk_at before after [] [] end)
-        ⊎ ((answered.reading ≡ Ok tt) × TellsFound source_at sink_at disk_at before after end (Unit {0})
-        (λ s commands it. IsAnswerOf s end × (it ≡ text s.limit commands answered.asked)))
-        → IsAnswerOf start end ⊎ (status_of end ≡ 7)
+        ⊎ ((answered.reading ≡ Ok tt) × TellsFound source_at sink_at disk_at before after end
+        (λ s commands it. IsAnswerOf s commands end × (it ≡ text s.limit commands answered.asked)))
+        → IsAnswerOf start (commands_on l r) end ⊎ (status_of end ≡ 7)
     by (inl (stopped, unopened, line)) =
         inr (stopped_seven Says end bytes (source_at after.source).left answered.asked all unopened.2
         (subst (λ (e : End). ReadsTo Says bytes (source_at after.source).left answered.asked e)
@@ -174,15 +174,17 @@ module _
     by (inr (whole, answers)) =
         inl (found_of source_at sink_at disk_at before after end _ _ l r start told_l told_r is answers).0.1.0
 
-lines_done : (s : State) (end : End) → IsAnswerOf s end ⊎ (status_of end ≡ 7) → s.generation ≡ 1
+lines_done : (s : State) (all : List Command) (end : End) → IsAnswerOf s all end ⊎ (status_of end ≡ 7)
+    → s.generation ≡ 1
     → status_of end ≢ 4 → status_of end ≢ 5 → IsDone (status_of end)
-lines_done s end (inl h) first sink disk = answers_beside_done s end first h sink disk
-lines_done s end (inr seven) first sink disk = inr seven
+lines_done s all end (inl h) first sink disk = answers_beside_done s all end first h sink disk
+lines_done s all end (inr seven) first sink disk = inr seven
 
-lines_rotated : (s : State) (end : End) → IsAnswerOf s end ⊎ (status_of end ≡ 7) → 1 < s.generation
+lines_rotated : (s : State) (all : List Command) (end : End) → IsAnswerOf s all end ⊎ (status_of end ≡ 7)
+    → 1 < s.generation
     → status_of end ≢ 5 → (status_of end ≡ 9) ⊎ (status_of end ≡ 7)
-lines_rotated s end (inl h) later disk = answers_beside_rotated s end later h disk
-lines_rotated s end (inr seven) later disk = inr seven
+lines_rotated s all end (inl h) later disk = answers_beside_rotated s all end later h disk
+lines_rotated s all end (inr seven) later disk = inr seven
 
 -- ---- of each word
 
@@ -209,13 +211,15 @@ module _
     where
       lines_first : First Says (status_of end)
       lines_first bytes l r start asked told stood all few first well calm =
-          lines_done start end (lines_came source_at sink_at disk_at before after Says text end answered bytes l r start
+          lines_done start (commands_on l r) end
+          (lines_came source_at sink_at disk_at before after Says text end answered bytes l r start
           asked told stood.left stood.right stood.is all few (λ is. well (rises.source is)))
           first (λ is. calm.sink (rises.sink is)) (λ is. calm.disk (rises.disk is))
 
       lines_later : Later Says (status_of end)
       lines_later bytes l r start asked told stood all few later well kept =
-          lines_rotated start end (lines_came source_at sink_at disk_at before after Says text end answered bytes l r
+          lines_rotated start (commands_on l r) end
+          (lines_came source_at sink_at disk_at before after Says text end answered bytes l r
           start asked told stood.left stood.right stood.is all few (λ is. well (rises.source is)))
           later (λ is. kept (rises.disk is))
 

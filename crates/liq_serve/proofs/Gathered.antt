@@ -87,7 +87,7 @@ module _
   pub lines_whole :
       (before after : Outside S K D) (items : Vec X Global) (end : End)
       → lines.Gathers Says AreGathered (Ok items) (source_at before.source).left (source_at after.source).left
-      → TellsFound source_at sink_at disk_at before after end (Unit {0}) (λ start commands it. IsAnswerOf start end
+      → TellsFound source_at sink_at disk_at before after end (λ start commands it. IsAnswerOf start commands end
       × (it ≡ text start.limit commands items.items))
       → AnswersLines source_at sink_at disk_at before after Says text end
   lines_whole before after items end read answers =

@@ -1,11 +1,11 @@
 -- How a run ends, as the clause of the top call says it.
-use Rattle.std.proofs.Common.{◌≡◌, ◌≢◌, ◌<◌, ℕ, List, [], ◌∷◌, ◌++◌, length, take, Option, Ok, Err, refl, sym, ap, subst, ◌∙◌, inl, arith}
+use Rattle.std.proofs.Common.{◌≡◌, ◌≢◌, ◌<◌, ℕ, List, [], ◌∷◌, ◌++◌, length, take, Option, Ok, Err, refl, sym, ap, subst, ◌∙◌, arith}
 use Rattle.std.proofs.Math.Seq.{take-append_seam}
 use Rattle.std.proofs.lemmas.List.{length-append}
 use Rattle.liq_outside.specs.At.{DiskAt, SinkAt, SourceAt}
 use Rattle.liq_outside.specs.Faults.{Rose}
 use Rattle.liq_types.specs.declared.requests.Request.{Request}
-use Rattle.liq_types.specs.State.{State, opening}
+use Rattle.liq_types.specs.State.{State}
 use Rattle.liq_text_lines.specs.Writing.{Writes}
 use Rattle.liq_word_exit.specs.declared.halts.Halt.TheVariants.{BadLine, ReadFault, WriteFault, DiskFault, Damaged, DamagedInput, NoMemory, Limit, Rotated}
 use Rattle.liq_word_exit.specs.Disks.{OfBoth, OfDamage, OfState}
@@ -14,7 +14,7 @@ use Rattle.liq_word_exit.specs.Statuses.{End}
 use Rattle.liq_word_exit.specs.Stops.{EndsIn, TellsBehind, WritesUpTo}
 use Rattle.liq_word_exit.specs.Outside.{Outside}
 use Rattle.liq_serve.specs.Top.{Finds, RunsTo}
-use Rattle.liq_serve.proofs.Found.{TellsDamage, damage_told, finds_by, of_told, of_untold}
+use Rattle.liq_serve.proofs.Found.{TellsDamage, damage_told, finds_any, finds_by, of_told, of_untold}
 
 -- ---- what was written
 
@@ -105,9 +105,5 @@ module _
       (λ l r side damage told_l told_r is.
       let so = damaged l r told_l told_r side damage is in
       (so.0, damage_told source_at sink_at disk_at before after end l r side damage so.1))
-      (λ none. inl (
-        opening,
-        [],
-        of_untold disk_at before.left before.right none _,
-        of_untold disk_at before.left before.right none _,
-      ))
+      (λ none. finds_any source_at sink_at disk_at before after end (after.source ≡ before.source) _
+      (of_untold disk_at before.left before.right none _) none)

@@ -7,7 +7,7 @@ use Rattle.liq_outside.specs.declared.showing.Showing.{Showing}
 use Rattle.liq_outside.specs.Showings.{Notes}
 use Rattle.liq_outside.proofs.Moments.{weaker}
 use Rattle.liq_types.specs.declared.amounts.TheConstants.{LINES_MOST}
-use Rattle.liq_types.specs.State.{State, opening}
+use Rattle.liq_types.specs.State.{State}
 use Rattle.liq_types.specs.declared.requests.Command.{Command}
 use Rattle.liq_types.specs.declared.requests.Request.{Request}
 use Rattle.liq_types.specs.declared.requests.Request.TheVariants.{Do}
@@ -51,7 +51,7 @@ use Rattle.liq_word_exit.proofs.Damaged.{left_opened}
 use Rattle.liq_serve.specs.Finishing.{end_of, halt_at}
 use Rattle.liq_word_exit.specs.Outside.{Outside}
 use Rattle.liq_serve.specs.Top.{Answers, AreLeft, Finds, Keep, OpensNone, StopsUnopened, Tells}
-use Rattle.liq_serve.proofs.Found.{Untold, finds_by, of_told, of_untold}
+use Rattle.liq_serve.proofs.Found.{Untold, finds_any, finds_by, of_told, of_untold}
 
 -- ---- the counts
 
@@ -305,12 +305,9 @@ module _
 
   -- it may be any state, where not both disks told their bytes
   found_any : (end : End) → Contains (5 ∷ 7 ∷ []) (status_of end) → Untold disk_at before.left before.right → Found end
-  found_any end status none = inl (
-    opening,
-    [],
-    (status, of_untold disk_at before.left before.right none _),
-    of_untold disk_at before.left before.right none _,
-  )
+  found_any end status none =
+      finds_any source_at sink_at disk_at before after end (Unit {0}) _
+      (status, of_untold disk_at before.left before.right none _) none
 
   -- No store was opened. Of damaged disks a stop leaves what an opening does.
   unopened_by : (end : End) (fault : Fault) (w : StoreWhy)
@@ -342,10 +339,12 @@ module _
                 told,
                 record {
                   ends = ends l r side damage told_l told_r is;
-                  left_leaves = λ only. weaker disk_at before.left after.left (LeftLeaves l r) (OpenLeaves true l)
-                      (leaves.left_leaves only) (λ image there. left_opened l r image (side, damage) there is);
-                  right_leaves = leaves.right_leaves;
-                  shut = λ other. leaves.shut (λ e. no_fault other (cc e));
+                  leaves = record {
+                    left_leaves = λ only. weaker disk_at before.left after.left (LeftLeaves l r) (OpenLeaves true l)
+                        (leaves.left_leaves only) (λ image there. left_opened l r image (side, damage) there is);
+                    right_leaves = leaves.right_leaves;
+                    shut = λ other. leaves.shut (λ e. no_fault other (cc e));
+                  };
                 },
               ),
             ))

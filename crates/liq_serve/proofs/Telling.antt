@@ -125,13 +125,13 @@ audit_done s commands (Err (DamagedInput number)) text first h within_limits sin
 -- of a later one
 pub rotated_done : (s : State) (commands : List Command) (end : Result (Unit {0}) Halt) (text : List ℕ)
     → 1 < s.generation → IsAuditOf s commands end text → status_of end ≢ 5 → (status_of end ≡ 9) ⊎ (status_of end ≡ 7)
-rotated_done s commands (Ok done) text later h disk = absurd (omega (arith, later, h.0))
+rotated_done s commands (Ok done) text later h disk = absurd (omega (arith, later, h.0.0))
 rotated_done s commands (Err (BadLine n)) text later h disk = absurd h
 rotated_done s commands (Err ReadFault) text later h disk = absurd h
-rotated_done s commands (Err WriteFault) text later h disk = absurd (omega (arith, later, h.0))
+rotated_done s commands (Err WriteFault) text later h disk = absurd (omega (arith, later, h.0.0))
 rotated_done s commands (Err DiskFault) text later h disk = absurd (disk refl)
 rotated_done s commands (Err (Damaged side number)) text later h disk = absurd h
 rotated_done s commands (Err NoMemory) text later h disk = inr refl
-rotated_done s commands (Err (Limit number)) text later h disk = absurd (omega (arith, later, h.0))
+rotated_done s commands (Err (Limit number)) text later h disk = absurd (omega (arith, later, h.0.0))
 rotated_done s commands (Err (Rotated generation)) text later h disk = inl refl
 rotated_done s commands (Err (DamagedInput number)) text later h disk = absurd h

@@ -43,7 +43,7 @@ use Rattle.liq_word_exit.specs.Answered.{KeepsAnswered}
 use Rattle.liq_word_exit.specs.Outside.{Outside}
 use Rattle.liq_word_follow.proofs.Beginning.{none_goes_on}
 use Rattle.liq_serve.specs.Top.{AnswersLines, Ends, Finds, Leaves, RunsTo, ServesTo, Tells, TellsFound, TellsState, most_taken}
-use Rattle.liq_serve.proofs.Found.{Untold, finds_by, of_told, of_untold}
+use Rattle.liq_serve.proofs.Found.{Untold, finds_any, finds_by, of_told, of_untold}
 use Rattle.liq_serve.proofs.Served.{if_found, neither}
 use Rattle.liq_serve.proofs.Telling.{same_go_on}
 
@@ -233,13 +233,13 @@ module _
       ))
       (λ l r side damage told_l told_r is.
       (q, (written, untouched_damaged disk_at before.left before.right l r side damage told_l told_r is)))
-      (λ none. inl (opening, [], any none, of_untold disk_at before.left before.right none _))
+      (λ none. finds_any source_at sink_at disk_at before after (Err NoMemory) Q P (any none) none)
 
   -- whatever text it was to tell
   tells_nothing :
       (P : State → List Command → List ℕ → Type 0) → Writes (last NoMemory)
       → ((start : State) (commands : List Command) → (text : List ℕ) × P start commands text)
-      → TellsFound source_at sink_at disk_at before after (Err NoMemory) (Unit {0}) P
+      → TellsFound source_at sink_at disk_at before after (Err NoMemory) P
   tells_nothing P written any =
       finds_nothing (Unit {0})
       (λ start commands. ((text : List ℕ) × P start commands text

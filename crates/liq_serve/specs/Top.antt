@@ -9,6 +9,7 @@ use Rattle.liq_types.specs.declared.requests.Command.{Command}
 use Rattle.liq_types.specs.declared.requests.Request.{Request}
 use Rattle.liq_types.specs.declared.requests.Request.TheVariants.{Do}
 use Rattle.liq_types.specs.State.{State, opening}
+use Rattle.liq_types.specs.WellFormed.{IsWellFormed}
 use Rattle.liq_rule_step.specs.History.{Entry, IsLegal, own_entries, requests_of, state_after}
 use Rattle.liq_rule_step.specs.Step.{Allowed, ruling}
 use Rattle.liq_text_lines.specs.Reading.{Reads, ReadsAtMost, taken_most}
@@ -32,7 +33,7 @@ use Rattle.liq_word_exit.specs.declared.halts.Halt.TheVariants.{BadLine, ReadFau
 use Rattle.liq_word_exit.specs.Answered.{KeepsAnswered, Told}
 use Rattle.liq_word_exit.specs.Causes.{HasCauses}
 use Rattle.liq_word_exit.specs.Disks.{DisksHold, DisksStay, EndsDamaged, IsFaultOfRun, IsFaultOfTelling}
-use Rattle.liq_word_exit.specs.Disks.{LeavesDamaged, LeavesOfRun, OfBoth}
+use Rattle.liq_word_exit.specs.Disks.{LeavesOfRun, LeavesOrShuts, OfBoth}
 use Rattle.liq_word_exit.specs.Output.{lines, usage}
 use Rattle.liq_word_exit.specs.Reading.{ReadsTo}
 use Rattle.liq_word_exit.specs.Statuses.{End, status_of}
@@ -82,20 +83,20 @@ module _ {S K D : Type 0} (source_at : S → SourceAt) (sink_at : K → SinkAt) 
   abbrev pub OfTold : (List ℕ → List ℕ → Type 0) → Type 0
   OfTold P = OfBoth disk_at before.left before.right P
 
-  -- What a word finds on the disks: a state, and the commands that lead to it, of which P holds. Or
+  -- What a word finds on the disks: a state that is well formed, and commands, of which P holds. Or
   -- one has a first damage; then Q holds, and a last line alone is written. Disks that told their
-  -- bytes stood for just that state, or had just that damage.
+  -- bytes stood for just that state, by just these commands, or had just that damage.
   abbrev pub Finds : End → Type 0 → (State → List Command → Type 0) → Type 0
-  Finds end Q P = ((start : State) × (commands : List Command) × P start commands
-      × OfTold (λ l r. (state_on l r ≡ Ok start) × (commands_on l r ≡ commands)))
+  Finds end Q P = ((start : State) × (commands : List Command) × IsWellFormed start
+      × P start commands × OfTold (λ l r. (state_on l r ≡ Ok start) × (commands_on l r ≡ commands)))
       ⊎ ((side : Side) × (damage : Damage) × Q × Tells [] [] end
       × EndsDamaged disk_at side damage end after.left after.right
       × OfTold (λ l r. (state_on l r ≡ Err (side, damage))
-      × LeavesDamaged disk_at before.left before.right l r side damage end after.left after.right))
+      × LeavesOrShuts disk_at before.left before.right l r end after.left after.right))
 
   -- Of what it finds it tells a text of which P holds, and the disks stay so.
-  abbrev pub TellsFound : End → Type 0 → (State → List Command → List ℕ → Type 0) → Type 0
-  TellsFound end Q P = Finds end Q (λ start commands.
+  abbrev pub TellsFound : End → (State → List Command → List ℕ → Type 0) → Type 0
+  TellsFound end P = Finds end (Unit {0}) (λ start commands.
       ((text : List ℕ) × P start commands text × Tells [] text end)
       × OfTold (λ l r. DisksStay disk_at end l r start after.left after.right
       × LeavesOfRun disk_at before.left before.right (IsFaultOfTelling end) l r start []
@@ -103,7 +104,7 @@ module _ {S K D : Type 0} (source_at : S → SourceAt) (sink_at : K → SinkAt) 
 
   -- nothing is read, and this text of the state is told
   abbrev pub TellsState : (State → List ℕ) → End → Type 0
-  TellsState text end = (after.source ≡ before.source) × TellsFound end (Unit {0})
+  TellsState text end = (after.source ≡ before.source) × TellsFound end
       (λ start commands it. Contains (0 ∷ 4 ∷ 5 ∷ 7 ∷ []) (status_of end) × (it ≡ text start))
 
   -- reading stopped, so that no disk was opened
@@ -219,7 +220,7 @@ module _ {S K D : Type 0} (source_at : S → SourceAt) (sink_at : K → SinkAt) 
     pub reading : End
     pub read : (bytes : List ℕ) → told ≡ Some bytes → ReadsTo Says bytes unread asked reading
     pub came : ((reading ≡ end) × StopsUnopened end × Tells [] [] end) ⊎ ((reading ≡ Ok tt)
-        × TellsFound end (Unit {0}) (λ start commands it. IsAnswerOf start end
+        × TellsFound end (λ start commands it. IsAnswerOf start commands end
         × (it ≡ text start.limit commands asked)))
 
   -- ---- each word
@@ -244,7 +245,7 @@ module _ {S K D : Type 0} (source_at : S → SourceAt) (sink_at : K → SinkAt) 
   -- of the review encloses the exact share of its account, and what the protocol gives it in that
   -- state is within the row. Where the state is of a generation above the first, the last line
   -- tells this generation, and nothing else is told.
-  Leaves word.Audit end = (after.source ≡ before.source) × TellsFound end (Unit {0})
+  Leaves word.Audit end = (after.source ≡ before.source) × TellsFound end
       (λ start commands text. IsAuditOf start commands end text)
   -- The disks are not asked. The bytes that come in are followed, and at their end the state is
   -- told to which they lead.

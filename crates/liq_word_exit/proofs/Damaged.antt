@@ -41,9 +41,11 @@ module _ {D : Type 0} (at : D → DiskAt)
   pub untouched_damaged : LeavesDamaged at left right l r side damage (Err NoMemory) left right
   untouched_damaged = record {
     ends = λ a b told_a told_b. ap₂ state_on (same_left a told_a) (same_right b told_b) ∙ is;
-    left_leaves = λ only. started at left (OpenLeaves true l) (λ image was. inl (only image was));
-    right_leaves = λ only. started at right (OpenLeaves false r) (λ image was. inl (only image was));
-    shut = λ other a b told_a told_b. (inl (same_left a told_a), inl (same_right b told_b));
+    leaves = record {
+      left_leaves = λ only. started at left (OpenLeaves true l) (λ image was. inl (only image was));
+      right_leaves = λ only. started at right (OpenLeaves false r) (λ image was. inl (only image was));
+      shut = λ other a b told_a told_b. (inl (same_left a told_a), inl (same_right b told_b));
+    };
   }
 
   module _ (fl fr : D) where
@@ -70,8 +72,10 @@ module _ {D : Type 0} (at : D → DiskAt)
         → LeavesDamaged at left right l r side damage (Err (halt_of why_is)) fl fr
     unopened_damaged why_is h left_so right_so shut_so = record {
       ends = unopened_ends why_is h;
-      left_leaves = λ only. weaker at left fl (LeftLeaves l r) (OpenLeaves true l) (left_so only)
-          (λ image was. left_opened l r image (side, damage) was is);
-      right_leaves = right_so;
-      shut = λ other. shut_so (λ w. other (ap (λ (y : StoreWhy). Err (halt_of y)) w));
+      leaves = record {
+        left_leaves = λ only. weaker at left fl (LeftLeaves l r) (OpenLeaves true l) (left_so only)
+            (λ image was. left_opened l r image (side, damage) was is);
+        right_leaves = right_so;
+        shut = λ other. shut_so (λ w. other (ap (λ (y : StoreWhy). Err (halt_of y)) w));
+      };
     }

@@ -109,11 +109,15 @@ module _ {D : Type 0} (at : D → DiskAt) where
 -- was pending on one of them, a stop at any moment leaves it as it was, or with some byte at the
 -- one place that an opening shuts; and where no disk met a fault that byte is a 0 at the end.
 module _ {D : Type 0} (at : D → DiskAt) (old_left old_right : D) (l r : List ℕ) where
-  pub record LeavesDamaged
-      (side : Side) (damage : Damage) (end : End) (left right : D) : Type 0 where
-    pub ends : EndsDamaged at side damage end left right
+  pub record LeavesOrShuts (end : End) (left right : D) : Type 0 where
     pub left_leaves : Only l (LeftNow at old_left) → LeavesOnly at old_left left (OpenLeaves true l)
     pub right_leaves : Only r (LeftNow at old_right)
         → LeavesOnly at old_right right (OpenLeaves false r)
     pub shut : end ≢ Err DiskFault
         → OfBoth at left right (λ a b. OnlyShuts true l a × OnlyShuts false r b)
+
+  -- and how it ends
+  pub record LeavesDamaged
+      (side : Side) (damage : Damage) (end : End) (left right : D) : Type 0 where
+    pub ends : EndsDamaged at side damage end left right
+    pub leaves : LeavesOrShuts end left right

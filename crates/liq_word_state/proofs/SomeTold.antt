@@ -4,6 +4,7 @@ use Rattle.std.specs.Prelude.{◌⊎◌}
 use Rattle.liq_types.specs.declared.events.PoolEvent.{PoolEvent}
 use Rattle.liq_types.specs.declared.requests.Command.{Command}
 use Rattle.liq_types.specs.State.{State, opening_with}
+use Rattle.liq_types.specs.WellFormed.{IsWellFormed}
 use Rattle.liq_rule_step.specs.Events.{events}
 use Rattle.liq_journal.specs.declared.damage.Damage.{Damage}
 use Rattle.liq_journal.specs.Written.{Written}
@@ -11,6 +12,7 @@ use Rattle.liq_disk_pair.specs.declared.side.Side.{Side}
 use Rattle.liq_disk_pair.specs.Replay.{replay}
 use Rattle.liq_disk_pair.proofs.Basing.{outcome_first}
 use Rattle.liq_disk_pair.proofs.Generations.{HaveNoRotation, outcome_generation, outcome_limit}
+use Rattle.liq_disk_pair.proofs.Replaying.{opening_formed, outcome_formed}
 use Rattle.liq_store.specs.declared.answers.StoreWhy.{StoreWhy}
 use Rattle.liq_store.specs.declared.answers.StoreWhy.TheVariants as why
 use Rattle.liq_text_audit.specs.declared.fault.ReviewFault.{ReviewFault}
@@ -26,6 +28,7 @@ use Rattle.liq_word_state.specs.declared.answers.Asked.{Asked}
 use Rattle.liq_word_state.specs.declared.telling.Told.{Told}
 use Rattle.liq_word_state.specs.declared.telling.Told.TheVariants as which
 use Rattle.liq_word_state.specs.Answers.{asked_text}
+use Rattle.liq_word_state.specs.Leads.{LeadTo}
 use Rattle.liq_word_state.specs.Reviewing.{halt_on}
 use Rattle.liq_word_state.specs.Told.{EndsSome, FindsNone, WritesSome, WritesTold}
 use Rattle.liq_word_state.specs.Whole.{StopsWhole}
@@ -46,7 +49,7 @@ module _ (what : Told) (rotated : (s : State) (commands : List Command) (held : 
   stops_some : (halt : Halt) (held : Option (List ℕ)) → StopsWhole halt → WritesSome what (Err halt) held held
   stops_some (Rotated generation) held later =
       let s : State = record (opening_with 0) { generation = generation } in
-      inl (s, [], rotated s [] held later)
+      inl (s, [], opening_formed 0, rotated s [] held later)
   stops_some DiskFault held none = inr (tt, refl)
   stops_some (Damaged side number) held none = inr (tt, refl)
   stops_some NoMemory held none = inr (tt, refl)
@@ -76,13 +79,25 @@ review_damaged : (told : List PoolEvent) (came : Result State Damage) (damage : 
 review_damaged told came damage is = ap (review_of told) is
 
 module _ (limit : ℕ) (commands : List Command) (none : HaveNoRotation commands) where
-  -- it is of the first generation, and of the limit
-  first_stays : (s : State) → replay 1 (opening_with limit) commands ≡ Ok s
-      → (s.generation ≡ 1) × (s.limit ≡ limit)
-  first_stays s is =
+  -- They lead to it. It is of the limit, and well formed.
+  record Came (s : State) : Type 0 where
+    limit_is : s.limit ≡ limit
+    leads : LeadTo commands s
+    formed : IsWellFormed s
+
+  came : (s : State) → replay 1 (opening_with limit) commands ≡ Ok s → Came s
+  came s is =
       let w : Written = record { generation = 1; limit = limit; checkpoint = []; commands = commands } in
-      let came = outcome_first w refl ∙ is in
-      (outcome_generation w s none came, outcome_limit w s none came)
+      let so = outcome_first w refl ∙ is in
+      let same = outcome_limit w s none so in
+      record {
+        limit_is = same;
+        leads = (
+          outcome_generation w s none so,
+          subst (λ (l : ℕ). replay 1 (opening_with l) commands ≡ Ok s) (sym same) is,
+        );
+        formed = outcome_formed w s so;
+      }
 
   pub review_some : (end : End) (before now : Option (List ℕ))
       → ((index code : ℕ) → reviewed limit commands ≡ Err (review.Refused index code) → ⊥)
@@ -94,13 +109,14 @@ module _ (limit : ℕ) (commands : List Command) (none : HaveNoRotation commands
       let led = came_to (replay 1 start commands) (λ damage is. accepted damage.index (replay_code damage.what)
       (review_damaged (events start commands) (replay 1 start commands) damage is)) in
       let s = led.0 in
-      let stays = first_stays s led.1 in
-      let so = wrote s stays.1 led.1 in
+      let state = came s led.1 in
+      let so = wrote s state.limit_is led.1 in
       inl (
         s,
         commands,
-        audit_reviewed s commands end before now stays.0
-            (subst (λ (l : ℕ). WritesText (reviewed l commands) end before now) (sym stays.1) so.0) so.1,
+        state.formed,
+        audit_reviewed s commands end before now state.leads
+            (subst (λ (l : ℕ). WritesText (reviewed l commands) end before now) (sym state.limit_is) so.0) so.1,
       )
 
   pub unreviewed_some : (side : Side) (fault : ReviewFault) (held : Option (List ℕ))
@@ -120,12 +136,14 @@ module _ (limit : ℕ) (commands : List Command) (none : HaveNoRotation commands
   answered_some asked end before now whole wrote =
       let led = came_to (replay 1 (opening_with limit) commands) whole in
       let s = led.0 in
-      let stays = first_stays s led.1 in
+      let state = came s led.1 in
       inl (
         s,
         commands,
-        answers_written s commands asked end before now stays.0
-            (subst (λ (l : ℕ). WritesText (Ok (asked_text asked l commands)) end before now) (sym stays.1) wrote),
+        state.formed,
+        answers_written s commands asked end before now state.leads
+            (subst (λ (l : ℕ). WritesText (Ok (asked_text asked l commands)) end before now) (sym state.limit_is)
+            wrote),
       )
 
 -- ---- once the last line is written where that stops
@@ -142,6 +160,6 @@ pub some_told : (what : Told) (end : End) (fault : Type 0) (before middle now : 
     → ((text : List ℕ) → WritesAll text end before middle → TellsAll text end fault before now)
     → EndsSome what end fault before now
 some_told what end fault before middle now (inl found) last =
-    inl (found.0, found.1, all_told what found.0 found.1 end fault before middle now found.2 last)
+    inl (found.0, found.1, found.2, all_told what found.0 found.1 end fault before middle now found.3 last)
 some_told what end fault before middle now (inr found) last =
     inr (found.0, last [] (none_written end before middle found.0 found.1))

@@ -16,6 +16,7 @@ use Rattle.liq_word_state.specs.declared.telling.Told.TheVariants as which
 use Rattle.liq_word_state.specs.declared.answers.Asked.{Asked}
 use Rattle.liq_word_state.specs.Answers.{IsAnswerOf, asked_text}
 use Rattle.liq_word_state.specs.Audit.{IsAuditOf}
+use Rattle.liq_word_state.specs.Leads.{LeadTo}
 use Rattle.liq_word_state.specs.Report.{reported}
 use Rattle.liq_word_state.specs.State.{standing}
 use Rattle.liq_word_state.specs.Told.{EndsTelling, MayEnd, WritesTold}
@@ -73,24 +74,24 @@ audit_told s commands (Err (DamagedInput number)) before now h = absurd h.0
 
 -- the review of a state of the first generation is its audit
 pub audit_reviewed : (s : State) (commands : List Command) (end : Result (Unit {0}) Halt) (before now : Option (List ℕ))
-    → s.generation ≡ 1 → WritesText (reviewed s.limit commands) end before now → AuditHolds end s commands
+    → LeadTo commands s → WritesText (reviewed s.limit commands) end before now → AuditHolds end s commands
     → WritesAudit s commands end before now
-audit_reviewed s commands (Ok done) before now first wrote holds = (wrote, first, holds)
-audit_reviewed s commands (Err (BadLine n)) before now first wrote holds = absurd wrote
-audit_reviewed s commands (Err ReadFault) before now first wrote holds = absurd wrote
-audit_reviewed s commands (Err WriteFault) before now first wrote holds = (wrote, first, tt)
-audit_reviewed s commands (Err DiskFault) before now first wrote holds = wrote
-audit_reviewed s commands (Err (Damaged side number)) before now first wrote holds = absurd wrote
-audit_reviewed s commands (Err NoMemory) before now first wrote holds = wrote
-audit_reviewed s commands (Err (Limit number)) before now first wrote holds = (wrote, first, tt)
-audit_reviewed s commands (Err (Rotated generation)) before now first wrote holds = absurd wrote
-audit_reviewed s commands (Err (DamagedInput number)) before now first wrote holds = absurd wrote
+audit_reviewed s commands (Ok done) before now leads wrote holds = (wrote, leads, holds)
+audit_reviewed s commands (Err (BadLine n)) before now leads wrote holds = absurd wrote
+audit_reviewed s commands (Err ReadFault) before now leads wrote holds = absurd wrote
+audit_reviewed s commands (Err WriteFault) before now leads wrote holds = (wrote, leads, tt)
+audit_reviewed s commands (Err DiskFault) before now leads wrote holds = wrote
+audit_reviewed s commands (Err (Damaged side number)) before now leads wrote holds = absurd wrote
+audit_reviewed s commands (Err NoMemory) before now leads wrote holds = wrote
+audit_reviewed s commands (Err (Limit number)) before now leads wrote holds = (wrote, leads, tt)
+audit_reviewed s commands (Err (Rotated generation)) before now leads wrote holds = absurd wrote
+audit_reviewed s commands (Err (DamagedInput number)) before now leads wrote holds = absurd wrote
 
 -- ---- of lines that are answered
 
 answers_told : (s : State) (commands : List Command) (asked : Asked) (end : Result (Unit {0}) Halt)
     (before now : Option (List ℕ)) → WritesAnswers s commands asked end before now
-    → IsAnswerOf s end × WritesAll (asked_text asked s.limit commands) end before now
+    → IsAnswerOf s commands end × WritesAll (asked_text asked s.limit commands) end before now
 answers_told s commands asked (Ok done) before now h =
     let same : h.0.0 ≡ asked_text asked s.limit commands = cc (h.0.1) in
     (h.1, subst (λ (t : List ℕ). Writes before t now) same h.0.2)
@@ -105,14 +106,14 @@ answers_told s commands asked (Err _) before now h = absurd h.0
 
 -- a text for a state of the first generation
 pub answers_written : (s : State) (commands : List Command) (asked : Asked) (end : Result (Unit {0}) Halt)
-    (before now : Option (List ℕ)) → s.generation ≡ 1
+    (before now : Option (List ℕ)) → LeadTo commands s
     → WritesText (Ok (asked_text asked s.limit commands)) end before now → WritesAnswers s commands asked end before now
-answers_written s commands asked (Ok done) before now first wrote = (wrote, first)
-answers_written s commands asked (Err WriteFault) before now first wrote = (wrote, first)
-answers_written s commands asked (Err DiskFault) before now first wrote = wrote
-answers_written s commands asked (Err NoMemory) before now first wrote = wrote
-answers_written s commands asked (Err (Limit number)) before now first wrote = (wrote, first)
-answers_written s commands asked (Err _) before now first wrote = absurd wrote
+answers_written s commands asked (Ok done) before now leads wrote = (wrote, leads)
+answers_written s commands asked (Err WriteFault) before now leads wrote = (wrote, leads)
+answers_written s commands asked (Err DiskFault) before now leads wrote = wrote
+answers_written s commands asked (Err NoMemory) before now leads wrote = wrote
+answers_written s commands asked (Err (Limit number)) before now leads wrote = (wrote, leads)
+answers_written s commands asked (Err _) before now leads wrote = absurd wrote
 
 -- ---- of each
 

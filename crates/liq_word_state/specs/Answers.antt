@@ -8,6 +8,7 @@ use Rattle.liq_text_rewards.specs.Rewarded.{rewarded_text}
 use Rattle.liq_word_exit.specs.declared.halts.Halt.TheVariants.{DiskFault, NoMemory, Rotated, WriteFault}
 use Rattle.liq_word_state.specs.declared.answers.Asked.{Asked}
 use Rattle.liq_word_state.specs.declared.answers.Asked.TheVariants.{Stakes, Tags}
+use Rattle.liq_word_state.specs.Leads.{LeadTo}
 use Rattle.liq_word_exit.specs.Statuses.{End}
 
 -- the text for the lines, beside these commands from the opening under a limit on
@@ -23,11 +24,11 @@ AreFew (Tags lines) = Unit {0}
 -- Lines are answered beside the commands that lead to this state, and that ends so: all is told of
 -- a state of the first generation, unless the sink meets a fault; of a later generation's state
 -- nothing is.
-abbrev pub IsAnswerOf : State → End → Type 0
-IsAnswerOf s (Ok done) = s.generation ≡ 1
-IsAnswerOf s (Err WriteFault) = s.generation ≡ 1
-IsAnswerOf s (Err (Rotated generation)) = (1 < s.generation) × (generation ≡ s.generation)
+abbrev pub IsAnswerOf : State → List Command → End → Type 0
+IsAnswerOf s all (Ok done) = LeadTo all s
+IsAnswerOf s all (Err WriteFault) = LeadTo all s
+IsAnswerOf s all (Err (Rotated later)) = (1 < s.generation) × (later ≡ s.generation)
 -- a disk met a fault, or there was no memory
-IsAnswerOf s (Err DiskFault) = Unit {0}
-IsAnswerOf s (Err NoMemory) = Unit {0}
-IsAnswerOf s (Err _) = ⊥
+IsAnswerOf s all (Err DiskFault) = Unit {0}
+IsAnswerOf s all (Err NoMemory) = Unit {0}
+IsAnswerOf s all (Err _) = ⊥

@@ -10,6 +10,7 @@ use Rattle.liq_text_audit.specs.Shown.{is_within}
 use Rattle.liq_text_audit.specs.declared.fault.ReviewFault.TheVariants as review
 use Rattle.liq_word_exit.specs.declared.halts.Halt.TheVariants.{DiskFault, Limit, NoMemory, Rotated, WriteFault}
 use Rattle.liq_word_exit.specs.Statuses.{End}
+use Rattle.liq_word_state.specs.Leads.{LeadTo}
 
 -- An audit of the commands that lead to this state of the first generation, from the opening under
 -- its limit, ends so, and its text is that of the review. At its end each row encloses the exact
@@ -18,11 +19,10 @@ use Rattle.liq_word_exit.specs.Statuses.{End}
 abbrev pub IsAuditOf : State → List Command → End → List ℕ → Type 0
 IsAuditOf s all (Ok done) text =
     let made = events (opening_with s.limit) all in let rows = rows_of s made in
-    (s.generation ≡ 1) × (reviewed s.limit all ≡ Ok text) × All (EnclosesShare made) rows
+    LeadTo all s × (reviewed s.limit all ≡ Ok text) × All (EnclosesShare made) rows
     × (count_by is_within rows ≡ length rows)
-IsAuditOf s all (Err WriteFault) text = (s.generation ≡ 1) × (reviewed s.limit all ≡ Ok text)
-IsAuditOf s all (Err (Limit n)) text =
-    (s.generation ≡ 1) × (reviewed s.limit all ≡ Err (review.Limit n))
+IsAuditOf s all (Err WriteFault) text = LeadTo all s × (reviewed s.limit all ≡ Ok text)
+IsAuditOf s all (Err (Limit n)) text = LeadTo all s × (reviewed s.limit all ≡ Err (review.Limit n))
 IsAuditOf s all (Err (Rotated later)) text = (1 < s.generation) × (later ≡ s.generation)
 -- a disk met a fault, or there was no memory
 IsAuditOf s all (Err DiskFault) text = Unit {0}

@@ -1,7 +1,8 @@
--- A reader of the top call's clause needs Answers, Audit, Report and State. The others are for the
--- contracts below it.
+-- A reader of the top call's clause needs Answers, Audit, Leads, Report and State. The others are
+-- for the contracts below it.
 pub mod Answers
 pub mod Audit
+pub mod Leads
 pub mod Report
 pub mod Reviewing
 pub mod State

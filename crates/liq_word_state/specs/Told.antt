@@ -2,6 +2,7 @@
 use Rattle.std.specs.Prelude.{ℕ, ◌≡◌, ◌≢◌, ◌⊎◌, List, [], ◌∷◌, Contains, Option, Ok, Err}
 use Rattle.liq_types.specs.declared.requests.Command.{Command}
 use Rattle.liq_types.specs.State.{State}
+use Rattle.liq_types.specs.WellFormed.{IsWellFormed}
 use Rattle.liq_word_exit.specs.declared.halts.Halt.TheVariants.{BadLine, Damaged, DiskFault, Limit}
 use Rattle.liq_word_exit.specs.declared.halts.Halt.TheVariants.{NoMemory, ReadFault, Rotated}
 use Rattle.liq_word_exit.specs.Statuses.{End, status_of}
@@ -35,7 +36,7 @@ EndsTelling which.Report s commands end fault before now =
 EndsTelling which.Audit s commands end fault before now =
     (text : List ℕ) × IsAuditOf s commands end text × TellsAll text end fault before now
 EndsTelling (which.Answers asked) s commands end fault before now =
-    IsAnswerOf s end × TellsAll (asked_text asked s.limit commands) end fault before now
+    IsAnswerOf s commands end × TellsAll (asked_text asked s.limit commands) end fault before now
 
 -- it came to no state: a disk met a fault or is damaged, or there was no memory
 abbrev pub FindsNone : End → Type 0
@@ -44,16 +45,19 @@ FindsNone (Err (Damaged side number)) = Unit {0}
 FindsNone (Err NoMemory) = Unit {0}
 FindsNone _ = ⊥
 
--- Whatever the disks tell, the text is written of some state and of some commands; or nothing is.
+-- Whatever the disks tell, the text is written of some state that is well formed, and of some
+-- commands; or nothing is.
 abbrev pub WritesSome : Told → End → Option (List ℕ) → Option (List ℕ) → Type 0
 WritesSome what end before now =
-    ((s : State) × (commands : List Command) × WritesTold what s commands end before now)
+    ((s : State) × (commands : List Command) × IsWellFormed s
+    × WritesTold what s commands end before now)
     ⊎ (FindsNone end × (now ≡ before))
 
 -- So it is once the last line is written, where the word stopped.
 abbrev pub EndsSome : Told → End → Type 0 → Option (List ℕ) → Option (List ℕ) → Type 0
 EndsSome what end fault before now =
-    ((s : State) × (commands : List Command) × EndsTelling what s commands end fault before now)
+    ((s : State) × (commands : List Command) × IsWellFormed s
+    × EndsTelling what s commands end fault before now)
     ⊎ (FindsNone end × TellsAll [] end fault before now)
 
 -- It ends for nothing that comes in; and what stands is told whatever the limits and the journal's

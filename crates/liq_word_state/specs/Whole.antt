@@ -14,6 +14,7 @@ use Rattle.liq_word_exit.specs.Causes.{DiskCause}
 use Rattle.liq_word_exit.specs.declared.halts.Halt.{Halt}
 use Rattle.liq_word_exit.specs.declared.halts.Halt.TheVariants.{DiskFault, NoMemory, Rotated}
 use Rattle.liq_word_state.specs.declared.journal.Whole.{Whole}
+use Rattle.liq_word_state.specs.Leads.{LeadTo}
 use Rattle.liq_word_state.specs.Told.{FindsNone}
 
 -- Where the disk that a store took tells its journal, and the commands of a first generation lead
@@ -38,8 +39,7 @@ pub record OnlyLooks
 -- there was no memory.
 abbrev pub FindsWhole : State → List Command → Result Whole Halt → Type 0
 FindsWhole s commands (Ok whole) =
-    (s.generation ≡ 1) × (whole.limit ≡ s.limit) × (whole.commands.items ≡ commands)
-    × (replay 1 (opening_with s.limit) commands ≡ Ok s)
+    (whole.limit ≡ s.limit) × (whole.commands.items ≡ commands) × LeadTo commands s
 FindsWhole s commands (Err (Rotated generation)) = (1 < s.generation) × (generation ≡ s.generation)
 FindsWhole s commands (Err DiskFault) = Unit {0}
 FindsWhole s commands (Err NoMemory) = Unit {0}

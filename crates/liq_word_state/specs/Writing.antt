@@ -14,6 +14,7 @@ use Rattle.liq_text_audit.specs.declared.fault.ReviewFault.TheVariants as review
 use Rattle.liq_word_exit.specs.declared.halts.Halt.TheVariants.{WriteFault, DiskFault, NoMemory, Limit, Rotated}
 use Rattle.liq_word_state.specs.declared.answers.Asked.{Asked}
 use Rattle.liq_word_state.specs.Answers.{asked_text}
+use Rattle.liq_word_state.specs.Leads.{LeadTo}
 use Rattle.liq_word_exit.specs.Statuses.{End}
 
 -- The text was written, or the sink met a fault within it. Or nothing was: a limit is passed, there
@@ -53,7 +54,7 @@ WritesAudit s commands (Err (Rotated generation)) before now =
 WritesAudit s commands (Err NoMemory) before now = now ≡ before
 WritesAudit s commands (Err DiskFault) before now = now ≡ before
 WritesAudit s commands end before now =
-    WritesText (reviewed s.limit commands) end before now × (s.generation ≡ 1)
+    WritesText (reviewed s.limit commands) end before now × LeadTo commands s
     × AuditHolds end s commands
 
 -- Lines are answered beside the commands that lead to a state, or the state is of a later
@@ -67,4 +68,4 @@ WritesAnswers s commands asked (Err (Rotated generation)) before now =
 WritesAnswers s commands asked (Err NoMemory) before now = now ≡ before
 WritesAnswers s commands asked (Err DiskFault) before now = now ≡ before
 WritesAnswers s commands asked end before now =
-    WritesText (Ok (asked_text asked s.limit commands)) end before now × (s.generation ≡ 1)
+    WritesText (Ok (asked_text asked s.limit commands)) end before now × LeadTo commands s

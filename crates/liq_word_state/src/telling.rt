@@ -62,7 +62,8 @@ pub fn tell_on<K: Sink, D: Disk>(
         (λ l r side damage. StopsDamaged D.at left right l r side damage result.end
         (Rose (K.at out.old).faults (K.at out.new).faults) (K.at out.old).held (K.at out.new).held
         result.left result.right) }
-    // Whatever the disks tell, it is told of some state and of some commands, or nothing is.
+    // Whatever the disks tell, it is told of some well-formed state and of some commands, or
+    // nothing is.
     ensures some { EndsSome what result.end (Rose (K.at out.old).faults (K.at out.new).faults)
         (K.at out.old).held (K.at out.new).held }
     ensures ends { MayEnd what result.end }

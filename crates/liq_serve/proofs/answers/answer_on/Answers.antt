@@ -30,7 +30,7 @@ returns-in-Ok-clause-answered g c =
     c.in-Ok.ensures.read
     (tells_found g.S.Source.at sink_at disk_at before after (Answers asked) ran.result.end ran.ensures.told
     ran.ensures.past ran.ensures.damaged ran.ensures.some ran.ensures.disks
-    (λ (s : State) (commands : List Command) (it : List ℕ). IsAnswerOf s ran.result.end
+    (λ (s : State) (commands : List Command) (it : List ℕ). IsAnswerOf s commands ran.result.end
     × (it ≡ g.F.Asking.text s.limit commands c.in-Ok.lines.items))
     (λ s commands h.
     (asked_text asked s.limit commands, (h.0, c.asked.ensures.text s.limit commands), h.1)))

@@ -4,6 +4,7 @@ use Rattle.liq_types.specs.State.{opening_with}
 use Rattle.liq_disk_pair.specs.Replay.{replay}
 use Rattle.liq_text_audit.specs.Reviewed.{reviewed}
 use Rattle.liq_word_exit.specs.Statuses.{End}
+use Rattle.liq_word_state.specs.Leads.{LeadTo}
 use Rattle.liq_word_state.specs.declared.telling.Told.TheVariants as which
 use Rattle.liq_word_state.specs.Told.{WritesSome}
 use Rattle.liq_word_state.specs.Writing.{WritesAudit, WritesText}
@@ -17,15 +18,15 @@ returns-clause-written g c held w s told found stands from_one leads =
     let before = (g.K.Sink.at c.args.out.now).held in
     let now = (g.K.Sink.at c.write_review.new.out).held in
     let whole = c.in_ok-whole.ensures.found held w s told found stands from_one leads in
-    let are : c.deref.result.now ≡ w.commands = c.deref.ensures.value ∙ whole.2 in
-    let led : replay 1 (opening_with c.in_ok-whole.whole.limit) c.deref.result.now ≡ Ok s =
-    ap (replay 1 (opening_with c.in_ok-whole.whole.limit)) are
-    ∙ ap (λ (limit : ℕ). replay 1 (opening_with limit) w.commands) whole.1 ∙ whole.3 in
-    let wrote = c.write_review.ensures.written s (sym whole.1) led in
-    let reviewed_so = subst (λ (limit : ℕ). WritesText (reviewed limit c.deref.result.now) end before now) whole.1
-    wrote.0 in
-    subst (λ (commands : List Command). WritesAudit s commands end before now) are
-    (audit_reviewed s c.deref.result.now end before now whole.0 reviewed_so wrote.1)
+    let commands = c.deref.result.now in
+    let are : commands ≡ w.commands = c.deref.ensures.value ∙ whole.1 in
+    let leads : LeadTo commands s = (whole.2.0, ap (replay 1 (opening_with s.limit)) are ∙ whole.2.1) in
+    let led : replay 1 (opening_with c.in_ok-whole.whole.limit) commands ≡ Ok s =
+    ap (λ (limit : ℕ). replay 1 (opening_with limit) commands) whole.0 ∙ leads.1 in
+    let wrote = c.write_review.ensures.written s (sym whole.0) led in
+    let reviewed_so = subst (λ (limit : ℕ). WritesText (reviewed limit commands) end before now) whole.0 wrote.0 in
+    subst (λ (all : List Command). WritesAudit s all end before now) are
+    (audit_reviewed s commands end before now leads reviewed_so wrote.1)
 
 pub returns-in_err-whole-clause-some : goal.returns-in_err-whole-clause-some
 returns-in_err-whole-clause-some g c =

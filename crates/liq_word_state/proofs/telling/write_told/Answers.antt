@@ -50,6 +50,7 @@ returns-in-State-clause-some g c =
     (inl (
       s,
       [],
+      c.protocols_stand.ensures.formed,
       wrote.ensures.written s (subst (λ (core : Core). StandsFor core s)
           (c.protocol.ensures ∙ sym c.protocol-in-State.ensures) c.protocols_stand.ensures),
     ))
@@ -63,6 +64,7 @@ returns-in-Report-clause-some g c =
     (inl (
       s,
       [],
+      c.protocols_stand.ensures.formed,
       wrote.ensures.written s (subst (λ (core : Core). StandsFor core s)
           (c.protocol.ensures ∙ sym c.protocol-in-Report.ensures) c.protocols_stand.ensures),
     ))
