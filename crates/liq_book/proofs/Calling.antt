@@ -52,7 +52,8 @@ a_command s (Do c) is = (c, refl)
 a_command s (Ask query) is = absurd is
 
 -- a book whose store goes on has no halt
-pub no_halt : (halt : Option Halt) (stopped : Option ℕ) → stopped ≡ option_map (λ h. h.faults) halt → stopped ≡ None
+pub no_halt : (halt : Option Halt) (stopped : Option ℕ) → stopped ≡ option_map (λ h. h.faults) halt → stopped
+    ≡ None
     → halt ≡ None
 no_halt None stopped is none = refl
 no_halt (Some halt) stopped is none = absurd (let e : Some halt.faults ≡ None = sym is ∙ none in cc)
@@ -211,7 +212,8 @@ module _ {D : Type 0} (at : D → DiskAt) where
         })
 
     -- a fault of a disk is the halt
-    pub halts : (old new : Stored D) (entries : List Entry) (halt : Option Halt) (request : Request) (session sum : ℕ)
+    pub halts : (old new : Stored D) (entries : List Entry) (halt : Option Halt) (request : Request)
+        (session sum : ℕ)
         → Booking old entries halt → old.stopped ≡ None → IsInOrder at old → Called old request answer.DiskFault new
         → new.stopped ≡ Some sum
         → Booking new entries (Some (record { session = session; request = request; faults = sum }))
@@ -253,7 +255,8 @@ module _ {D : Type 0} (at : D → DiskAt) where
         }
 
     -- any other answer leaves the book as it was
-    pub others : (old new : Stored D) (entries : List Entry) (halt : Option Halt) (request : Request) (a : Answer)
+    pub others : (old new : Stored D) (entries : List Entry) (halt : Option Halt) (request : Request)
+        (a : Answer)
         → Booking old entries halt → IsInOrder at old → Called old request a new
         → ((reply : Reply) → a ≡ answer.Reply reply → ⊥) → (a ≡ answer.DiskFault → ⊥)
         → Booking new entries halt
@@ -272,7 +275,8 @@ module _ {D : Type 0} (at : D → DiskAt) where
       by_stop (Some sum) is = rw ((c.stopped sum is).1) b
 
     -- what any other answer says of the book
-    pub others_answer : (first old new : Stored D) (entries : List Entry) (halt : Option Halt) (request : Request)
+    pub others_answer : (first old new : Stored D) (entries : List Entry) (halt : Option Halt)
+        (request : Request)
         (a : Answer) (session calls : ℕ)
         → Booking old entries halt → Called old request a new → length entries < ENTRIES_MOST
         → ((reply : Reply) → a ≡ answer.Reply reply → ⊥) → (a ≡ answer.DiskFault → ⊥)

@@ -49,7 +49,8 @@ entered old new e none still grown =
     ∙ ap (λ (items : List Item). items ++ item.Entry e ∷ []) (sym (plain old none))))
 
 -- the halt is the last item
-halted : {D : Type 0} (old new : Booked D) (h : Halt) → old.halt ≡ None → new.entries ≡ old.entries → new.halt ≡ Some h
+halted : {D : Type 0} (old new : Booked D) (h : Halt) → old.halt ≡ None → new.entries ≡ old.entries → new.halt
+    ≡ Some h
     → items_in new ≡ items_in old ++ item.Halt h ∷ []
 halted old new h none same some =
     ap (chronicle new.entries) some ∙ (ap (λ entries. map item.Entry entries ++ item.Halt h ∷ []) same

@@ -61,7 +61,8 @@ module _ {D : Type 0} (at : D → DiskAt) (left_origin right_origin : DiskAt) wh
 
   -- what the store has to tell of its list has no part in it
   pub forgets_past :
-      (base : State) (requests : List Request) (halt : Option Halt) (store : Stored D) (changes : List ListChange)
+      (base : State) (requests : List Request) (halt : Option Halt) (store : Stored D)
+      (changes : List ListChange)
       → Keeps base requests halt store → Keeps base requests halt (record store { changes = changes })
   forgets_past base requests None store changes past = λ l r told_left told_right. let earlier =
       past l r told_left told_right in record {

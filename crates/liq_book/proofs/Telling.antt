@@ -162,8 +162,8 @@ module _ {D : Type 0} (base : State) where
       }
 
   -- without memory it was not taken, or it waits
-  pub waits : (store : Stored D) (entries : List Entry) (halt : Option Halt) (published waiting published' waiting' :
-      List Given) → Publishes store entries halt published waiting
+  pub waits : (store : Stored D) (entries : List Entry) (halt : Option Halt)
+      (published waiting published' waiting' : List Given) → Publishes store entries halt published waiting
       → published' ≡ published → (waiting' ≡ waiting) ⊎ (waiting' ≡ waiting ++ batch store entries ∷ [])
       → Publishes store entries halt published' waiting'
   waits store entries halt published waiting published' waiting' h same (inl still) =
@@ -200,7 +200,8 @@ module _ {D : Type 0} (base : State) where
       }))
 
   -- what went out is let go, and what did not is kept
-  pub goes_or_waits : {X Y : Type 0} (r : Result X Y) (old new : Stored D) (entries : List Entry) (halt : Option Halt)
+  pub goes_or_waits : {X Y : Type 0} (r : Result X Y) (old new : Stored D) (entries : List Entry)
+      (halt : Option Halt)
       (published waiting published' waiting' : List Given) (number : ℕ) → number ≡ length entries
       → Publishes old entries halt published waiting
       → MatchResult r (λ _. (published' ≡ published ++ (waiting ++ record { changes = old.changes; number = number }

@@ -4,7 +4,7 @@ use crate::misread::{Misread, number};
 use std::alloc::Global;
 
 /// A text with each number in braces counted up so many times.
-pub fn counted(alloc: Global, text: &str, turn: u64) -> Result<String, Misread> {
+pub fn count_up(alloc: Global, text: &str, turn: u64) -> Result<String, Misread> {
     let mut line = String::new(alloc);
     for (place, part) in text.split('{').enumerate() {
         if place == 0 {

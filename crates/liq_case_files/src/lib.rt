@@ -15,11 +15,11 @@ mod told;
 mod written;
 
 pub use changes::{changed, is_change};
-pub use counting::{Block, counted};
+pub use counting::{Block, count_up};
 pub use facts::{Fact, Held, Says};
 pub use forged::{Forged, forge};
 pub use lines::{Difference, Lines, ends_line};
 pub use misread::{Misread, number};
 pub use run::{ALL, Asked, Failing, READ, Run, Side, Start, Stop, put_words, side_of};
 pub use settings::set;
-pub use told::{At, Told};
+pub use told::{At, Report};

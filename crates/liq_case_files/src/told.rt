@@ -68,7 +68,7 @@ impl At {
 
 /// What is told of a file: the differences, and how much there was.
 #[derive(Drop)]
-pub struct Told {
+pub struct Report {
     file: String,
     text: String,
     /// Whether there was no memory for a part of the text.
@@ -81,10 +81,10 @@ pub struct Told {
     pub facts: u64,
 }
 
-impl Told {
+impl Report {
     /// Nothing is told yet of this file.
-    pub fn new(alloc: Global, file: String) -> Told {
-        Told {
+    pub fn new(alloc: Global, file: String) -> Report {
+        Report {
             file,
             text: String::new(alloc),
             lost: false,
@@ -149,7 +149,7 @@ impl Told {
 
     /// All that is told, with the counts as the last line.
     pub fn end(self) -> Result<String, AllocError> {
-        let Told {
+        let Report {
             file,
             mut text,
             lost,

@@ -5,7 +5,7 @@
 use crate::devices::{Devices, through};
 use crate::endings::check_endings;
 use crate::waiting::{Holds, Versions, Waiting};
-use liq_case_files::{Told, put_words};
+use liq_case_files::{Report, put_words};
 use liq_outside::MemorySink;
 use liq_serve::without_words;
 use liq_sessions::Gate;
@@ -124,7 +124,7 @@ const UNGIVEN: [(ErrorKind, &[u8], u64); 2] = [
 
 /// Makes these runs, and tells how many there are and what differs.
 pub fn tell_beside<R: Threads + Wait + Sync>(rt: &R, alloc: Global) -> Result<String, AllocError> {
-    let mut told = Told::new(alloc, String::from_str(alloc, "beside the files")?);
+    let mut told = Report::new(alloc, String::from_str(alloc, "beside the files")?);
     for (lines, holds) in &HELD {
         let gate = Waiting::new(*holds);
         serve(rt, alloc, &mut told, lines, &gate)?;
@@ -146,7 +146,7 @@ pub fn tell_beside<R: Threads + Wait + Sync>(rt: &R, alloc: Global) -> Result<St
 fn serve<R: Threads + Wait + Sync, G: Gate + Sync>(
     rt: &R,
     alloc: Global,
-    told: &mut Told,
+    told: &mut Report,
     lines: &[u8],
     gate: &G,
 ) -> Result<(), AllocError> {
@@ -159,18 +159,18 @@ fn serve<R: Threads + Wait + Sync, G: Gate + Sync>(
 }
 
 /// A fact that is told where it does not hold.
-fn fact(told: &mut Told, what: &str, wanted: u64, came: u64) {
+fn fact(told: &mut Report, what: &str, wanted: u64, came: u64) {
     told.facts = told.facts.saturating_add(1);
     told.number(what, wanted, came);
 }
 
 /// No call was let through that waited for nothing.
-fn check_missed(told: &mut Told, gate: &Waiting) {
+fn check_missed(told: &mut Report, gate: &Waiting) {
     fact(told, "waited for nothing", 0, gate.missed());
 }
 
 /// The calls were hinted by these versions, and the last one behind account 1.
-fn check_hints(told: &mut Told, gate: &Waiting) {
+fn check_hints(told: &mut Report, gate: &Waiting) {
     let [one, two] = &gate.first;
     let [three, four] = &gate.second;
     for (hinted, version) in [one, two, three, four].iter().zip(&VERSIONS) {
@@ -199,7 +199,7 @@ fn check_hints(told: &mut Told, gate: &Waiting) {
 fn check_published<R: Threads + Wait + Sync>(
     rt: &R,
     alloc: Global,
-    told: &mut Told,
+    told: &mut Report,
 ) -> Result<(), AllocError> {
     let mut lines = Vec::new(alloc);
     for (line, _) in &PUBLISHED {
@@ -221,7 +221,7 @@ fn check_published<R: Threads + Wait + Sync>(
 /// The line that says why words are not given is written, or is lost where it cannot be.
 fn check_ungiven(
     alloc: Global,
-    told: &mut Told,
+    told: &mut Report,
     fault: ErrorKind,
     line: &[u8],
     status: u64,

@@ -4,7 +4,7 @@ use crate::disks::Disks;
 use crate::performing::perform;
 use crate::stage::Stage;
 use liq_case_files::{
-    Block, Misread, Run, Told, counted, is_change, number, put_words, set, side_of,
+    Block, Misread, Report, Run, count_up, is_change, number, put_words, set, side_of,
 };
 use std::alloc::{AllocError, Global};
 use std::sync::Wait;
@@ -17,7 +17,7 @@ pub fn tell_file<R: Threads + Wait + Sync>(
     name: String,
     text: &str,
 ) -> Result<String, AllocError> {
-    let mut told = Told::new(alloc, name);
+    let mut told = Report::new(alloc, name);
     tell_cases(rt, alloc, &mut told, text)?;
     told.end()
 }
@@ -26,7 +26,7 @@ pub fn tell_file<R: Threads + Wait + Sync>(
 fn tell_cases<R: Threads + Wait + Sync>(
     rt: &R,
     alloc: Global,
-    told: &mut Told,
+    told: &mut Report,
     text: &str,
 ) -> Result<(), AllocError> {
     let mut cases = Cases {
@@ -44,7 +44,7 @@ fn tell_cases<R: Threads + Wait + Sync>(
 #[derive(Drop)]
 struct Cases<'a> {
     alloc: Global,
-    told: &'a mut Told,
+    told: &'a mut Report,
     /// The run that is being read.
     run: Option<Run>,
     /// The lines that are being read to be repeated.
@@ -195,7 +195,7 @@ impl Cases<'_> {
 
     /// Takes a line of a block, its numbers counted up so many times.
     fn take_counted(&mut self, line: usize, text: &str, turn: u64) -> Result<(), Misread> {
-        let text = counted(self.alloc, text, turn)?;
+        let text = count_up(self.alloc, text, turn)?;
         self.take_line(line, text.as_str())
     }
 

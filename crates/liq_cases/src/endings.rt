@@ -5,7 +5,7 @@
 ghost use Rattle.std.specs.Prelude.{None};
 
 use crate::sink::SmallSink;
-use liq_case_files::{Told, put_words};
+use liq_case_files::{Report, put_words};
 use liq_outside::{Failed, MemoryDisk, Source};
 use liq_serve::{Ended, OpenGate, protocol};
 use std::alloc::{AllocError, Global};
@@ -127,7 +127,7 @@ impl Source for TwoTexts {
 pub fn check_endings<R: Threads + Wait + Sync>(
     rt: &R,
     alloc: Global,
-    told: &mut Told,
+    told: &mut Report,
 ) -> Result<(), AllocError> {
     for (word, first, answered, second) in &TEXTS {
         let mut source = TwoTexts::new(alloc, first, second)?;

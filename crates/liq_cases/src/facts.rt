@@ -1,10 +1,10 @@
 //! Facts of what a run leaves, tested.
 
 use crate::devices::Outcome;
-use liq_case_files::{At, Held, Run, Says, Start, Told};
+use liq_case_files::{At, Held, Report, Run, Says, Start};
 
 /// Tells each fact of a run that does not hold, and counts those that it tests.
-pub fn check_facts(told: &mut Told, run: &Run, start: &Start, outcome: &Outcome) {
+pub fn check_facts(told: &mut Report, run: &Run, start: &Start, outcome: &Outcome) {
     for fact in &run.facts {
         told.facts = told.facts.saturating_add(1);
         told.at = At::line(fact.line);
@@ -12,7 +12,7 @@ pub fn check_facts(told: &mut Told, run: &Run, start: &Start, outcome: &Outcome)
     }
 }
 
-fn check_fact(told: &mut Told, says: &Says, start: &Start, outcome: &Outcome) {
+fn check_fact(told: &mut Report, says: &Says, start: &Start, outcome: &Outcome) {
     match says {
         Says::Disk(side, held) => check_held(told, held, start.held(*side), outcome.held(*side)),
         Says::Unread(count) => told.number("unread", *count, outcome.unread().len() as u64),
@@ -23,7 +23,7 @@ fn check_fact(told: &mut Told, says: &Says, start: &Start, outcome: &Outcome) {
     }
 }
 
-fn check_held(told: &mut Told, held: &Held, before: &[u8], bytes: &[u8]) {
+fn check_held(told: &mut Report, held: &Held, before: &[u8], bytes: &[u8]) {
     match held {
         Held::Count(count) => told.number("bytes of the disk", *count, bytes.len() as u64),
         Held::Begins(first) => {

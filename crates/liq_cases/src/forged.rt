@@ -3,7 +3,7 @@
 use crate::devices::Devices;
 use crate::runs::run_by_both;
 use crate::stage::Stage;
-use liq_case_files::{At, Forged, Misread, Side, Told, forge};
+use liq_case_files::{At, Forged, Misread, Report, Side, forge};
 use std::alloc::AllocError;
 use std::sync::Wait;
 use std::thread::Threads;
@@ -12,7 +12,7 @@ use std::thread::Threads;
 pub fn check_forged<R: Threads + Wait + Sync>(
     rt: &R,
     stage: &Stage<'_>,
-    told: &mut Told,
+    told: &mut Report,
     forged: Forged,
 ) -> Result<(), AllocError> {
     told.at = At::byte(stage.run.line, forged.place);
@@ -36,7 +36,7 @@ fn forged_disk(stage: &Stage<'_>, forged: Forged) -> Result<Vec<u8>, Misread> {
 fn check_held<R: Threads + Wait + Sync>(
     rt: &R,
     stage: &Stage<'_>,
-    told: &mut Told,
+    told: &mut Report,
     forged: Forged,
     held: &[u8],
 ) -> Result<(), AllocError> {

@@ -9,7 +9,7 @@ use crate::sessions::check_served;
 use crate::stage::Stage;
 use crate::stops::sweep_stops;
 use crate::sweeps::{sweep_cuts, sweep_disk, sweep_sink, sweep_source};
-use liq_case_files::{Asked, At, Lines, Told};
+use liq_case_files::{Asked, At, Lines, Report};
 use std::alloc::AllocError;
 use std::sync::Wait;
 use std::thread::Threads;
@@ -19,7 +19,7 @@ use std::thread::Threads;
 pub fn perform<R: Threads + Wait + Sync>(
     rt: &R,
     stage: &Stage<'_>,
-    told: &mut Told,
+    told: &mut Report,
     disks: &mut Disks,
 ) -> Result<(), AllocError> {
     for asked in &stage.run.sweeps {
@@ -37,7 +37,7 @@ pub fn perform<R: Threads + Wait + Sync>(
 fn sweep<R: Threads + Wait + Sync>(
     rt: &R,
     stage: &Stage<'_>,
-    told: &mut Told,
+    told: &mut Report,
     asked: Asked,
 ) -> Result<(), AllocError> {
     match asked {
@@ -54,7 +54,7 @@ fn sweep<R: Threads + Wait + Sync>(
 fn make<R: Threads + Wait + Sync>(
     rt: &R,
     stage: &Stage<'_>,
-    told: &mut Told,
+    told: &mut Report,
     disks: &mut Disks,
     read: u64,
     write: u64,
@@ -70,7 +70,7 @@ fn make<R: Threads + Wait + Sync>(
 pub fn make_once<R: Threads + Wait + Sync>(
     rt: &R,
     stage: &Stage<'_>,
-    told: &mut Told,
+    told: &mut Report,
     read: u64,
     write: u64,
 ) -> Result<Outcome, AllocError> {
@@ -89,7 +89,7 @@ pub fn make_once<R: Threads + Wait + Sync>(
 pub fn check<R: Threads + Wait + Sync>(
     rt: &R,
     stage: &Stage<'_>,
-    told: &mut Told,
+    told: &mut Report,
     outcome: &Outcome,
 ) -> Result<(), AllocError> {
     let run = stage.run;
@@ -104,7 +104,7 @@ pub fn check<R: Threads + Wait + Sync>(
 }
 
 /// Tells the first line that went out otherwise.
-fn check_output(told: &mut Told, lines: &Lines, came: &[u8]) {
+fn check_output(told: &mut Report, lines: &Lines, came: &[u8]) {
     if came != lines.output.as_slice() {
         let difference = lines.difference(came);
         told.at.line = difference.line.unwrap_or(told.at.line);

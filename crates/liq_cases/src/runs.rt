@@ -1,7 +1,7 @@
 //! A run by both calls.
 
 use crate::devices::{Devices, Outcome, are_serve, by_one_thread, by_protocol};
-use liq_case_files::{Side, Told, put_words};
+use liq_case_files::{Report, Side, put_words};
 use liq_outside::Disk;
 use std::alloc::{AllocError, Global};
 use std::sync::Wait;
@@ -12,7 +12,7 @@ use std::thread::Threads;
 pub fn run_by_both<R: Threads + Wait + Sync>(
     rt: &R,
     alloc: Global,
-    told: &mut Told,
+    told: &mut Report,
     devices: &Devices<'_>,
 ) -> Result<Outcome, AllocError> {
     told.runs = told.runs.saturating_add(1);
@@ -29,7 +29,7 @@ pub fn run_by_both<R: Threads + Wait + Sync>(
 pub fn run_word<R: Threads + Wait + Sync>(
     rt: &R,
     alloc: Global,
-    told: &mut Told,
+    told: &mut Report,
     word: &str,
     devices: &Devices<'_>,
 ) -> Result<Outcome, AllocError> {
@@ -43,7 +43,7 @@ pub fn run_word<R: Threads + Wait + Sync>(
 }
 
 /// Tells where status, output, what is unread and both disks differ.
-fn compare(told: &mut Told, outcome: &Outcome, other: &Outcome) {
+fn compare(told: &mut Report, outcome: &Outcome, other: &Outcome) {
     told.number("status without threads", outcome.status(), other.status());
     told.bytes("output without threads", outcome.output(), other.output());
     told.bytes("unread without threads", outcome.unread(), other.unread());
@@ -60,7 +60,7 @@ fn compare(told: &mut Told, outcome: &Outcome, other: &Outcome) {
 }
 
 /// Tells where other calls of the devices failed.
-fn compare_faults(told: &mut Told, outcome: &Outcome, other: &Outcome) {
+fn compare_faults(told: &mut Report, outcome: &Outcome, other: &Outcome) {
     told.number(
         "source faults without threads",
         outcome.source.faults(),

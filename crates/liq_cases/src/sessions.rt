@@ -3,7 +3,7 @@
 use crate::devices::{Devices, Outcome};
 use crate::runs::run_word;
 use crate::stage::Stage;
-use liq_case_files::{Lines, Side, Told, ends_line};
+use liq_case_files::{Lines, Report, Side, ends_line};
 use liq_text::read_number;
 use std::alloc::{AllocError, Global};
 use std::sync::Wait;
@@ -234,7 +234,7 @@ fn put_history(alloc: Global, text: &mut Vec<u8>, history: &[u8]) -> Result<(), 
 pub fn check_served<R: Threads + Wait + Sync>(
     rt: &R,
     stage: &Stage<'_>,
-    told: &mut Told,
+    told: &mut Report,
     served: &Outcome,
 ) -> Result<(), AllocError> {
     check_history(rt, stage, told, served)?;
@@ -253,7 +253,7 @@ pub fn check_served<R: Threads + Wait + Sync>(
 fn check_history<R: Threads + Wait + Sync>(
     rt: &R,
     stage: &Stage<'_>,
-    told: &mut Told,
+    told: &mut Report,
     served: &Outcome,
 ) -> Result<(), AllocError> {
     let lines = asked(stage.alloc, &stage.run.lines.input)?;
@@ -266,7 +266,7 @@ fn check_history<R: Threads + Wait + Sync>(
 }
 
 /// Tells where there are not as many entries and replies as lines.
-fn check_counts(told: &mut Told, lines: u64, parts: &Output<'_>) {
+fn check_counts(told: &mut Report, lines: u64, parts: &Output<'_>) {
     told.number("entries of the history", lines, parts.history.len() as u64);
     told.number("entries out of order", 0, parts.out_of_order);
     told.number("replies", lines, parts.replies.texts.len() as u64);
@@ -275,7 +275,7 @@ fn check_counts(told: &mut Told, lines: u64, parts: &Output<'_>) {
 /// Tells where the replies above the history are others.
 fn check_replies(
     alloc: Global,
-    told: &mut Told,
+    told: &mut Report,
     lines: &Lines,
     output: &[u8],
 ) -> Result<(), AllocError> {
@@ -345,7 +345,7 @@ fn put(text: &mut Vec<u8>, line: Option<&[u8]>) -> Result<(), AllocError> {
 fn check_legal<R: Threads + Wait + Sync>(
     rt: &R,
     stage: &Stage<'_>,
-    told: &mut Told,
+    told: &mut Report,
     merged: &Merged,
     served: &Outcome,
 ) -> Result<(), AllocError> {
@@ -365,7 +365,7 @@ fn check_legal<R: Threads + Wait + Sync>(
 }
 
 /// Tells where one session leaves other disks than the run did.
-fn compare_disks(told: &mut Told, outcome: &Outcome, served: &Outcome) {
+fn compare_disks(told: &mut Report, outcome: &Outcome, served: &Outcome) {
     told.bytes(
         "left disk along the history",
         outcome.held(Side::Left),

@@ -6,7 +6,7 @@ use crate::performing::check;
 use crate::runs::run_by_both;
 use crate::stage::Stage;
 use crate::sweeps::{CRASHES, DISK_FAULT, check_replies};
-use liq_case_files::{At, Lines, Start, Stop, Told, put_words};
+use liq_case_files::{At, Lines, Report, Start, Stop, put_words};
 use liq_outside::Disk;
 use std::alloc::{AllocError, Global};
 use std::sync::Wait;
@@ -140,7 +140,7 @@ fn is_same(one: &Start, other: &Start) -> bool {
 pub fn sweep_stops<R: Threads + Wait + Sync>(
     rt: &R,
     stage: &Stage<'_>,
-    told: &mut Told,
+    told: &mut Report,
     first: Stop,
     last: Stop,
 ) -> Result<(), AllocError> {
@@ -166,7 +166,7 @@ pub fn sweep_stops<R: Threads + Wait + Sync>(
 fn check_stop<R: Threads + Wait + Sync>(
     rt: &R,
     stops: &mut Stops<'_>,
-    told: &mut Told,
+    told: &mut Report,
     stop: Stop,
     unmade: bool,
 ) -> Result<(), AllocError> {
@@ -231,7 +231,7 @@ fn pairs(alloc: Global, lefts: &[Vec<u8>], rights: &[Vec<u8>]) -> Result<Vec<Sta
 fn check_crashes<R: Threads + Wait + Sync>(
     rt: &R,
     stops: &mut Stops<'_>,
-    told: &mut Told,
+    told: &mut Report,
     stop: Stop,
     between: Between,
 ) -> Result<(), AllocError> {
@@ -252,7 +252,7 @@ fn check_crashes<R: Threads + Wait + Sync>(
 fn find<'a, R: Threads + Wait + Sync>(
     rt: &R,
     stops: &'a Stops<'_>,
-    told: &mut Told,
+    told: &mut Report,
     held: &'a Start,
     between: Between,
 ) -> Result<Option<usize>, AllocError> {
@@ -271,7 +271,7 @@ fn find<'a, R: Threads + Wait + Sync>(
 fn tell_found<'a, R: Threads + Wait + Sync>(
     rt: &R,
     stops: &'a Stops<'_>,
-    told: &mut Told,
+    told: &mut Report,
     held: &'a Start,
     between: Between,
 ) -> Result<(), AllocError> {
@@ -289,7 +289,7 @@ fn tell_found<'a, R: Threads + Wait + Sync>(
 fn stop_opening<R: Threads + Wait + Sync>(
     rt: &R,
     stops: &Stops<'_>,
-    told: &mut Told,
+    told: &mut Report,
     held: &Start,
     between: Between,
 ) -> Result<(), AllocError> {
@@ -319,7 +319,7 @@ fn stop_opening<R: Threads + Wait + Sync>(
 fn is_stopped<'a, R: Threads + Wait + Sync>(
     rt: &R,
     stops: &'a Stops<'_>,
-    told: &mut Told,
+    told: &mut Report,
     held: &'a Start,
     stop: Stop,
     between: Between,
@@ -340,7 +340,7 @@ fn is_stopped<'a, R: Threads + Wait + Sync>(
 fn check_second_crashes<'a, R: Threads + Wait + Sync>(
     rt: &R,
     stops: &'a Stops<'_>,
-    told: &mut Told,
+    told: &mut Report,
     held: &'a Start,
     stop: Stop,
     between: Between,

@@ -4,7 +4,7 @@ use crate::devices::{Devices, Outcome, are_serve};
 use crate::performing::{check, make_once};
 use crate::runs::{run_by_both, run_word};
 use crate::stage::Stage;
-use liq_case_files::{At, Side, Told};
+use liq_case_files::{At, Report, Side};
 use std::alloc::AllocError;
 use std::sync::Wait;
 use std::thread::Threads;
@@ -32,7 +32,7 @@ struct DiskCall {
 pub fn sweep_source<R: Threads + Wait + Sync>(
     rt: &R,
     stage: &Stage<'_>,
-    told: &mut Told,
+    told: &mut Report,
 ) -> Result<(), AllocError> {
     for read in &stage.run.reads {
         sweep_reads(rt, stage, told, *read)?;
@@ -44,7 +44,7 @@ pub fn sweep_source<R: Threads + Wait + Sync>(
 fn sweep_reads<R: Threads + Wait + Sync>(
     rt: &R,
     stage: &Stage<'_>,
-    told: &mut Told,
+    told: &mut Report,
     read: u64,
 ) -> Result<(), AllocError> {
     let bytes = stage.input().len() as u64;
@@ -62,7 +62,7 @@ fn sweep_reads<R: Threads + Wait + Sync>(
 fn fail_read<R: Threads + Wait + Sync>(
     rt: &R,
     stage: &Stage<'_>,
-    told: &mut Told,
+    told: &mut Report,
     read: u64,
     call: u64,
 ) -> Result<Outcome, AllocError> {
@@ -77,7 +77,7 @@ fn fail_read<R: Threads + Wait + Sync>(
 
 /// Each line is answered that had ended among so many bytes, which came before the read that
 /// failed.
-fn check_failed_read(stage: &Stage<'_>, told: &mut Told, bytes: u64, outcome: &Outcome) {
+fn check_failed_read(stage: &Stage<'_>, told: &mut Report, bytes: u64, outcome: &Outcome) {
     let answered = stage.run.lines.answered(answering(stage, bytes as usize));
     let output = outcome.output();
     let (replies, last) = output.split_at(answered.len().min(output.len()));
@@ -100,7 +100,7 @@ fn answering(stage: &Stage<'_>, bytes: usize) -> usize {
 pub fn sweep_cuts<R: Threads + Wait + Sync>(
     rt: &R,
     stage: &Stage<'_>,
-    told: &mut Told,
+    told: &mut Report,
     first: u64,
     last: u64,
 ) -> Result<(), AllocError> {
@@ -116,7 +116,7 @@ pub fn sweep_cuts<R: Threads + Wait + Sync>(
 fn cut_input<R: Threads + Wait + Sync>(
     rt: &R,
     stage: &Stage<'_>,
-    told: &mut Told,
+    told: &mut Report,
     read: u64,
     bytes: u64,
 ) -> Result<(), AllocError> {
@@ -135,7 +135,7 @@ fn cut_input<R: Threads + Wait + Sync>(
 pub fn sweep_sink<R: Threads + Wait + Sync>(
     rt: &R,
     stage: &Stage<'_>,
-    told: &mut Told,
+    told: &mut Report,
     last: u64,
 ) -> Result<(), AllocError> {
     for read in &stage.run.reads {
@@ -150,7 +150,7 @@ pub fn sweep_sink<R: Threads + Wait + Sync>(
 fn sweep_writes<R: Threads + Wait + Sync>(
     rt: &R,
     stage: &Stage<'_>,
-    told: &mut Told,
+    told: &mut Report,
     read: u64,
     write: u64,
     last: u64,
@@ -168,7 +168,7 @@ fn sweep_writes<R: Threads + Wait + Sync>(
 fn fail_write<R: Threads + Wait + Sync>(
     rt: &R,
     stage: &Stage<'_>,
-    told: &mut Told,
+    told: &mut Report,
     read: u64,
     write: u64,
     call: u64,
@@ -186,7 +186,7 @@ fn fail_write<R: Threads + Wait + Sync>(
 /// What the writes before it took is there, and the status says whether replies are cut.
 fn check_failed_write(
     stage: &Stage<'_>,
-    told: &mut Told,
+    told: &mut Report,
     whole: &Outcome,
     call: usize,
     outcome: &Outcome,
@@ -221,7 +221,7 @@ fn replies(status: u8, output: &[u8]) -> usize {
 pub fn sweep_disk<R: Threads + Wait + Sync>(
     rt: &R,
     stage: &Stage<'_>,
-    told: &mut Told,
+    told: &mut Report,
     side: Side,
     first: u64,
     last: u64,
@@ -239,7 +239,7 @@ pub fn sweep_disk<R: Threads + Wait + Sync>(
 fn fail_call<R: Threads + Wait + Sync>(
     rt: &R,
     stage: &Stage<'_>,
-    told: &mut Told,
+    told: &mut Report,
     failing: DiskCall,
 ) -> Result<Outcome, AllocError> {
     let DiskCall { side, call } = failing;
@@ -261,7 +261,7 @@ fn fail_call<R: Threads + Wait + Sync>(
 fn check_failed_call<R: Threads + Wait + Sync>(
     rt: &R,
     stage: &Stage<'_>,
-    told: &mut Told,
+    told: &mut Report,
     failing: DiskCall,
 ) -> Result<(), AllocError> {
     let outcome = fail_call(rt, stage, told, failing)?;
@@ -273,7 +273,7 @@ fn check_failed_call<R: Threads + Wait + Sync>(
 }
 
 /// How many lines are answered where a call of a disk fails.
-pub fn check_replies(stage: &Stage<'_>, told: &mut Told, outcome: &Outcome) -> usize {
+pub fn check_replies(stage: &Stage<'_>, told: &mut Report, outcome: &Outcome) -> usize {
     let output = outcome.output();
     let (replies, last) = output.split_at(output.len().saturating_sub(DISK_FAULT.len()));
     let bytes = answering(stage, replies.len());
@@ -288,7 +288,7 @@ pub fn check_replies(stage: &Stage<'_>, told: &mut Told, outcome: &Outcome) -> u
 fn check_crashes<R: Threads + Wait + Sync>(
     rt: &R,
     stage: &Stage<'_>,
-    told: &mut Told,
+    told: &mut Report,
     failing: DiskCall,
     lines: usize,
 ) -> Result<(), AllocError> {
@@ -302,7 +302,7 @@ fn check_crashes<R: Threads + Wait + Sync>(
 }
 
 /// Tells where a state after a crash is neither of the two that may be.
-fn check_state(told: &mut Told, before: &[u8], after: &[u8], found: &[u8]) {
+fn check_state(told: &mut Report, before: &[u8], after: &[u8], found: &[u8]) {
     if found != after {
         told.bytes("state after a crash", before, found);
     }
@@ -312,7 +312,7 @@ fn check_state(told: &mut Told, before: &[u8], after: &[u8], found: &[u8]) {
 fn state_after_crash<R: Threads + Wait + Sync>(
     rt: &R,
     stage: &Stage<'_>,
-    told: &mut Told,
+    told: &mut Report,
     failing: DiskCall,
     choice: u64,
 ) -> Result<Vec<u8>, AllocError> {
@@ -325,7 +325,7 @@ fn state_after_crash<R: Threads + Wait + Sync>(
 fn state_after<R: Threads + Wait + Sync>(
     rt: &R,
     stage: &Stage<'_>,
-    told: &mut Told,
+    told: &mut Report,
     lines: usize,
 ) -> Result<Vec<u8>, AllocError> {
     let devices = Devices {
@@ -340,7 +340,7 @@ fn state_after<R: Threads + Wait + Sync>(
 fn state_over<R: Threads + Wait + Sync>(
     rt: &R,
     stage: &Stage<'_>,
-    told: &mut Told,
+    told: &mut Report,
     left_behind: &Outcome,
 ) -> Result<Vec<u8>, AllocError> {
     let devices = Devices {

@@ -20,7 +20,7 @@ ghost use Rattle.liq_market.specs.Touching.{touched_after};
 
 use crate::lists::{AccountList, deposit_accounts, lay, wallet_accounts};
 use crate::load_fault::LoadFault;
-use crate::saving::{AROUND, opened, save_of};
+use crate::saving::{AROUND, read_saved, save_of};
 use crate::touching::{NAMED_MOST, note};
 use liq_checkpoint::{ImageBytes, decode, encode};
 use liq_core::laws::{lists_stand, protocols_are_sound, protocols_stand};
@@ -182,7 +182,7 @@ impl Market {
             → LoadsAs i records result }
         ensures unsound { (rule : ℕ) → result ≡ Err (Unsound rule) → IsUnsoundSave bytes.now rule }
     {
-        let Some((records, checkpoint)) = opened(bytes) else {
+        let Some((records, checkpoint)) = read_saved(bytes) else {
             return Err(LoadFault::Damaged);
         };
         let image = match decode(alloc, checkpoint) {

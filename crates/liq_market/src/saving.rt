@@ -41,7 +41,7 @@ pub(crate) fn save_of(alloc: Global, records: u64, checkpoint: &[u8]) -> Result<
 }
 
 /// The records and the checkpoint of which these bytes are the save, if they are one.
-pub(crate) fn opened(bytes: &[u8]) -> Option<(u64, &[u8])>
+pub(crate) fn read_saved(bytes: &[u8]) -> Option<(u64, &[u8])>
     ensures found { IfSome result (λ r. bytes.now ≡ sealed (told_with r.0 r.1.now)) }
     ensures fits { IfSome result (λ r. r.0 < 2 ^ 64) }
     ensures only { (records : ℕ) (checkpoint : List ℕ) → records < 2 ^ 64

@@ -13,7 +13,7 @@ pub fn encode(reply: &Reply) -> Reply96
 {
     match reply {
         Reply::Said(done) => accepted(done),
-        Reply::Told(info) => told(info),
+        Reply::Told(info) => reply_of_info(info),
         Reply::No(refusal) => refused(refusal),
     }
 }
@@ -59,7 +59,7 @@ fn accepted(done: &Done) -> Reply96
 }
 
 #[tactic(auto, unfolding(crate::specs::Replies::reply96))]
-fn told(info: &Info) -> Reply96
+fn reply_of_info(info: &Info) -> Reply96
     ensures { result ≡ reply96 (Told info.now) }
 {
     let plain = |topic: u8, numbers: &[u64]| of_words(TOLD, topic, numbers.len() as u8, numbers);

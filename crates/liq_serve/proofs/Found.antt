@@ -21,7 +21,7 @@ use Rattle.liq_word_exit.specs.Statuses.{End, status_of}
 use Rattle.liq_word_exit.specs.Stops.{Adds, StopsDamaged}
 use Rattle.liq_word_exit.specs.Outside.{Outside}
 use Rattle.liq_word_exit.proofs.Opened.{some_of, state_formed}
-use Rattle.liq_word_state.specs.declared.telling.Told.{Told}
+use Rattle.liq_word_state.specs.declared.telling.Text.{Text}
 use Rattle.liq_word_state.specs.Told.{EndsSome, EndsTelling, FindsNone}
 use Rattle.liq_serve.specs.Top.{Finds, Tells, TellsFound, TellsState}
 
@@ -177,7 +177,7 @@ module _
 
   -- ---- words that tell of the disks
 
-  abbrev SinkTells : Told → End → State → List Command → Type 0
+  abbrev SinkTells : Text → End → State → List Command → Type 0
   SinkTells what end s commands = EndsTelling what s commands end
       (Rose (sink_at before.sink).faults (sink_at after.sink).faults)
       (sink_at before.sink).held (sink_at after.sink).held
@@ -191,7 +191,7 @@ module _
       × LeavesOfRun disk_at before.left before.right (IsFaultOfTelling end) l r start [] after.left after.right
 
   module _
-      (what : Told) (end : End)
+      (what : Text) (end : End)
       (told : OfState disk_at before.left before.right (λ l r start. SinkTells what end start (commands_on l r)
       × DisksStay disk_at end l r start after.left after.right))
       (past : OfState disk_at before.left before.right (λ l r start. LeavesOfRun disk_at before.left before.right

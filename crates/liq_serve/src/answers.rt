@@ -19,7 +19,7 @@ use liq_rewards::{TagLine, read_tag_line};
 use liq_text_gather::{Form, gather};
 use liq_text_lines::Stop;
 use liq_word_exit::{Ending, Halt, write_last};
-use liq_word_state::{Asked, Told, tell_on};
+use liq_word_state::{Asked, Text, tell_on};
 use std::alloc::Global;
 
 /// A form of lines that are answered beside the commands on two disks.
@@ -28,7 +28,7 @@ pub(crate) trait Asking: Form {
     ghost text: { ℕ → List Command → List Self.Item → List ℕ };
 
     /// Asks these lines.
-    fn asked(lines: Vec<Self::Item>) -> Asked
+    fn into_asked(lines: Vec<Self::Item>) -> Asked
         ensures text { (limit : ℕ) (commands : List Command)
             → asked_text result limit commands ≡ text limit commands lines.items }
         ensures few { length lines.items ≤ LINES_MOST → AreFew result };
@@ -57,7 +57,7 @@ where
         result.end }
 {
     match gather::<F, S>(alloc, input) {
-        Ok(lines) => tell_on(alloc, Told::Answers(F::asked(lines)), out, left, right),
+        Ok(lines) => tell_on(alloc, Text::Answers(F::into_asked(lines)), out, left, right),
         Err(stop) => stopped(stop, out, left, right),
     }
 }
@@ -86,7 +86,7 @@ impl Asking for StakeForm {
 
     ghost text = { staked_text };
 
-    fn asked(lines: Vec<StakeLine>) -> Asked
+    fn into_asked(lines: Vec<StakeLine>) -> Asked
         ensures text { (limit : ℕ) (commands : List Command)
             → asked_text result limit commands ≡ staked_text limit commands lines.items }
         ensures few { length lines.items ≤ LINES_MOST → AreFew result }
@@ -119,7 +119,7 @@ impl Asking for TagForm {
 
     ghost text = { rewarded_text };
 
-    fn asked(lines: Vec<TagLine>) -> Asked
+    fn into_asked(lines: Vec<TagLine>) -> Asked
         ensures text { (limit : ℕ) (commands : List Command)
             → asked_text result limit commands ≡ rewarded_text limit commands lines.items }
         ensures few { length lines.items ≤ LINES_MOST → AreFew result }

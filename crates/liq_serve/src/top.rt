@@ -40,7 +40,7 @@ use liq_word_follow::follow_on;
 use liq_word_gen::tell_load;
 use liq_word_line::Word;
 use liq_word_run::run_on;
-use liq_word_state::{Told, tell_on};
+use liq_word_state::{Text, tell_on};
 use std::alloc::Global;
 use std::io::ErrorKind;
 use std::marker::Brand;
@@ -85,7 +85,7 @@ pub fn protocol<S: Source, K: Sink, D: Disk + Send, G: Gate + Sync, R: Threads +
         return with_status(serve_on(rt, alloc, gate, input, out, left, right));
     }
     // odd: answer named
-    let ended = answered(alloc, words, read, input, out, left, right);
+    let ended = answer_words(alloc, words, read, input, out, left, right);
     ended
 }
 
@@ -142,11 +142,11 @@ pub fn without_threads<S: Source, K: Sink, D: Disk>(
         result.status (map string_bytes words.now) }
 {
     let read = read_words(alloc, words);
-    answered(alloc, words, read, input, out, left, right)
+    answer_words(alloc, words, read, input, out, left, right)
 }
 
 /// Does what the words ask for, once they are read.
-fn answered<S: Source, K: Sink, D: Disk>(
+fn answer_words<S: Source, K: Sink, D: Disk>(
     alloc: Global,
     _words: &[String],
     read: Result<Word, WordsFault>,
@@ -203,9 +203,9 @@ fn carry_out<S: Source, K: Sink, D: Disk>(
         Word::Serve => unreachable!(),
         Word::Staking => answer_on::<StakeForm, S, K, D>(alloc, input, out, left, right),
         Word::Rewards => answer_on::<TagForm, S, K, D>(alloc, input, out, left, right),
-        Word::State => tell_on(alloc, Told::State, out, left, right),
-        Word::Audit => tell_on(alloc, Told::Audit, out, left, right),
-        Word::Report => tell_on(alloc, Told::Report, out, left, right),
+        Word::State => tell_on(alloc, Text::State, out, left, right),
+        Word::Audit => tell_on(alloc, Text::Audit, out, left, right),
+        Word::Report => tell_on(alloc, Text::Report, out, left, right),
         Word::Follow => {
             let end = follow_on(alloc, input, out);
             Ending { end, left, right }

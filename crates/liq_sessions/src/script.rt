@@ -76,7 +76,7 @@ impl Requests {
     }
 
     /// The requests, to be asked one after the other.
-    pub(crate) fn asked(self) -> Asked
+    pub(crate) fn into_asked(self) -> Asked
         ensures { result ≡ self }
     {
         let Requests {

@@ -28,7 +28,7 @@ where
         mut hinter,
     } = work;
     let count = requests.len();
-    let mut asked = requests.asked();
+    let mut asked = requests.into_asked();
     for before in 0..count {
         let Some(request) = asked.next() else {
             unreachable!();

@@ -31,7 +31,7 @@ pub struct Ending<D> {
 }
 
 /// How a word ends whose store was not opened: with the disks as they are then.
-pub fn unopened<D>(fault: StoreFault<D>) -> Ending<D>
+pub fn end_without_store<D>(fault: StoreFault<D>) -> Ending<D>
     ensures { result
         ≡ record { end = Err (halt_of fault.why); left = fault.left; right = fault.right } }
 {
@@ -41,7 +41,7 @@ pub fn unopened<D>(fault: StoreFault<D>) -> Ending<D>
 }
 
 /// How a word ends over a store, which is closed: with the disks as the store leaves them.
-pub fn closed<D: Disk>(store: Store<D>, end: Result<(), Halt>) -> Ending<D>
+pub fn end_with_store<D: Disk>(store: Store<D>, end: Result<(), Halt>) -> Ending<D>
     ensures is { result ≡ record { end = end; left = store.left; right = store.right } }
     ensures order { IsInOrder D.at store }
 {

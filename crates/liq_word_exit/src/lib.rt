@@ -12,7 +12,9 @@ mod halts;
 pub mod laws;
 mod texts;
 
-pub use ending::{Ending, closed, status, tell_last, unopened, write_last, write_usage};
+pub use ending::{
+    Ending, end_with_store, end_without_store, status, tell_last, write_last, write_usage,
+};
 pub use further::look_further;
 pub use halts::{Halt, end_of_feed, has_all_commands};
 pub use texts::{write_rest, write_text};

@@ -32,7 +32,7 @@ use liq_text::{read_line, read_query};
 use liq_text_lines::{LineEnd, Reader};
 use liq_types::amounts::{LINE_BYTES, LINES_MOST};
 use liq_types::{Query, Request};
-use liq_word_exit::{Ending, Halt, closed, unopened, write_rest};
+use liq_word_exit::{Ending, Halt, end_with_store, end_without_store, write_rest};
 use std::alloc::{AllocError, Global};
 
 /// What stands next in the input.
@@ -174,10 +174,10 @@ pub fn answer_input<S: Source, K: Sink, D: Disk>(
 {
     let mut run = match Run::open(alloc, left, right, out) {
         Ok(run) => run,
-        Err(fault) => return unopened(fault),
+        Err(fault) => return end_without_store(fault),
     };
     let end = run.answer_all(input, out);
-    closed(run.into_store(), end)
+    end_with_store(run.into_store(), end)
 }
 
 /// What a run reads into and gathers replies in.
@@ -328,7 +328,7 @@ impl<D: Disk> Run<D> {
             (K.at out.old).faults (K.at out.new).faults result }
     {
         for answered in 0..LINES_MOST {
-            if !self.turn(input, out, answered)? {
+            if !self.answer_line(input, out, answered)? {
                 return Ok(());
             }
         }
@@ -364,7 +364,7 @@ impl<D: Disk> Run<D> {
 
     /// Answers the next line, of which there are `answered` before it, and says whether another may
     /// follow. Before the source is read the replies that wait are written.
-    fn turn<S: Source, K: Sink>(
+    fn answer_line<S: Source, K: Sink>(
         &mut self,
         input: &mut S,
         out: &mut K,
@@ -386,11 +386,11 @@ impl<D: Disk> Run<D> {
             self.answer_query(&query, out)?;
             return Ok(true);
         }
-        self.turn_at(whole, input, out, answered)
+        self.answer_line_at(whole, input, out, answered)
     }
 
     /// The same of a next line of this size, or of one that was not taken whole.
-    fn turn_at<S: Source, K: Sink>(
+    fn answer_line_at<S: Source, K: Sink>(
         &mut self,
         whole: Option<usize>,
         input: &mut S,

@@ -30,7 +30,7 @@ pub struct Served<D> {
 }
 
 /// What a closed service leaves, of which each session had its whole script answered or not.
-pub(crate) fn ended<D: Disk, O: Origin>(closed: Closed<D, O>, whole: bool) -> Served<D>
+pub(crate) fn end_of_service<D: Disk, O: Origin>(closed: Closed<D, O>, whole: bool) -> Served<D>
     ensures left { result.left ≡ closed.store.left }
     ensures right { result.right ≡ closed.store.right }
     ensures history { result.history ≡ closed.history }

@@ -10,7 +10,7 @@ ghost use Rattle.liq_word_serve.specs.Leaves.{Leaves};
 ghost use Rattle.liq_word_serve.specs.Serves.{IsServable, Serves};
 
 use crate::seats::run_at;
-use crate::served::{End, Served, ended};
+use crate::served::{End, Served, end_of_service};
 use liq_book::{BookSeat, History, Origin, Publishing, Service};
 use liq_core::laws::protocols_stand;
 use liq_outside::Disk;
@@ -60,15 +60,15 @@ fn serve_from<D: Disk + Send, O: Origin + Send + Sync, G: Gate + Sync, R: Thread
     let count = scripts.len() as u8;
     let (service, seats, finders) = match Service::<D, O>::new(rt, alloc, store, count) {
         Ok(made) => made,
-        Err(store) => return unserved(alloc, store),
+        Err(store) => return end_without_service(alloc, store),
     };
     let desk = Publishing::new(&service);
     let (seats, whole) = run_at(rt, alloc, &desk, gate, scripts, seats, finders);
-    finished(rt, service, seats, whole)
+    close_service(rt, service, seats, whole)
 }
 
 /// Closes the book with all its seats.
-fn finished<D: Disk, O: Origin, W: Wait>(
+fn close_service<D: Disk, O: Origin, W: Wait>(
     rt: &W,
     service: Service<D, O>,
     seats: Vec<BookSeat<O>>,
@@ -80,13 +80,13 @@ fn finished<D: Disk, O: Origin, W: Wait>(
         seats.items result }
 {
     match service.close(rt, seats) {
-        Ok(closed) => ended(closed, whole),
+        Ok(closed) => end_of_service(closed, whole),
         Err(_) => unreachable!(),
     }
 }
 
 /// What is left where there was no memory for a service.
-fn unserved<D: Disk>(alloc: Global, store: Store<D>) -> Served<D>
+fn end_without_service<D: Disk>(alloc: Global, store: Store<D>) -> Served<D>
     ensures left { result.left ≡ store.left }
     ensures right { result.right ≡ store.right }
     ensures history { result.history ≡ [] }

@@ -25,8 +25,8 @@ use Rattle.liq_word_exit.specs.Telling.{TellsAll}
 use Rattle.liq_word_exit.specs.Unopened.{halt_of}
 use Rattle.liq_word_exit.specs.Unsaid.{WritesAll}
 use Rattle.liq_word_state.specs.declared.answers.Asked.{Asked}
-use Rattle.liq_word_state.specs.declared.telling.Told.{Told}
-use Rattle.liq_word_state.specs.declared.telling.Told.TheVariants as which
+use Rattle.liq_word_state.specs.declared.telling.Text.{Text}
+use Rattle.liq_word_state.specs.declared.telling.Text.TheVariants as which
 use Rattle.liq_word_state.specs.Answers.{asked_text}
 use Rattle.liq_word_state.specs.Leads.{LeadTo}
 use Rattle.liq_word_state.specs.Reviewing.{halt_on}
@@ -44,7 +44,7 @@ unopened_none (why.Damaged side damage) = tt
 unopened_none why.NoMemory = tt
 
 -- where only a later generation's state has no text, a halt is told of one of these, or of none
-module _ (what : Told) (rotated : (s : State) (commands : List Command) (held : Option (List ℕ))
+module _ (what : Text) (rotated : (s : State) (commands : List Command) (held : Option (List ℕ))
     → 1 < s.generation → WritesTold what s commands (Err (Rotated s.generation)) held held) where
   stops_some : (halt : Halt) (held : Option (List ℕ)) → StopsWhole halt → WritesSome what (Err halt) held held
   stops_some (Rotated generation) held later =
@@ -155,7 +155,7 @@ none_written (Err NoMemory) before now none same = same
 none_written (Ok done) before now none same = absurd none
 none_written (Err _) before now none same = absurd none
 
-pub some_told : (what : Told) (end : End) (fault : Type 0) (before middle now : Option (List ℕ))
+pub some_told : (what : Text) (end : End) (fault : Type 0) (before middle now : Option (List ℕ))
     → WritesSome what end before middle
     → ((text : List ℕ) → WritesAll text end before middle → TellsAll text end fault before now)
     → EndsSome what end fault before now

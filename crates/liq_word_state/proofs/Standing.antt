@@ -10,7 +10,7 @@ use Rattle.liq_store.specs.Opening.{IsNotOpened}
 use Rattle.liq_word_exit.specs.declared.halts.Halt.{Halt}
 use Rattle.liq_word_exit.specs.declared.halts.Halt.TheVariants.{BadLine, ReadFault, WriteFault, DiskFault, Damaged, DamagedInput, NoMemory, Limit, Rotated}
 use Rattle.liq_word_exit.specs.Disks.{DisksStay}
-use Rattle.liq_word_state.specs.declared.telling.Told.{Told}
+use Rattle.liq_word_state.specs.declared.telling.Text.{Text}
 use Rattle.liq_word_state.specs.Told.{WritesTold}
 use Rattle.liq_word_state.proofs.TextsTold.{nothing_told}
 use Rattle.liq_word_exit.specs.Unopened.{halt_of}
@@ -18,7 +18,7 @@ use Rattle.liq_word_exit.proofs.Opened.{unopened}
 
 module _ {D : Type 0} (at : D → DiskAt) where
   -- no store was opened
-  pub not_told : (what : Told) (commands : List Command) (why_is : StoreWhy) (fl fr left right : D)
+  pub not_told : (what : Text) (commands : List Command) (why_is : StoreWhy) (fl fr left right : D)
       → IsNotOpened at left right (record { left = fl; right = fr; why = why_is })
       → (l r : List ℕ) (held : Option (List ℕ)) → (at left).seen ≡ Some l → (at right).seen ≡ Some r → (start : State)
       → state_on l r ≡ Ok start

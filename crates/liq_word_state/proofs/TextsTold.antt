@@ -11,8 +11,8 @@ use Rattle.liq_word_exit.specs.declared.halts.Halt.TheVariants.{BadLine, ReadFau
 use Rattle.liq_word_exit.specs.Statuses.{status_of}
 use Rattle.liq_word_exit.specs.Telling.{TellsAll}
 use Rattle.liq_word_exit.specs.Unsaid.{WritesAll}
-use Rattle.liq_word_state.specs.declared.telling.Told.{Told}
-use Rattle.liq_word_state.specs.declared.telling.Told.TheVariants as which
+use Rattle.liq_word_state.specs.declared.telling.Text.{Text}
+use Rattle.liq_word_state.specs.declared.telling.Text.TheVariants as which
 use Rattle.liq_word_state.specs.declared.answers.Asked.{Asked}
 use Rattle.liq_word_state.specs.Answers.{IsAnswerOf, asked_text}
 use Rattle.liq_word_state.specs.Audit.{IsAuditOf}
@@ -118,7 +118,7 @@ answers_written s commands asked (Err _) before now leads wrote = absurd wrote
 -- ---- of each
 
 -- what stands is told whatever the limits and the journal's generation are
-pub may_end : (what : Told) (end : Result (Unit {0}) Halt) → end ≢ Err ReadFault
+pub may_end : (what : Text) (end : Result (Unit {0}) Halt) → end ≢ Err ReadFault
     → ((number : ℕ) → (end ≢ Err (BadLine number)) × (end ≢ Err (Limit number)) × (end ≢ Err (Rotated number)))
     → MayEnd what end
 may_end what end no_source no_number =
@@ -130,7 +130,7 @@ may_end what end no_source no_number =
     }
 
 -- a word that met a disk's fault, or no memory, wrote nothing
-pub nothing_told : (what : Told) (s : State) (commands : List Command) (held : Option (List ℕ))
+pub nothing_told : (what : Text) (s : State) (commands : List Command) (held : Option (List ℕ))
     → WritesTold what s commands (Err DiskFault) held held × WritesTold what s commands (Err NoMemory) held held
 nothing_told which.State s commands held = (refl, refl)
 nothing_told which.Report s commands held = (refl, refl)
@@ -138,7 +138,7 @@ nothing_told which.Audit s commands held = (refl, refl)
 nothing_told (which.Answers asked) s commands held = (refl, refl)
 
 -- once the last line is written where that stops
-pub all_told : (what : Told) (s : State) (commands : List Command) (end : Result (Unit {0}) Halt) (fault : Type 0)
+pub all_told : (what : Text) (s : State) (commands : List Command) (end : Result (Unit {0}) Halt) (fault : Type 0)
     (before middle now : Option (List ℕ))
     → WritesTold what s commands end before middle
     → ((text : List ℕ) → WritesAll text end before middle → TellsAll text end fault before now)

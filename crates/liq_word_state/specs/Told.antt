@@ -7,8 +7,8 @@ use Rattle.liq_word_exit.specs.declared.halts.Halt.TheVariants.{BadLine, Damaged
 use Rattle.liq_word_exit.specs.declared.halts.Halt.TheVariants.{NoMemory, ReadFault, Rotated}
 use Rattle.liq_word_exit.specs.Statuses.{End, status_of}
 use Rattle.liq_word_exit.specs.Telling.{TellsAll}
-use Rattle.liq_word_state.specs.declared.telling.Told.{Told}
-use Rattle.liq_word_state.specs.declared.telling.Told.TheVariants as which
+use Rattle.liq_word_state.specs.declared.telling.Text.{Text}
+use Rattle.liq_word_state.specs.declared.telling.Text.TheVariants as which
 use Rattle.liq_word_state.specs.Answers.{IsAnswerOf, AreFew, asked_text}
 use Rattle.liq_word_state.specs.Audit.{IsAuditOf}
 use Rattle.liq_word_state.specs.Report.{reported}
@@ -17,7 +17,7 @@ use Rattle.liq_word_state.specs.Writing.{WritesAudit, WritesAnswers, WritesText}
 
 -- what is written of a state and of the commands that lead to it, before the last line
 abbrev pub WritesTold :
-    Told → State → List Command → End → Option (List ℕ) → Option (List ℕ)
+    Text → State → List Command → End → Option (List ℕ) → Option (List ℕ)
     → Type 0
 WritesTold which.State s commands end before now = WritesText (Ok (standing s)) end before now
 WritesTold which.Report s commands end before now = WritesText (Ok (reported s)) end before now
@@ -27,7 +27,7 @@ WritesTold (which.Answers asked) s commands end before now =
 
 -- the word has come to one of its ends, and the text is told, or the last line says why not
 abbrev pub EndsTelling :
-    Told → State → List Command → End → Type 0 → Option (List ℕ)
+    Text → State → List Command → End → Type 0 → Option (List ℕ)
     → Option (List ℕ) → Type 0
 EndsTelling which.State s commands end fault before now =
     Contains (0 ∷ 4 ∷ 5 ∷ 7 ∷ []) (status_of end) × TellsAll (standing s) end fault before now
@@ -47,14 +47,14 @@ FindsNone _ = ⊥
 
 -- Whatever the disks tell, the text is written of some state that is well formed, and of some
 -- commands; or nothing is.
-abbrev pub WritesSome : Told → End → Option (List ℕ) → Option (List ℕ) → Type 0
+abbrev pub WritesSome : Text → End → Option (List ℕ) → Option (List ℕ) → Type 0
 WritesSome what end before now =
     ((s : State) × (commands : List Command) × IsWellFormed s
     × WritesTold what s commands end before now)
     ⊎ (FindsNone end × (now ≡ before))
 
 -- So it is once the last line is written, where the word stopped.
-abbrev pub EndsSome : Told → End → Type 0 → Option (List ℕ) → Option (List ℕ) → Type 0
+abbrev pub EndsSome : Text → End → Type 0 → Option (List ℕ) → Option (List ℕ) → Type 0
 EndsSome what end fault before now =
     ((s : State) × (commands : List Command) × IsWellFormed s
     × EndsTelling what s commands end fault before now)
@@ -62,7 +62,7 @@ EndsSome what end fault before now =
 
 -- It ends for nothing that comes in; and what stands is told whatever the limits and the journal's
 -- generation are.
-pub record MayEnd (what : Told) (end : End) : Type 0 where
+pub record MayEnd (what : Text) (end : End) : Type 0 where
   pub no_source : end ≢ Err ReadFault
   pub no_line : (number : ℕ) → end ≢ Err (BadLine number)
   pub no_limit :
@@ -70,6 +70,6 @@ pub record MayEnd (what : Told) (end : End) : Type 0 where
       → (number : ℕ) → (end ≢ Err (Limit number)) × (end ≢ Err (Rotated number))
 
 -- there are no more lines than can be answered
-abbrev pub HasFewLines : Told → Type 0
+abbrev pub HasFewLines : Text → Type 0
 HasFewLines (which.Answers asked) = AreFew asked
 HasFewLines _ = Unit {0}

@@ -9,7 +9,7 @@ ghost use Rattle.liq_journal.specs.declared.damage.Damage.{Damage};
 ghost use Rattle.liq_journal.specs.Written.{is_rotate};
 ghost use Rattle.liq_disk_pair.specs.Replay.{replay};
 ghost use Rattle.liq_word_exit.specs.Causes.{WriteCause};
-ghost use Rattle.liq_word_state.specs.declared.telling.Told.TheVariants as which;
+ghost use Rattle.liq_word_state.specs.declared.telling.Text.TheVariants as which;
 ghost use Rattle.liq_word_state.specs.Answers.{AreFew, asked_text};
 ghost use Rattle.liq_word_state.specs.Told.{WritesSome};
 ghost use Rattle.liq_word_state.specs.Whole.{OfJournal, OnlyLooks};
@@ -83,7 +83,7 @@ fn write_answered<K: Sink>(
     ensures no_line { (number : ℕ) → result ≢ Err (Halt.BadLine number) }
     ensures sink { WriteCause result (K.at out.old).faults (K.at out.new).faults }
 {
-    match answered(alloc, limit, commands, asked) {
+    match answers_text(alloc, limit, commands, asked) {
         Ok(text) => write_text(out, &text),
         Err(ReplayFault::Damaged(damage)) => Err(Halt::Damaged(side, damage.index)),
         Err(ReplayFault::NoMemory) => Err(Halt::NoMemory),
@@ -91,7 +91,7 @@ fn write_answered<K: Sink>(
 }
 
 /// What is answered to lines beside commands from the opening under this limit on, as a text.
-fn answered(
+fn answers_text(
     alloc: Global,
     limit: u64,
     commands: &[Command],

@@ -8,7 +8,7 @@ ghost use Rattle.liq_journal.specs.Written.{is_rotate};
 ghost use Rattle.liq_disk_pair.specs.Replay.{replay};
 ghost use Rattle.liq_text_audit.specs.Reviewed.{reviewed};
 ghost use Rattle.liq_word_exit.specs.Causes.{WriteCause};
-ghost use Rattle.liq_word_state.specs.declared.telling.Told.TheVariants as which;
+ghost use Rattle.liq_word_state.specs.declared.telling.Text.TheVariants as which;
 ghost use Rattle.liq_word_state.specs.Reviewing.{halt_on};
 ghost use Rattle.liq_word_state.specs.Told.{WritesSome};
 ghost use Rattle.liq_word_state.specs.Whole.{OfJournal, OnlyLooks};

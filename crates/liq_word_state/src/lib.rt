@@ -15,4 +15,4 @@ mod telling;
 
 pub use answers::Asked;
 pub use state::write_standing;
-pub use telling::{Told, tell_on};
+pub use telling::{Text, tell_on};

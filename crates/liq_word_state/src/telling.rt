@@ -18,12 +18,12 @@ use liq_core::laws::protocols_stand;
 use liq_disk_pair::laws::{commands_lead_to_the_state, journals_keep_their_limit};
 use liq_outside::{Disk, Sink};
 use liq_store::Store;
-use liq_word_exit::{Ending, Halt, tell_last, unopened};
+use liq_word_exit::{Ending, Halt, end_without_store, tell_last};
 use std::alloc::Global;
 
 /// Which text is told.
 #[derive(Drop)]
-pub enum Told {
+pub enum Text {
     /// What stands on the disks: the replies to `system` and `pools`, the words of the Stability
     /// Pool, and the journal's generation with its records.
     State,
@@ -42,7 +42,7 @@ pub enum Told {
 /// before it is written.
 pub fn tell_on<K: Sink, D: Disk>(
     alloc: Global,
-    what: Told,
+    what: Text,
     out: &mut K,
     left: D,
     right: D,
@@ -76,7 +76,7 @@ pub fn tell_on<K: Sink, D: Disk>(
 }
 
 /// Tells a text of two disks.
-fn tell<K: Sink, D: Disk>(alloc: Global, what: Told, out: &mut K, left: D, right: D) -> Ending<D>
+fn tell<K: Sink, D: Disk>(alloc: Global, what: Text, out: &mut K, left: D, right: D) -> Ending<D>
     requires { HasFewLines what }
     ensures told { OfState D.at left right (λ l r start.
         WritesTold what start (commands_on l r) result.end (K.at out.old).held (K.at out.new).held
@@ -95,7 +95,7 @@ fn tell<K: Sink, D: Disk>(alloc: Global, what: Told, out: &mut K, left: D, right
     journals_keep_their_limit();
     let mut store = match Store::open(alloc, left, right) {
         Ok(store) => store,
-        Err(fault) => return unopened(fault),
+        Err(fault) => return end_without_store(fault),
     };
     let end = write_told(alloc, &what, &mut store, out);
     let (left, right) = store.close();
@@ -105,7 +105,7 @@ fn tell<K: Sink, D: Disk>(alloc: Global, what: Told, out: &mut K, left: D, right
 /// Writes the text of a store.
 fn write_told<K: Sink, D: Disk>(
     alloc: Global,
-    what: &Told,
+    what: &Text,
     store: &mut Store<D>,
     out: &mut K,
 ) -> Result<(), Halt>
@@ -121,9 +121,9 @@ fn write_told<K: Sink, D: Disk>(
     // odd: law called
     protocols_stand(store.protocol());
     match what {
-        Told::State => write_standing(alloc, store.protocol(), out),
-        Told::Report => write_report(alloc, store.protocol(), out),
-        Told::Audit => write_audit(alloc, store, out),
-        Told::Answers(asked) => write_answers(alloc, store, asked, out),
+        Text::State => write_standing(alloc, store.protocol(), out),
+        Text::Report => write_report(alloc, store.protocol(), out),
+        Text::Audit => write_audit(alloc, store, out),
+        Text::Answers(asked) => write_answers(alloc, store, asked, out),
     }
 }

@@ -53,7 +53,7 @@ impl<D: Disk, O: Origin> Service<D, O> {
         };
         let BookSeat { seat, .. } = first;
         let Service { lock, sessions: _ } = self;
-        let seat = gathered(&lock, seat, seats);
+        let seat = join_seats(&lock, seat, seats);
         match lock.close(seat) {
             Ok(book) => Ok(book.close(rt)),
             Err(_) => unreachable!(),
@@ -62,7 +62,7 @@ impl<D: Disk, O: Origin> Service<D, O> {
 }
 
 /// All seats joined into one.
-fn gathered<D: Disk, O: Origin>(
+fn join_seats<D: Disk, O: Origin>(
     lock: &Lock<BoxedBook<D, O>>,
     joined: LockSeat<Item>,
     mut seats: Vec<BookSeat<O>>,
@@ -79,5 +79,5 @@ fn gathered<D: Disk, O: Origin>(
         return joined;
     };
     let BookSeat { seat, .. } = next;
-    gathered(lock, lock.join_seat(joined, seat), seats)
+    join_seats(lock, lock.join_seat(joined, seat), seats)
 }

@@ -48,26 +48,26 @@ impl<D: Disk, O: Origin> Service<D, O> {
         let Ok(room) = Vec::with_capacity(alloc, sessions as usize) else {
             return Err(store);
         };
-        let Ok((publisher, finders)) = opened(rt, alloc, store.changes(), sessions) else {
+        let Ok((publisher, finders)) = open_publisher(rt, alloc, store.changes(), sessions) else {
             return Err(store);
         };
         let book = match BoxedBook::new(alloc, Book::new(alloc, store, publisher)) {
             Ok(book) => book,
-            Err(book) => return Err(unused(rt, book)),
+            Err(book) => return Err(take_store(rt, book)),
         };
         match Lock::new(alloc, book, u32::from(sessions)) {
             Ok((lock, seats)) => {
-                let seats = seated(&lock, seats, room);
+                let seats = make_seats(&lock, seats, room);
                 Ok((Service { lock, sessions }, seats, finders))
             }
-            Err(book) => Err(unused(rt, book.into_book())),
+            Err(book) => Err(take_store(rt, book.into_book())),
         }
     }
 }
 
 /// A publisher of the list that these changes make, as version 0, with a finder for each session,
 /// which has seen nothing yet.
-fn opened<W: Wait>(
+fn open_publisher<W: Wait>(
     rt: &W,
     alloc: Global,
     changes: &[ListChange],
@@ -93,7 +93,7 @@ fn opened<W: Wait>(
 }
 
 /// The store of a book that is not used.
-fn unused<D: Disk, O: Origin, W: Wait>(rt: &W, book: Book<D, O>) -> Store<D>
+fn take_store<D: Disk, O: Origin, W: Wait>(rt: &W, book: Book<D, O>) -> Store<D>
     ensures { result ≡ book.book.store }
 {
     let (store, publisher) = book.into_parts();
@@ -102,7 +102,7 @@ fn unused<D: Disk, O: Origin, W: Wait>(rt: &W, book: Book<D, O>) -> Store<D>
 }
 
 /// A seat of the book for each of the lock's, in their order.
-fn seated<D: Disk, O: Origin>(
+fn make_seats<D: Disk, O: Origin>(
     lock: &Lock<BoxedBook<D, O>>,
     mut seats: Vec<LockSeat<Item>>,
     room: Vec<BookSeat<O>>,
@@ -119,7 +119,7 @@ fn seated<D: Disk, O: Origin>(
         return room;
     };
     let session = seats.len() as u8 + 1;
-    let mut all = seated(lock, seats, room);
+    let mut all = make_seats(lock, seats, room);
     all.push_reserved(BookSeat {
         seat,
         session,

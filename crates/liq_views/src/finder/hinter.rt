@@ -10,7 +10,7 @@ use liq_list_version::Ask;
 use liq_types::{Call, Hint, Hinter, Request};
 
 /// What a version is asked for a request; none where the request puts no trove into the list.
-fn sought_by(request: &Request) -> Option<Ask>
+fn ask_for(request: &Request) -> Option<Ask>
     ensures { result ≡ sought request.now }
 {
     let Request::Do(command) = request else {
@@ -46,7 +46,7 @@ impl<V: Window + Drop> Hinter for Finder<V> {
         ensures leads { V.leads self.old.window self.new.window }
         ensures rising { IsSome (V.shown self.old.window) → self.old.last ≤ self.new.last }
     {
-        match sought_by(request) {
+        match ask_for(request) {
             Some(ask) => match self.look(&ask) {
                 Ok(hint) => hint,
                 Err(_) => nothing_in(self.last),

@@ -6,14 +6,14 @@ use Rattle.liq_word_exit.specs.Causes.{ReadCause}
 use Rattle.liq_word_exit.proofs.Causes.{unread_causes}
 use Rattle.liq_word_exit.specs.Outside.{Outside}
 use Rattle.liq_word_state.specs.Answers.{IsAnswerOf, asked_text}
-use Rattle.liq_word_state.specs.declared.telling.Told.TheVariants.{Answers}
+use Rattle.liq_word_state.specs.declared.telling.Text.TheVariants.{Answers}
 use Rattle.liq_serve.specs.Top.{AnswersLines}
 use Rattle.liq_serve.proofs.Found.{tells_found}
 use Rattle.liq_serve.proofs.Gathered.{lines_stopped, lines_whole, stop_source, source_kept}
 use Rattle.liq_serve.proofs.answers.answer_on.Goals as goal
 
 pub tell_on-requires : goal.tell_on-requires
-tell_on-requires g c = let read = c.in-Ok.ensures.read in c.asked.ensures.few
+tell_on-requires g c = let read = c.in-Ok.ensures.read in c.into_asked.ensures.few
     (omega (arith, read.few, ap length read.has))
 
 pub returns-in-Ok-clause-answered : goal.returns-in-Ok-clause-answered
@@ -25,7 +25,7 @@ returns-in-Ok-clause-answered g c =
     record { source = c.args.input.now; sink = c.args.out.now; left = c.args.left; right = c.args.right } in
     let after : Outside g.row.S.Denot g.row.K.Denot g.row.D.Denot =
     record { source = c.gather.new.input; sink = ran.new.out; left = ran.result.left; right = ran.result.right } in
-    let asked = c.asked.result in
+    let asked = c.into_asked.result in
     lines_whole g.S.Source.at sink_at disk_at g.F.Form.says g.F.Asking.text before after c.in-Ok.lines ran.result.end
     c.in-Ok.ensures.read
     (tells_found g.S.Source.at sink_at disk_at before after (Answers asked) ran.result.end ran.ensures.told
@@ -33,7 +33,7 @@ returns-in-Ok-clause-answered g c =
     (λ (s : State) (commands : List Command) (it : List ℕ). IsAnswerOf s commands ran.result.end
     × (it ≡ g.F.Asking.text s.limit commands c.in-Ok.lines.items))
     (λ s commands h.
-    (asked_text asked s.limit commands, (h.0, c.asked.ensures.text s.limit commands), h.1)))
+    (asked_text asked s.limit commands, (h.0, c.into_asked.ensures.text s.limit commands), h.1)))
 
 pub returns-in-Err-clause-answered : goal.returns-in-Err-clause-answered
 returns-in-Err-clause-answered g c =

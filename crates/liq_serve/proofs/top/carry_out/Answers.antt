@@ -8,7 +8,7 @@ use Rattle.liq_word_exit.specs.Outside.{Outside}
 use Rattle.liq_word_state.specs.Audit.{IsAuditOf}
 use Rattle.liq_word_state.specs.Report.{reported}
 use Rattle.liq_word_state.specs.State.{standing}
-use Rattle.liq_word_state.specs.declared.telling.Told.TheVariants as which
+use Rattle.liq_word_state.specs.declared.telling.Text.TheVariants as which
 use Rattle.liq_serve.proofs.Found.{tells_found, tells_state}
 use Rattle.liq_serve.proofs.Ran.{run_found}
 use Rattle.liq_serve.proofs.Words.{IsRead, telling_ends, word_ends}

@@ -8,7 +8,7 @@ loop-before-init g c = rw c.requires.room.0 (
   begins _ _ _ _ _ _ c.requires.belongs,
   refl,
   c.requires.room.1,
-  c.asked-asked.ensures,
+  c.into_asked-asked.ensures,
 )
 
 pub unreachable-requires : goal.unreachable-requires

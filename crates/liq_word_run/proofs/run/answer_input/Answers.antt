@@ -24,7 +24,7 @@ returns-in-Err-clause-run g c l r told_l told_r start is =
     let fault = c.in-Err.fault in
     subst (λ (e : Ending g.row.D.Denot). GivesBack disk_at c.args.left c.args.right start e.end told l r told
     (sink_at out).held (sink_at c.open.new.out).held (sink_at out).shown (sink_at c.open.new.out).shown e.left e.right)
-    (sym c.unopened.ensures)
+    (sym c.end_without_store.ensures)
     (subst (λ o. GivesBack disk_at c.args.left c.args.right start (Err (halt_of fault.why)) told l r told
     (sink_at out).held (sink_at o).held (sink_at out).shown (sink_at o).shown fault.left fault.right)
     (sym c.in-Err.ensures.untouched)
@@ -55,7 +55,7 @@ returns-clause-run g c l r told_l told_r start is =
       shown = was.shown;
     } in
     let order : IsInOrder disk_at store =
-    subst (λ (s : Stored g.row.D.Denot). IsInOrder disk_at s) c.into_store.ensures c.closed.ensures.order in
+    subst (λ (s : Stored g.row.D.Denot). IsInOrder disk_at s) c.into_store.ensures c.end_with_store.ensures.order in
     let place : Reached g.row.D.Denot =
     run_at store ran.new.self.reader ran.new.self.waiting.items unread now in
     let ends = gives_back disk_at g.met.D.Disk.seen_may_stay c.args.left c.args.right l r start opened was.held
@@ -66,7 +66,7 @@ returns-clause-run g c l r told_l told_r start is =
     λ s same. subst (λ (s : Stored g.row.D.Denot). GivesBack disk_at c.args.left c.args.right start end told
     l r unread was.held now.held was.shown now.shown s.left s.right) (sym same) ends in
     subst (λ (e : Ending g.row.D.Denot). GivesBack disk_at c.args.left c.args.right start e.end told
-    l r unread was.held now.held was.shown now.shown e.left e.right) (sym c.closed.ensures.is)
+    l r unread was.held now.held was.shown now.shown e.left e.right) (sym c.end_with_store.ensures.is)
     (given c.into_store.result c.into_store.ensures)
 
 pub returns-clause-disks : goal.returns-clause-disks
@@ -89,12 +89,12 @@ returns-clause-disks g c =
     λ s same. subst (λ (s : Stored g.row.D.Denot). DisksGoOn disk_at c.args.left c.args.right end s.left s.right)
     (sym same) goes_on in
     subst (λ (e : Ending g.row.D.Denot). DisksGoOn disk_at c.args.left c.args.right e.end e.left e.right)
-    (sym c.closed.ensures.is) (given c.into_store.result c.into_store.ensures)
+    (sym c.end_with_store.ensures.is) (given c.into_store.result c.into_store.ensures)
 
 pub returns-in-Err-clause-disks : goal.returns-in-Err-clause-disks
 returns-in-Err-clause-disks g c =
     subst (λ (e : Ending g.row.D.Denot). DisksGoOn g.D.Disk.at c.args.left c.args.right e.end e.left e.right)
-    (sym c.unopened.ensures) c.in-Err.ensures.disks
+    (sym c.end_without_store.ensures) c.in-Err.ensures.disks
 
 pub returns-in-Err-clause-damaged : goal.returns-in-Err-clause-damaged
 returns-in-Err-clause-damaged g c l r told_l told_r side damage is = (
@@ -102,7 +102,7 @@ returns-in-Err-clause-damaged g c l r told_l told_r side damage is = (
   c.in-Err.ensures.untouched,
   subst (λ (e : Ending g.row.D.Denot).
       LeavesDamaged g.D.Disk.at c.args.left c.args.right l r side damage e.end e.left e.right)
-      (sym c.unopened.ensures) (c.in-Err.ensures.damaged l r told_l told_r side damage is),
+      (sym c.end_without_store.ensures) (c.in-Err.ensures.damaged l r told_l told_r side damage is),
 )
 
 pub returns-clause-damaged : goal.returns-clause-damaged

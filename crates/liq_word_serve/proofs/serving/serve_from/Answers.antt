@@ -5,26 +5,26 @@ use Rattle.liq_word_serve.proofs.serving.serve_from.Goals as goal
 
 pub returns-in-Err : goal.returns-in-Err
 returns-in-Err g c =
-    let none = c.unserved.ensures in
+    let none = c.end_without_service.ensures in
     let back = c.in-Err.ensures.err in
     serves_none _ _ _ _ _ (g.met.D.Disk g.world.𝓛 g.world.𝓜 g.world.𝓡 (
       (λ s x. x),
       (λ x. x),
       (λ x. x),
       λ x. x,
-    )).seen_may_stay c.in-Err.store c.unserved.result none.left none.right none.history none.end
+    )).seen_may_stay c.in-Err.store c.end_without_service.result none.left none.right none.history none.end
     (rw back c.requires.servable.going) none.order (rw back c.requires.origin)
 
 pub run_at-seats-requires-clause-short : goal.run_at-seats-requires-clause-short
 run_at-seats-requires-clause-short g c κs within = each_short c.args.scripts.items c.requires.servable.total
 
-pub finished-requires-clause-own : goal.finished-requires-clause-own
-finished-requires-clause-own g c =
+pub close_service-requires-clause-own : goal.close_service-requires-clause-own
+close_service-requires-clause-own g c =
     rw (← c.new-desk.ensures) (came_own _ _ _ _ _ _ c.run_at-seats.ensures (λ k d within. rw c.new-desk.ensures
     ((c.in-Ok.ensures.seats k d within).own)))
 
-pub finished-requires-clause-all : goal.finished-requires-clause-all
-finished-requires-clause-all g c =
+pub close_service-requires-clause-all : goal.close_service-requires-clause-all
+close_service-requires-clause-all g c =
     let same : length c.in-Ok.made.1.items ≡ length c.args.scripts.items = omega (
       arith,
       c.in-Ok.ensures.count,
@@ -49,13 +49,13 @@ returns g c =
       c.args.scripts.ok.0,
     ) in
     serves_came _ _ c.args.scripts.items c.in-Ok.made.1.items c.run_at-seats.result.0.items c.run_at-seats.result.1 _ _
-    _ _ c.in-Ok.made.0.lock _ c.finished.result
+    _ _ c.in-Ok.made.0.lock _ c.close_service.result
     c.requires.servable.numbered c.in-Ok.ensures.seats same c.requires.servable.total (omega (
       arith,
       c.in-Ok.ensures.sessions,
       c.len-count.ensures,
       c.args.scripts.ok.0,
-    )) c.finished.ensures c.run_at-seats.ensures
+    )) c.close_service.ensures c.run_at-seats.ensures
 
 pub run_at-seats-requires-clause-belong : goal.run_at-seats-requires-clause-belong
 run_at-seats-requires-clause-belong g c κs within k d less =

@@ -5,7 +5,7 @@ use Rattle.liq_disk_pair.specs.Replay.{replay}
 use Rattle.liq_word_state.specs.Answers.{asked_text}
 use Rattle.liq_word_exit.specs.Statuses.{End}
 use Rattle.liq_word_state.specs.Leads.{LeadTo}
-use Rattle.liq_word_state.specs.declared.telling.Told.TheVariants as which
+use Rattle.liq_word_state.specs.declared.telling.Text.TheVariants as which
 use Rattle.liq_word_state.specs.Told.{WritesSome}
 use Rattle.liq_word_state.specs.Writing.{WritesAnswers, WritesText}
 use Rattle.liq_word_state.proofs.SomeTold.{answers_stop}

@@ -5,7 +5,7 @@ use Rattle.liq_disk_pair.specs.Replay.{replay}
 use Rattle.liq_text_audit.specs.Reviewed.{reviewed}
 use Rattle.liq_word_exit.specs.Statuses.{End}
 use Rattle.liq_word_state.specs.Leads.{LeadTo}
-use Rattle.liq_word_state.specs.declared.telling.Told.TheVariants as which
+use Rattle.liq_word_state.specs.declared.telling.Text.TheVariants as which
 use Rattle.liq_word_state.specs.Told.{WritesSome}
 use Rattle.liq_word_state.specs.Writing.{WritesAudit, WritesText}
 use Rattle.liq_word_state.proofs.SomeTold.{audit_stops}

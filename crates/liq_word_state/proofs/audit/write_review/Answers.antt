@@ -2,7 +2,7 @@ use Rattle.std.proofs.Common.{ℕ, Ok, Err, Result, ap, sym, subst, ◌∙◌}
 use Rattle.liq_text_audit.specs.Reviewed.{reviewed}
 use Rattle.liq_word_exit.specs.declared.halts.Halt.{Halt}
 use Rattle.liq_word_exit.specs.declared.halts.Halt.TheVariants.{DiskFault, ReadFault}
-use Rattle.liq_word_state.specs.declared.telling.Told.TheVariants as which
+use Rattle.liq_word_state.specs.declared.telling.Text.TheVariants as which
 use Rattle.liq_word_state.specs.Told.{WritesSome}
 use Rattle.liq_word_state.specs.Writing.{AuditAlong, AuditHolds}
 use Rattle.liq_word_exit.specs.Causes.{WriteCause}

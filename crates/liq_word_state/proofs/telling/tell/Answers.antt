@@ -33,7 +33,7 @@ returns-in-Err-clause-told g c l r told_l told_r start is =
     c.in-Err.ensures.not_opened l r held told_l told_r start is in
     subst (λ (e : Ending g.row.D.Denot). WritesTold c.args.what start commands e.end held held
     × DisksStay disk_at e.end l r start e.left e.right)
-    (sym c.unopened.ensures) found
+    (sym c.end_without_store.ensures) found
 
 pub returns-in-Err-clause-damaged : goal.returns-in-Err-clause-damaged
 returns-in-Err-clause-damaged g c l r told_l told_r side damage is =
@@ -43,7 +43,7 @@ returns-in-Err-clause-damaged g c l r told_l told_r side damage is =
       refl,
       subst (λ (e : Ending g.row.D.Denot).
           LeavesDamaged disk_at c.args.left c.args.right l r side damage e.end e.left e.right)
-          (sym c.unopened.ensures)
+          (sym c.end_without_store.ensures)
           (unopened_damaged disk_at c.args.left c.args.right l r side damage told_l told_r is
           fault.left fault.right fault.why opens.not_opened (opens.left_leaves l r told_l told_r)
           (opens.right_leaves r told_r) (λ other a b. opens.damaged other l r a b (side, damage) told_l told_r is)),
@@ -98,7 +98,7 @@ returns-in-Err-clause-past g c l r told_l told_r start is =
     let fault = c.in-Err.fault in
     let opens = c.in-Err.ensures in
     subst (λ (e : Ending g.row.D.Denot). LeavesOfRun disk_at c.args.left c.args.right
-    (IsFaultOfTelling e.end) l r start [] e.left e.right) (sym c.unopened.ensures)
+    (IsFaultOfTelling e.end) l r start [] e.left e.right) (sym c.end_without_store.ensures)
     (unopened_past disk_at g.met.D.Disk.seen_may_stay fault.why fault.left fault.right c.args.left c.args.right
     opens.not_opened opens.left_time opens.right_time opens.rests opens.recovers opens.left_leaves opens.right_leaves l
     r start told_l told_r is)
@@ -131,7 +131,7 @@ returns-in-Err-clause-disks g c =
     let disk_at = g.D.Disk.at in
     subst (λ (e : Ending g.row.D.Denot).
     DisksGoOn disk_at c.args.left c.args.right e.end e.left e.right)
-    (sym c.unopened.ensures) (record {
+    (sym c.end_without_store.ensures) (record {
       count = unopened_cause c.in-Err.fault.why _ _ opens.not_opened.cause;
       left_time = opens.left_time;
       right_time = opens.right_time;
@@ -163,7 +163,7 @@ returns-clause-disks g c =
 pub returns-in-Err-clause-some : goal.returns-in-Err-clause-some
 returns-in-Err-clause-some g c =
     let held = (g.K.Sink.at c.args.out.now).held in
-    subst (λ (e : Ending g.row.D.Denot). WritesSome c.args.what e.end held held) (sym c.unopened.ensures)
+    subst (λ (e : Ending g.row.D.Denot). WritesSome c.args.what e.end held held) (sym c.end_without_store.ensures)
     (inr (unopened_none c.in-Err.fault.why, refl))
 
 pub returns-clause-some : goal.returns-clause-some

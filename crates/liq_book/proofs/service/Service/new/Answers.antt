@@ -5,8 +5,9 @@ use Rattle.liq_book.proofs.service.Service.new.Goals as goal
 
 pub returns-in-Ok-new-2-clause-fresh : goal.returns-in-Ok-new-2-clause-fresh
 returns-in-Ok-new-2-clause-fresh g c =
-    let p = c.in-Ok-opened.publisher in (
+    let p = c.in-Ok-open_publisher.publisher in (
       p,
-      subst (λ (changes : List ListChange). HasOpened changes p) c.changes.ensures c.in-Ok-opened.ensures.opened,
-      c.in-Ok-opened.ensures.fresh,
+      subst (λ (changes : List ListChange). HasOpened changes p) c.changes.ensures
+          c.in-Ok-open_publisher.ensures.opened,
+      c.in-Ok-open_publisher.ensures.fresh,
     )

@@ -34,19 +34,19 @@ loop-answered-init g c = record {
 
 pub returns-then-not-branch-clause-run : goal.returns-then-not-branch-clause-run
 returns-then-not-branch-clause-run g c begun held past =
-    (rw c.if-not-branch.true at c.in_ok-turn.ensures.turn).turn begun _
+    (rw c.if-not-branch.true at c.in_ok-answer_line.ensures.turn).turn begun _
     (c.loop-answered.invariant.answered begun held past)
 
 pub loop-answered-preserved : goal.loop-answered-preserved
 loop-answered-preserved g c = record {
-  answered = λ begun held past. (rw c.if-not-branch.false at c.in_ok-turn.ensures.turn).turn begun _
+  answered = λ begun held past. (rw c.if-not-branch.false at c.in_ok-answer_line.ensures.turn).turn begun _
       (c.loop-answered.invariant.answered begun held past);
-  time = behind g.D.Disk.at _ _ _ c.loop-answered.invariant.time c.turn.ensures.shows.time;
-  few = c.turn.ensures.turn.few (g.S.Source.at c.args.input.now).left c.loop-answered.invariant.few;
-  going = c.in_ok-turn.ensures.shows.stopped;
-  disks_count = c.in_ok-turn.ensures.shows.disks ∙ c.loop-answered.invariant.disks_count;
-  source_count = c.in_ok-turn.ensures.shows.source ∙ c.loop-answered.invariant.source_count;
-  sink_count = c.in_ok-turn.ensures.shows.sink ∙ c.loop-answered.invariant.sink_count;
+  time = behind g.D.Disk.at _ _ _ c.loop-answered.invariant.time c.answer_line.ensures.shows.time;
+  few = c.answer_line.ensures.turn.few (g.S.Source.at c.args.input.now).left c.loop-answered.invariant.few;
+  going = c.in_ok-answer_line.ensures.shows.stopped;
+  disks_count = c.in_ok-answer_line.ensures.shows.disks ∙ c.loop-answered.invariant.disks_count;
+  source_count = c.in_ok-answer_line.ensures.shows.source ∙ c.loop-answered.invariant.source_count;
+  sink_count = c.in_ok-answer_line.ensures.shows.sink ∙ c.loop-answered.invariant.sink_count;
 }
 
 pub returns-in_err-flush-clause-run : goal.returns-in_err-flush-clause-run
@@ -103,13 +103,13 @@ returns-in-Err-clause-run g c begun held past =
 pub returns-then-not-branch-clause-few : goal.returns-then-not-branch-clause-few
 returns-then-not-branch-clause-few g c =
     few_in_all _ (c.loop-answered.answered + 1) _ _
-    (c.turn.ensures.turn.few (g.S.Source.at c.args.input.now).left c.loop-answered.invariant.few)
+    (c.answer_line.ensures.turn.few (g.S.Source.at c.args.input.now).left c.loop-answered.invariant.few)
     (omega (arith, c.loop-answered-test.true))
 
-pub returns-in_err-turn-clause-few : goal.returns-in_err-turn-clause-few
-returns-in_err-turn-clause-few g c =
+pub returns-in_err-answer_line-clause-few : goal.returns-in_err-answer_line-clause-few
+returns-in_err-answer_line-clause-few g c =
     few_in_all _ (c.loop-answered.answered + 1) _ _
-    (c.turn.ensures.turn.few (g.S.Source.at c.args.input.now).left c.loop-answered.invariant.few)
+    (c.answer_line.ensures.turn.few (g.S.Source.at c.args.input.now).left c.loop-answered.invariant.few)
     (omega (arith, c.loop-answered-test.true))
 
 pub returns-in_err-flush-clause-few : goal.returns-in_err-flush-clause-few
@@ -135,21 +135,21 @@ returns-in-Err-clause-few g c =
     few_behind _ c.loop-answered.answered _ _ c.loop-answered.invariant.few
     (omega (arith, c.loop-answered.auto.answered-end)) [] _ _ failed.0 (omega (arith, c.next_byte.ensures.held))
 
-pub returns-in_err-turn-clause-run : goal.returns-in_err-turn-clause-run
-returns-in_err-turn-clause-run g c begun held past =
-    let halt = c.in_err-turn.field-0.0 in
+pub returns-in_err-answer_line-clause-run : goal.returns-in_err-answer_line-clause-run
+returns-in_err-answer_line-clause-run g c begun held past =
+    let halt = c.in_err-answer_line.field-0.0 in
     subst (λ (end : Result (Unit {0}) Halt). HasCome g.D.Disk.at begun (g.S.Source.at c.args.input.now).left
-    (run_at c.turn.new.self.store c.turn.new.self.reader c.turn.new.self.waiting.items
-    (g.S.Source.at c.turn.new.input).left (g.K.Sink.at c.turn.new.out)) end)
+    (run_at c.answer_line.new.self.store c.answer_line.new.self.reader c.answer_line.new.self.waiting.items
+    (g.S.Source.at c.answer_line.new.input).left (g.K.Sink.at c.answer_line.new.out)) end)
     (sym (handed_on c.from_residual.result halt c.from_residual.ensures.1))
-    (c.in_err-turn.ensures.turn.turn begun _ (c.loop-answered.invariant.answered begun held past))
+    (c.in_err-answer_line.ensures.turn.turn begun _ (c.loop-answered.invariant.answered begun held past))
 
 -- ---- what it shows
 
 pub returns-then-not-branch-clause-shows : goal.returns-then-not-branch-clause-shows
 returns-then-not-branch-clause-shows g c =
     let before = c.loop-answered.invariant in
-    let h = c.in_ok-turn.ensures.shows in
+    let h = c.in_ok-answer_line.ensures.shows in
     record {
       caught_up = λ is. absurd (cc is);
       caught_up_too = λ is. absurd (cc is);
@@ -160,12 +160,12 @@ returns-then-not-branch-clause-shows g c =
       disks = h.disks ∙ before.disks_count;
     }
 
-pub returns-in_err-turn-clause-shows : goal.returns-in_err-turn-clause-shows
-returns-in_err-turn-clause-shows g c =
+pub returns-in_err-answer_line-clause-shows : goal.returns-in_err-answer_line-clause-shows
+returns-in_err-answer_line-clause-shows g c =
     let before = c.loop-answered.invariant in
-    let halt = c.in_err-turn.field-0.0 in
+    let halt = c.in_err-answer_line.field-0.0 in
     let shows = shows_behind g.D.Disk.at _ _ _ _ _ _ _ _ _ _ _ before.time before.disks_count before.source_count
-    before.sink_count c.in_err-turn.ensures.shows in
+    before.sink_count c.in_err-answer_line.ensures.shows in
     shows_halt g.D.Disk.at _ _ _ _ _ _ _ c.from_residual.result halt
     (handed_on c.from_residual.result halt c.from_residual.ensures.1) shows
 

@@ -6,7 +6,7 @@ use Rattle.liq_word_run.proofs.Residual.{handed_on}
 use Rattle.liq_word_run.proofs.Turning.{turn_halts, line_answered, answering_halts, first_line}
 use Rattle.liq_text_lines.specs.Reading.{ReadsFew}
 use Rattle.liq_text_lines.proofs.Readings.{few_line}
-use Rattle.liq_word_run.proofs.run.Run.turn.Goals as goal
+use Rattle.liq_word_run.proofs.run.Run.answer_line.Goals as goal
 
 pub returns-in-Some-clause-turn : goal.returns-in-Some-clause-turn
 returns-in-Some-clause-turn g c = record {
@@ -47,12 +47,12 @@ returns-in_err-answer_query-clause-turn g c = record {
 pub returns-clause-turn : goal.returns-clause-turn
 returns-clause-turn g c = record {
   turn = λ begun told a. let left = (g.S.Source.at c.args.input.now).left in
-      c.turn_at.ensures.turn.turn begun told
+      c.answer_line_at.ensures.turn.turn begun told
       (subst (λ (taken : List ℕ). HasAnswered g.D.Disk.at begun told c.args.answered
       (run_at c.args.self.now.store taken c.args.self.now.waiting.items left (g.K.Sink.at c.args.out.now)))
       (sym (c.in_default.ensures.stays refl)) a);
   few = λ before h. let left = (g.S.Source.at c.args.input.now).left in
-      c.turn_at.ensures.turn.few before
+      c.answer_line_at.ensures.turn.few before
       (subst (λ (taken : List ℕ). ReadsFew before c.args.answered taken left) (sym (c.in_default.ensures.stays refl))
       h);
 }

@@ -9,7 +9,7 @@ use Rattle.liq_word_exit.specs.Outside.{Outside}
 use Rattle.liq_serve.specs.Top.{Ends}
 use Rattle.liq_serve.specs.declared.top.Ended.{Ended}
 use Rattle.liq_serve.proofs.Words.{is_read, unread_ends}
-use Rattle.liq_serve.proofs.top.answered.Goals as goal
+use Rattle.liq_serve.proofs.top.answer_words.Goals as goal
 
 pub returns-in-Ok : goal.returns-in-Ok
 returns-in-Ok g c =

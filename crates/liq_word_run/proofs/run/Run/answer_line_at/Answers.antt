@@ -4,7 +4,7 @@ use Rattle.liq_word_run.specs.Turns.{HasAnswered, run_at}
 use Rattle.liq_word_run.proofs.Passing.{unshown_past}
 use Rattle.liq_word_run.proofs.Residual.{handed_on}
 use Rattle.liq_word_run.proofs.Turning.{turn_halts, answered_on, answered_cut, reading_halts, reading_ends, line_answered, last_answered, answering_halts, first_line, last_line}
-use Rattle.liq_word_run.proofs.run.Run.turn_at.Goals as goal
+use Rattle.liq_word_run.proofs.run.Run.answer_line_at.Goals as goal
 use Rattle.liq_text_lines.specs.Reading.{ReadsFew}
 use Rattle.liq_text_lines.proofs.Readings.{few_line, few_still}
 
