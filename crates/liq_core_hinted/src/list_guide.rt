@@ -10,7 +10,7 @@ use liq_types::{Hint, ListChange, NoMemory};
 use std::alloc::Global;
 
 /// Room for so many changes is kept from command to command. Few commands make more.
-const KEPT: usize = 64;
+const ROOM_KEPT: usize = 64;
 
 /// The guide of a protocol's list, which is ahead of it while room is reserved for a command.
 #[derive(Drop)]
@@ -100,7 +100,7 @@ impl ListGuide {
         ensures stale { self.new.is_stale ≡ not is_followed }
     {
         self.is_stale = !is_followed;
-        if self.ahead.capacity() <= KEPT {
+        if self.ahead.capacity() <= ROOM_KEPT {
             self.ahead.clear();
         } else {
             self.ahead = Vec::new(self.alloc);

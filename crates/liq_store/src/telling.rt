@@ -7,7 +7,7 @@ use std::alloc::Global;
 
 // Room for so many changes is kept from call to call. Few calls make more, and an opening tells the
 // whole list.
-const KEPT: usize = 64;
+const ROOM_KEPT: usize = 64;
 
 // Notes what a command changes, for which there is room.
 pub fn note(changes: &mut Vec<ListChange>, more: &[ListChange])
@@ -23,7 +23,7 @@ pub fn note(changes: &mut Vec<ListChange>, more: &[ListChange])
 pub fn clear(alloc: Global, changes: &mut Vec<ListChange>)
     ensures { changes.new.items ≡ [] }
 {
-    if changes.capacity() <= KEPT {
+    if changes.capacity() <= ROOM_KEPT {
         changes.clear();
     } else {
         *changes = Vec::new(alloc);
