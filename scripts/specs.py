@@ -1,4 +1,4 @@
-"""What scripts/reader, spec-pages and promise-pages share: the definitions of crates/*/specs, the types,
+"""What scripts/spec-size, spec-pages and promise-pages share: the definitions of crates/*/specs, the types,
 traits and constants of crates/*/src that contracts name, and on which of them one rests.
 
 It goes by the text: a name is what the `use` lines of its file say, unless it is bound where it

@@ -1,4 +1,4 @@
-/* Runs a program, notes each call that it makes of the system, and makes some of them fail. For scripts/faults and scripts/power.
+/* Runs a program, notes each call that it makes of the system, and makes some of them fail. For scripts/try-faults and scripts/try-power-loss.
 
    usage: traced LOG SECONDS [NUMBER:WAY:VALUE:TIMES:BYTES]... -- PROGRAM [WORD]...
 

@@ -1,5 +1,5 @@
-"""What scripts/faults, power, kill and refused-memory share: the program, lines of a market, what the model of the rules answers to
-them, and what the next run must find behind some of them."""
+"""What scripts/try-faults, try-power-loss, try-kills and try-refused-memory share: the program, lines of a market, what the model of the
+rules answers to them, and what the next run must find behind some of them."""
 
 import os
 import random

@@ -1,6 +1,6 @@
 /* Makes a wrong program of liq: put in front of its C library, it lets calls do something else than what they are asked for. What
-   WRONG says decides which. With it a trial is seen to fail. For the --self-test of scripts/try-files, faults, power, kill
-   and refused-memory.
+   WRONG says decides which. With it a trial is seen to fail. For the --self-test of scripts/try-files, try-faults,
+   try-power-loss, try-kills and try-refused-memory.
 
    no-datasync       fdatasync does nothing
    half-datasync     every second fdatasync does nothing

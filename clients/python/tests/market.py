@@ -96,14 +96,14 @@ def status_of(main: Callable[[List[str]], int], *words: object) -> int:
 
 
 @functools.lru_cache(maxsize=1)
-def forge() -> Callable[[str, List[str]], Any]:
-    """What makes both disks, of scripts/forge: a start of Python for each would take longer than all that it does."""
-    return runpy.run_path(str(TOP / "scripts/forge"))["disks_after"]
+def disk_maker() -> Callable[[str, List[str]], Any]:
+    """What makes both disks, of scripts/make-disks: a start of Python for each would take longer than all that it does."""
+    return runpy.run_path(str(TOP / "scripts/make-disks"))["disks_after"]
 
 
 def forged(versions: str, lines: List[str]) -> Dict[str, bytes]:
-    """Both files after these commands, as scripts/forge makes them."""
-    return {side: bytes(data) for side, data in zip(SIDES, forge()(versions, lines))}
+    """Both files after these commands, as scripts/make-disks makes them."""
+    return {side: bytes(data) for side, data in zip(SIDES, disk_maker()(versions, lines))}
 
 
 def document(name: str) -> str:

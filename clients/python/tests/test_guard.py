@@ -1,4 +1,4 @@
-"""What the guard says of files that scripts/forge makes, which knows the formats alone, and of those of the program."""
+"""What the guard says of files that scripts/make-disks makes, which knows the formats alone, and of those of the program."""
 import contextlib
 import fcntl
 import io

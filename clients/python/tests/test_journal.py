@@ -1,4 +1,4 @@
-"""Journals as bytes: made by scripts/forge, which knows the formats alone, and by the program."""
+"""Journals as bytes: made by scripts/make-disks, which knows the formats alone, and by the program."""
 import os
 import subprocess
 import sys
@@ -73,7 +73,7 @@ class Bounded(InFolder):
 
 
 class OfForge(InFolder):
-    """Cases over files that scripts/forge makes."""
+    """Cases over files that scripts/make-disks makes."""
 
     def forge(self, versions: str, *lines: str) -> Journal:
         for side, data in forged(versions, list(lines)).items():
@@ -86,7 +86,7 @@ class Forged(OfForge):
 
     def test_the_script_prints_what_it_makes(self) -> None:
         lines = [*LINES, "3 1 rotate", "3 2 fund 3 1"]
-        script = [sys.executable, TOP / "scripts/forge", "12", *lines]
+        script = [sys.executable, TOP / "scripts/make-disks", "12", *lines]
         made = subprocess.run(script, stdout=subprocess.PIPE, check=True, text=True).stdout
         self.assertEqual(
             dict(line.split(" ") for line in made.splitlines()),
