@@ -1,4 +1,4 @@
-//! Journals of the first generation, of both versions: the left disks that scripts/forge prints
+//! Journals of the first generation, of both versions: left disks that scripts/make-disks prints
 //! after these commands.
 
 /// `1 1 fund 1 10000000000`, `1 2 price 250000000` and `2 1 advance 60`, by version 1.
