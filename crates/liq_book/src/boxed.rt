@@ -48,7 +48,7 @@ impl<D: Disk, O: Origin> BoxedBook<D, O> {
         }
     }
 
-    /// The book.
+    /// Takes the book out of its box.
     pub(crate) fn into_book(self) -> Book<D, O>
         ensures { result ≡ self.boxed.value }
     {

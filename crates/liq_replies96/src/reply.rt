@@ -26,7 +26,7 @@ pub struct Reply96 {
     pub which: u8,
     /// How many numbers there are: none where there is no trove or deposit.
     pub count: u8,
-    /// Noughts.
+    /// Always 0.
     pub zero: [u8; 5],
     /// The numbers, and noughts behind them. A number is one word; in a refusal it is two, the low
     /// one first.

@@ -55,8 +55,9 @@ module _
       ⊎ (Only l (LeftNow disk_at before.left) × Only r (LeftNow disk_at before.right)
       × LeftNow disk_at after.left a × LeftNow disk_at after.right b)
 
-  -- Two calls, both of `run`. The second begins where the first one's requests lead, and what it
-  -- may have left behind them; and from there its own lead on.
+  -- Two calls, both of `run`. The second begins in the state to which the first one's requests
+  -- lead, or one command further, which the first may have left unfinished. Its own requests lead on
+  -- from there.
   pub record FollowOn
       (before middle again after : Outside S K D) (status later : ℕ) (l r a b : List ℕ)
       (start : State) : Type 0 where

@@ -47,7 +47,7 @@ impl Model for Scripts {
 }
 
 impl Scripts {
-    /// These scripts.
+    /// Eight scripts, one a session, in order.
     pub(crate) fn of(list: Vec<Script>) -> Scripts
         requires { vec_len list ≡ SESSIONS }
         ensures { result ≡ list.items }
@@ -55,7 +55,7 @@ impl Scripts {
         Scripts { list }
     }
 
-    /// All of them.
+    /// The scripts as a list, by session.
     pub(crate) fn into_list(self) -> Vec<Script>
         ensures { result.items ≡ self }
     {

@@ -16,12 +16,12 @@ abbrev pub ReadCause : {T : Type 0} → Result T Halt → ℕ → ℕ → Type 0
 ReadCause (Err ReadFault) before after = (before ≤ after) × Rose before after
 ReadCause _ before after = after ≡ before
 
--- the sink's count, likewise
+-- the sink's count: it rose where writing met a fault, and else it stays
 abbrev pub WriteCause : {T : Type 0} → Result T Halt → ℕ → ℕ → Type 0
 WriteCause (Err WriteFault) before after = (before ≤ after) × Rose before after
 WriteCause _ before after = after ≡ before
 
--- The counts of both disks, likewise: one of them rose.
+-- The counts of both disks: one rose where the end is a disk's fault, and else both stay.
 abbrev pub DiskCause : {T : Type 0} → Result T Halt → Faults → Faults → Type 0
 DiskCause (Err DiskFault) before after = OneRose before after
 DiskCause _ before after = after ≡ before

@@ -225,7 +225,7 @@ abbrev pub WriteCause : Finish → ℕ → ℕ → Type 0
 WriteCause finish.WriteFault before after = (before ≤ after) × Rose before after
 WriteCause _ before after = after ≡ before
 
--- The counts of both disks, likewise: one of them rose.
+-- The counts of both disks: one rose where the end is a disk's fault, and else both stay.
 abbrev pub DiskCause : Finish → Faults → Faults → Type 0
 DiskCause finish.DiskFault before after = OneRose before after
 DiskCause (finish.NotOpened why_not) before after = CausesWhy why_not before after

@@ -1,4 +1,4 @@
-//! All scripts are served.
+//! Serves all scripts at once, a thread a session.
 
 ghost use Rattle.std.specs.Prelude.{◌≡◌, ◌≤◌, All, [], length};
 ghost use Rattle.liq_types.specs.State.{State};

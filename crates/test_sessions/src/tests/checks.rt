@@ -2,7 +2,7 @@
 
 use std::process::Abort;
 
-/// Where nothing is found.
+/// What a search gives in the place of an index where it finds nothing.
 pub const NOWHERE: u64 = u64::MAX;
 
 /// Stops the test where the number is not the one that is wanted.
