@@ -19,10 +19,13 @@ use Rattle.liq_troves.specs.StakeSums.{entire_of, sums_words}
 use Rattle.liq_borrow.specs.declared.change.Change.{Change}
 use Rattle.liq_borrow.specs.declared.change.Plan.{Plan}
 use Rattle.liq_borrow.specs.Borrowing.{open_plan, adjust_plan, opening_terms, adjusting_terms}
+use Rattle.liq_core.specs.declared.effects.Effect.TheVariants as effects
+use Rattle.liq_core.specs.declared.effects.Move.{Move}
+use Rattle.liq_core.specs.declared.effects.Move.TheVariants as moves
+use Rattle.liq_core.specs.declared.kinds.TheConstants.{OPEN, ADJUST}
 use Rattle.liq_core.specs.declared.told.ListChanges.TheVariants as changes
 use Rattle.liq_core.specs.declared.told.PoolEvents.TheVariants as events
 use Rattle.liq_core.specs.declared.turns.Forecast.{Forecast}
-use Rattle.liq_core.specs.declared.turns.Terms.TheVariants as terms
 use Rattle.liq_rule_step.specs.Borrowing.{with_fee}
 use Rattle.liq_core.specs.Plan.{IsForecast}
 use Rattle.liq_rule_step.specs.Rules.{rules}
@@ -80,25 +83,31 @@ module _ (s : State) (account : ℕ) (m : Market) (w : Wallet) (market_is : m �
 
 -- ---- what is planned
 
-abbrev pub trove_forecast : ℕ → List ℕ → Plan → ListChange → Forecast
-trove_forecast kind values plan change =
+-- of a trove that the plan changes
+abbrev pub trove_forecast : ℕ → List ℕ → Move → ListChange → Forecast
+trove_forecast kind values moved change =
     record {
       done = record { kind = kind; values = values };
-      terms = terms.Trove plan;
+      effect = effects.Move moved;
       events = events.Nothing;
       changes = changes.One (change ∷ []);
     }
 
-pub open_forecast : (s : State) (account coll borrow bound : ℕ) (hint : HintWords) (plan : Plan) (change : ListChange)
+pub open_forecast : (s : State) (account coll borrow bound : ℕ) (words : HintWords) (plan : Plan) (change : ListChange)
     → plan ≡ opening_terms (market_of s) coll borrow → change ≡ put_for s account plan
-    → IsForecast s (Open account coll borrow bound hint) (trove_forecast 6 (plan.debt ∷ plan.fee ∷ 0 ∷ 0 ∷ 0 ∷ 0
-    ∷ []) plan change)
-open_forecast s account coll borrow bound hint plan change is put_is =
+    → IsForecast s (Open account coll borrow bound words) (trove_forecast OPEN (plan.debt ∷ plan.fee ∷ 0 ∷ 0 ∷ 0 ∷ 0
+    ∷ []) (moves.Open account borrow plan words) change)
+open_forecast s account coll borrow bound words plan change is put_is =
     let planned = opening_terms (market_of s) coll borrow in
     let lent = credited (charged (with_fee s planned) account coll 0) account 0 borrow in
+    let coll_is : coll ≡ plan.coll = sym (ap (λ (p : Plan). p.coll) is) in
     record {
-      done = ap (λ (p : Plan). record { kind = 6; values = p.debt ∷ p.fee ∷ 0 ∷ 0 ∷ 0 ∷ 0 ∷ [] }) is;
-      terms = is;
+      done = ap (λ (p : Plan). record { kind = OPEN; values = p.debt ∷ p.fee ∷ 0 ∷ 0 ∷ 0 ∷ 0 ∷ [] }) is;
+      effect = (
+        bound,
+        ap (λ n. Open account n borrow bound words) coll_is,
+        is ∙ ap (λ n. opening_terms (market_of s) n borrow) coll_is,
+      );
       events = refl;
       changes =
           ap (λ (c : ListChange). c ∷ [])
@@ -106,18 +115,19 @@ open_forecast s account coll borrow bound hint plan change is put_is =
           coll planned.debt);
     }
 
-pub adjust_forecast : (s : State) (account : ℕ) (change : Change) (bound : ℕ) (hint : HintWords) (plan : Plan)
+pub adjust_forecast : (s : State) (account : ℕ) (change : Change) (bound : ℕ) (words : HintWords) (plan : Plan)
     (moved : ListChange) → plan ≡ adjusting_terms (market_of s) (or_nothing (entire_of s account)) change
     → moved ≡ put_for s account plan
-    → IsForecast s (Adjust account change.coll_in change.coll_out change.borrow change.repay bound hint)
-    (trove_forecast 7 (plan.coll ∷ plan.debt ∷ plan.fee ∷ 0 ∷ 0 ∷ 0 ∷ []) plan moved)
-adjust_forecast s account change bound hint plan moved is put_is =
+    → IsForecast s (Adjust account change.coll_in change.coll_out change.borrow change.repay bound words)
+    (trove_forecast ADJUST (plan.coll ∷ plan.debt ∷ plan.fee ∷ 0 ∷ 0 ∷ 0 ∷ []) (moves.Adjust account change plan words)
+    moved)
+adjust_forecast s account change bound words plan moved is put_is =
     let planned = adjusting_terms (market_of s) (or_nothing (entire_of s account)) change in
     let paid = credited (charged (with_fee s planned) account change.coll_in change.repay) account change.coll_out
     change.borrow in
     record {
-      done = ap (λ (p : Plan). record { kind = 7; values = p.coll ∷ p.debt ∷ p.fee ∷ 0 ∷ 0 ∷ 0 ∷ [] }) is;
-      terms = is;
+      done = ap (λ (p : Plan). record { kind = ADJUST; values = p.coll ∷ p.debt ∷ p.fee ∷ 0 ∷ 0 ∷ 0 ∷ [] }) is;
+      effect = (bound, refl, is);
       events = refl;
       changes = ap (λ (c : ListChange). c ∷ []) (put_is ∙ ap (put_for s account) is
           ∙ set_told paid account planned.coll planned.debt);

@@ -1,6 +1,5 @@
 -- The accounts of the list from its end on, one after the other, as they are written into places.
 use Rattle.std.proofs.Common.{◌≡◌, ℕ, ℤ, zero, suc, ◌+◌, ◌≤◌, ◌<◌, true, false, cond, List, [], ◌∷◌, ◌++◌, length, map, take, drop, get_or, refl, sym, ap, ◌∙◌, subst, Some, None, Option, arith}
-use Rattle.std.proofs.Math.ListN.{drop_of_length-le}
 use Rattle.std.proofs.Math.Seq.{paste, take_all}
 use Rattle.std.specs.Prelude.{◌==◌, fold, reverse, IsSome, is_some}
 use Rattle.std.proofs.lemmas.Bool.{ne_eqb, eq-eqb}

@@ -1,5 +1,6 @@
 mod AccountsFirst
 pub mod Alike
+mod Answered
 mod Beginning
 mod Cutting
 mod Depositing

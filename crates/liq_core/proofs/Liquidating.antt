@@ -1,6 +1,6 @@
 -- What liquidations make of a protocol, with their command counted.
 use Rattle.std.proofs.Common.{◌≡◌, ℕ, ◌+◌, ◌≤◌, ◌<◌, Bool, true, false, cond, List, [], ◌∷◌, refl, ap, sym, ◌∙◌, subst, arith, inl, inr, length, Some, None, Option}
-use Rattle.std.specs.Prelude.{◌==◌, ◌⊎◌, map, Result, Ok, Err, if◌then◌else◌}
+use Rattle.std.specs.Prelude.{◌==◌, Result, Ok, Err, if◌then◌else◌}
 use Rattle.std.specs.List.{AllByRecursion, Contains}
 use Rattle.liq_types.specs.declared.amounts.TheConstants.{ACCOUNTS, LOWEST_MOST}
 use Rattle.liq_types.specs.declared.figures.Client.{Client}
@@ -36,17 +36,19 @@ use Rattle.liq_liquidation.specs.declared.one.One.{One}
 use Rattle.liq_liquidation.specs.declared.one.Victim.{Victim}
 use Rattle.liq_liquidation.specs.Lowest.{victim_by}
 use Rattle.liq_liquidation.specs.One.{liquidated, one, rewarded}
-use Rattle.liq_core.specs.declared.turns.Terms.{Terms}
+use Rattle.liq_core.specs.declared.effects.Effect.{Effect}
+use Rattle.liq_core.specs.declared.effects.Effect.TheVariants as effects
+use Rattle.liq_core.specs.declared.effects.Victims.{Victims}
 use Rattle.liq_core.specs.declared.engine.Protocol.TheInside.{Inside}
-use Rattle.liq_core.specs.Core.{Core, IsWithin, Room, StandsFor, state_of}
+use Rattle.liq_core.specs.Core.{Core, IsWithin, StandsFor, state_of}
+use Rattle.liq_core.specs.Effects.{IsEffect, IsStruck, room_of, victims_in}
 use Rattle.liq_rule_step.specs.Image.{image}
 use Rattle.liq_rule_step.specs.Liquidation.{all_liquidated, listed}
-use Rattle.liq_core.specs.Plan.{Plan, IsPlannedOn, IsSoundPlan, HasRoom, room_of_call}
+use Rattle.liq_core.specs.Plan.{Plan, IsPlannedOn, IsSoundPlan, HasRoom}
 use Rattle.liq_rule_step.specs.Rules.{effect, done_of, rules}
 use Rattle.liq_core.specs.Sound.{IsSound, core_of}
 use Rattle.liq_rule_sound.specs.SoundState.{IsSoundState}
 use Rattle.liq_rule_step.specs.Step.{Allowed, after, ruling}
-use Rattle.liq_core.specs.Terms.{AreTerms, victims_in}
 use Rattle.liq_rule_step.specs.Verbs.{accounts, rotates}
 use Rattle.liq_core_lowest.specs.Victims.{AreKept, AreVictims}
 use Rattle.liq_rule_step.proofs.Allowed.{all-records, allowed_rules}
@@ -77,18 +79,12 @@ listed_victims : (s : State) (liquidator account : ℕ) (made : Result One Refus
 listed_victims s liquidator account (Ok made) is = (is, tt)
 listed_victims s liquidator account (Err refusal) is = tt
 
--- the calls of a liquidator
-abbrev pub LiquidatesBy : Call → ℕ → Type 0
-LiquidatesBy call liquidator = ((account : ℕ) × (call ≡ Liquidate liquidator account))
-    ⊎ ((count : ℕ) × (call ≡ LiquidateLowest liquidator count))
-
-pub strike_planned : (s : State) → IsSoundState s → (call : Call) (terms : Terms) (liquidator : ℕ)
-    → LiquidatesBy call liquidator → AllByRecursion (λ a. a < ACCOUNTS) (accounts call) → first_refusal (rules s call)
-    ≡ None → AreTerms s call terms → IsStrike s call liquidator (victims_in terms)
-strike_planned s h call terms liquidator (inl q) range passed are =
-    subst (λ (k : Call). IsStrike s k liquidator (victims_in terms)) (sym q.1)
-    (subst (λ (vs : List Victim). IsStrike s (Liquidate liquidator q.0) liquidator vs)
-    (sym (subst (λ (k : Call). AreTerms s k terms) q.1 are))
+pub strike_planned : (s : State) → IsSoundState s → (call : Call) (liquidator : ℕ) (vs : List Victim)
+    → IsStruck s call liquidator vs → AllByRecursion (λ a. a < ACCOUNTS) (accounts call) → first_refusal (rules s call)
+    ≡ None → IsStrike s call liquidator vs
+strike_planned s h call liquidator vs (inl q) range passed =
+    subst (λ (k : Call). IsStrike s k liquidator vs) (sym q.1)
+    (subst (λ (us : List Victim). IsStrike s (Liquidate liquidator q.0) liquidator us) (sym q.2)
     (let few = listed_count q.0 (one s q.0) in
     record {
       effect_is = refl;
@@ -97,13 +93,12 @@ strike_planned s h call terms liquidator (inl q) range passed are =
       range = (subst (λ (k : Call). AllByRecursion (λ a. a < ACCOUNTS) (accounts k)) q.1 range).0;
       stays = refl;
     }))
-strike_planned s h call terms liquidator (inr q) range passed are =
+strike_planned s h call liquidator vs (inr q) range passed =
     let within = (subst (λ (k : Call). AllByRecursion (λ a. a < ACCOUNTS) (accounts k)) q.1 range).0 in
     let most = lowest_within s liquidator q.0 (subst (λ (k : Call). first_refusal (rules s k) ≡ None) q.1 passed) in
     let few = lowest_count q.0 s in
-    subst (λ (k : Call). IsStrike s k liquidator (victims_in terms)) (sym q.1)
-    (subst (λ (vs : List Victim). IsStrike s (LiquidateLowest liquidator q.0) liquidator vs)
-    (sym (subst (λ (k : Call). AreTerms s k terms) q.1 are))
+    subst (λ (k : Call). IsStrike s k liquidator vs) (sym q.1)
+    (subst (λ (us : List Victim). IsStrike s (LiquidateLowest liquidator q.0) liquidator us) (sym q.2)
     (record {
       effect_is = refl;
       victims = lowest_victims q.0 s (finds s (sound_facts s h)) liquidator within;
@@ -111,24 +106,6 @@ strike_planned s h call terms liquidator (inr q) range passed are =
       range = within;
       stays = refl;
     }))
-
--- room for what liquidations write
-abbrev pub room_of_victims : ℕ → List Victim → Room
-room_of_victims liquidator vs =
-    record {
-      wallets = liquidator ∷ [];
-      troves = [];
-      surplus = map (λ (v : Victim). v.account) vs;
-      deposits = [];
-      clients = [];
-      list = 0;
-      finished = length vs;
-    }
-
-pub room_liquidating : (call : Call) (liquidator : ℕ) (terms : Terms) → LiquidatesBy call liquidator
-    → room_of_call call terms ≡ room_of_victims liquidator (victims_in terms)
-room_liquidating call liquidator terms (inl q) = ap (λ (k : Call). room_of_call k terms) q.1
-room_liquidating call liquidator terms (inr q) = ap (λ (k : Call). room_of_call k terms) q.1
 
 -- what a planned command liquidates
 pub record IsLiquidation (old : Core) (command : Command) (done : Done) (liquidator : ℕ) (vs : List Victim) :
@@ -141,20 +118,22 @@ pub record IsLiquidation (old : Core) (command : Command) (done : Done) (liquida
   pub finished : length vs ≤ old.room.finished
 
 pub liquidation_planned : (old : Core) → IsSoundImage old.image old.records → (plan : Plan) → IsPlannedOn old plan
-    → IsSoundPlan plan → HasRoom old plan → (liquidator : ℕ) → LiquidatesBy plan.command.call liquidator
-    → IsLiquidation old plan.command plan.done liquidator (victims_in plan.terms)
-liquidation_planned old sound plan planned fit room liquidator is =
+    → IsSoundPlan plan → HasRoom old plan → (liquidator : ℕ) (struck : Victims)
+    → plan.effect ≡ effects.Liquidate liquidator struck
+    → IsLiquidation old plan.command plan.done liquidator (victims_in struck)
+liquidation_planned old sound plan planned fit room liquidator struck is =
     let s = state_of old in
     let p = planned s (sound_stands old sound) in
-    let needs = subst (λ (needed : Room). IsWithin (record needed { clients = plan.command.client ∷ [] }) old.room)
-    (room_liquidating plan.command.call liquidator plan.terms is) room in
+    let needs = subst (λ (e : Effect). IsWithin (record (room_of e) { clients = plan.command.client ∷ [] }) old.room) is
+    room in
     record {
       allowed = p.allowed;
       done_is = p.done;
-      strike = strike_planned s (started_with old.image old.records sound) plan.command.call plan.terms liquidator is
-          fit.accounts (allowed_rules s plan.command p.allowed) p.terms;
+      strike = strike_planned s (started_with old.image old.records sound) plan.command.call liquidator
+          (victims_in struck) (subst (IsEffect s plan.command.call) is p.effect) fit.accounts
+          (allowed_rules s plan.command p.allowed);
       wallet = needs.wallets.0;
-      owners = among_owners old.room.surplus (victims_in plan.terms) needs.surplus;
+      owners = among_owners old.room.surplus (victims_in struck) needs.surplus;
       finished = needs.finished;
     }
 

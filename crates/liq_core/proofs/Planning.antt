@@ -1,5 +1,5 @@
 -- What the plans of liquidations are told of a protocol.
-use Rattle.std.proofs.Common.{◌≡◌, ℕ, ◌+◌, ◌^◌, ◌≤◌, ◌<◌, refl, ap, sym, ◌∙◌, subst, arith, List, [], ◌∷◌, length, Some, Option}
+use Rattle.std.proofs.Common.{◌≡◌, ℕ, ◌+◌, ◌^◌, ◌≤◌, ◌<◌, refl, ap, sym, ◌∙◌, subst, arith, inl, inr, List, [], ◌∷◌, length, Some, Option}
 use Rattle.std.specs.Prelude.{IfSome, Result, Ok, sum_by}
 use Rattle.liq_types.specs.declared.amounts.TheConstants.{LOWEST_MOST}
 use Rattle.liq_types.specs.declared.replies.Done.{Done}
@@ -35,7 +35,10 @@ use Rattle.liq_core_lowest.specs.declared.course.Course.{Course}
 use Rattle.liq_core.specs.declared.turns.Forecast.{Forecast}
 use Rattle.liq_rule_step.specs.Liquidation.{listed, lowest_values, offset_events, one_values, victim_changes}
 use Rattle.liq_rule_step.specs.Rules.{six}
-use Rattle.liq_core.specs.Terms.{victims_in}
+use Rattle.liq_core.specs.declared.effects.Effect.TheVariants as effects
+use Rattle.liq_core.specs.declared.effects.Victims.{Victims}
+use Rattle.liq_core.specs.declared.kinds.TheConstants.{LIQUIDATE}
+use Rattle.liq_core.specs.Effects.{IsEffect, victims_in}
 use Rattle.liq_core.specs.Told.{events_in, changes_in}
 use Rattle.liq_core.specs.Turn.{IsRuled}
 use Rattle.liq_rule_sound.specs.SoundState.{IsSoundState}
@@ -141,22 +144,27 @@ module _ (p : Inside) (sound : IsSound p) where
 -- the reply to a liquidation
 abbrev pub one_done : One → Done
 one_done made = record {
-  kind = 12;
+  kind = LIQUIDATE;
   values = made.gas ∷ made.offset_debt ∷ made.offset_coll ∷ made.spread_debt
       ∷ made.spread_coll ∷ made.surplus ∷ [];
 }
 
 pub liquidate_ruled : (s : State) (liquidator account : ℕ) (made : One) → one s account ≡ Ok made
-    → (forecast : Forecast)
-    → forecast.done ≡ one_done made → victims_in forecast.terms ≡ record { account = account; one = made } ∷ []
+    → (forecast : Forecast) (struck : Victims) → forecast.done ≡ one_done made
+    → forecast.effect ≡ effects.Liquidate liquidator struck
+    → victims_in struck ≡ record { account = account; one = made } ∷ []
     → events_in forecast.events ≡ offset_events s (record { account = account; one = made } ∷ [])
     → changes_in forecast.changes ≡ victim_changes s (record { account = account; one = made } ∷ [])
     → IsRuled s (Liquidate liquidator account) (Ok forecast)
-liquidate_ruled s liquidator account made is forecast done terms events changes = (
+liquidate_ruled s liquidator account made is forecast struck done effect victims events changes = (
   ap (λ (r : Result One Refusal). first_refusal (refusal_of r)) is,
   record {
-    done = done ∙ sym (ap (λ (r : Result One Refusal). record { kind = 12; values = six (one_values r) }) is);
-    terms = terms ∙ sym (ap (λ (r : Result One Refusal). listed (victim_by account r)) is);
+    done = done ∙ sym (ap (λ (r : Result One Refusal). record { kind = LIQUIDATE; values = six (one_values r) }) is);
+    effect = subst (IsEffect s (Liquidate liquidator account)) (sym effect) (inl (
+      account,
+      refl,
+      victims ∙ sym (ap (λ (r : Result One Refusal). listed (victim_by account r)) is),
+    ));
     events = events ∙ sym (ap (λ (r : Result One Refusal). offset_events s (listed (victim_by account r))) is);
     changes = changes ∙ sym (ap (λ (r : Result One Refusal). victim_changes s (listed (victim_by account r))) is);
   },
@@ -187,14 +195,19 @@ lowest_fits s h count vs are =
     })
 
 pub lowest_ruled : (s : State) (liquidator count : ℕ) (vs : List Victim) → AreLowest s count vs → (forecast : Forecast)
-    → forecast.done ≡ record { kind = 13; values = six (lowest_values vs) } → victims_in forecast.terms ≡ vs
+    (struck : Victims) → forecast.done ≡ record { kind = 13; values = six (lowest_values vs) }
+    → forecast.effect ≡ effects.Liquidate liquidator struck → victims_in struck ≡ vs
     → events_in forecast.events ≡ offset_events s vs → changes_in forecast.changes ≡ victim_changes s vs
     → IsRuled s (LiquidateLowest liquidator count) (Ok forecast)
-lowest_ruled s liquidator count vs are forecast done terms events changes = (
+lowest_ruled s liquidator count vs are forecast struck done effect victims events changes = (
   are.0,
   record {
     done = done ∙ sym (ap (λ (l : List Victim). record { kind = 13; values = six (lowest_values l) }) are.1);
-    terms = terms ∙ sym are.1;
+    effect = subst (IsEffect s (LiquidateLowest liquidator count)) (sym effect) (inr (
+      count,
+      refl,
+      victims ∙ sym are.1,
+    ));
     events = events ∙ sym (ap (λ (l : List Victim). offset_events s l) are.1);
     changes = changes ∙ sym (ap (λ (l : List Victim). victim_changes s l) are.1);
   },

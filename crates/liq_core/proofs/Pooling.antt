@@ -26,7 +26,9 @@ use Rattle.liq_borrow.specs.Borrowing.{gain_plan, gaining_terms, gain_rules}
 use Rattle.liq_core.specs.declared.engine.Protocol.TheInside.{Inside}
 use Rattle.liq_core.specs.declared.told.ListChanges.TheVariants as changes
 use Rattle.liq_core.specs.declared.told.PoolEvents.TheVariants as events
-use Rattle.liq_core.specs.declared.turns.Terms.TheVariants as terms
+use Rattle.liq_core.specs.declared.effects.Effect.TheVariants as effects
+use Rattle.liq_core.specs.declared.effects.Move.TheVariants as moves
+use Rattle.liq_core.specs.declared.kinds.TheConstants.{GAIN_TO_TROVE}
 use Rattle.liq_core.specs.Core.{state_of}
 use Rattle.liq_core.specs.Plan.{IsForecast}
 use Rattle.liq_rule_step.specs.Pool.{trove_under}
@@ -134,11 +136,11 @@ module _ (s : State) (account : ℕ) (hint : HintWords) where
       (gain_of s account) → change ≡ put_for s account plan
       → IsForecast s (GainToTrove account hint) (record {
         done = record {
-          kind = 11;
+          kind = GAIN_TO_TROVE;
           values = gain ∷ plan.coll ∷ 0 ∷ 0
               ∷ 0 ∷ 0 ∷ [];
         };
-        terms = terms.Trove plan;
+        effect = effects.Move (moves.GainToTrove account plan hint);
         events = events.One (Own account 0 0 gain balance ∷ []);
         changes = changes.One (change ∷ []);
       })
@@ -147,9 +149,12 @@ module _ (s : State) (account : ℕ) (hint : HintWords) where
       let left : balance ≡ amount_after s account 0 0 = omega (arith, balance_is) in
       record {
         done =
-            ap (λ n. record { kind = 11; values = n ∷ plan.coll ∷ 0 ∷ 0 ∷ 0 ∷ 0 ∷ [] }) gain_is
-            ∙ ap (λ (x : Plan). record { kind = 11; values = gain_of s account ∷ x.coll ∷ 0 ∷ 0 ∷ 0 ∷ 0 ∷ [] }) is;
-        terms = is;
+            ap (λ n. record { kind = GAIN_TO_TROVE; values = n ∷ plan.coll ∷ 0 ∷ 0 ∷ 0 ∷ 0 ∷ [] }) gain_is
+            ∙ ap (λ (x : Plan). record {
+              kind = GAIN_TO_TROVE;
+              values = gain_of s account ∷ x.coll ∷ 0 ∷ 0 ∷ 0 ∷ 0 ∷ [];
+            }) is;
+        effect = (refl, is);
         events =
             ap (λ n. Own account 0 0 n balance ∷ []) gain_is
             ∙ ap (λ n. Own account 0 0 (gain_of s account) n ∷ []) left;

@@ -1,5 +1,5 @@
 -- Room: of one protocol within that of another, and of what a planned command writes.
-use Rattle.std.proofs.Common.{◌≡◌, ℕ, zero, suc, ◌<◌, ◌≤◌, Bool, true, false, cond, List, [], ◌∷◌, length, refl, subst, arith}
+use Rattle.std.proofs.Common.{◌≡◌, ℕ, zero, suc, ◌<◌, ◌≤◌, Bool, true, false, cond, List, [], ◌∷◌, length, refl, sym, subst, arith}
 use Rattle.std.specs.Prelude.{IsTrue, OnOk, Result, Ok, Err, filter, map, slice_index_or}
 use Rattle.std.specs.List.{AllByRecursion, Contains}
 use Rattle.liq_tables.specs.WithRoom.{KeepsRoom, WithRoom}
@@ -9,7 +9,11 @@ use Rattle.liq_redemption.specs.Given.{HasRoomToClose}
 use Rattle.liq_core.specs.declared.engine.Protocol.TheInside.{Inside}
 use Rattle.liq_core.specs.Core.{AreAmong, Core, IsWithin, Room}
 use Rattle.liq_core.specs.Sound.{core_of}
-use Rattle.liq_core.specs.Terms.{closed}
+use Rattle.liq_core.specs.declared.effects.Effect.{Effect}
+use Rattle.liq_core.specs.declared.effects.Effect.TheVariants as effects
+use Rattle.liq_core.specs.declared.effects.Move.{Move}
+use Rattle.liq_core.specs.declared.effects.Move.TheVariants as moves
+use Rattle.liq_core.specs.Effects.{closed, room_of, room_to_move}
 
 pub on_ok : {X Y : Type 0} (r : Result X Y) {P Q : Type 0} → (P → Q) → OnOk r P → OnOk r Q
 on_ok (Ok x) f h = f h
@@ -134,15 +138,24 @@ with_client needed room client h there =
       finished = h.finished;
     }
 
-pub without_client : (needed room : Room) (client : ℕ) → IsWithin (record needed { clients = client ∷ [] }) room
-    → IsWithin (record needed { clients = [] }) room
-without_client needed room client h =
+move_clients : (moved : Move) → (room_to_move moved).clients ≡ []
+move_clients (moves.Price price) = refl
+move_clients _ = refl
+
+effect_clients : (planned : Effect) → (room_of planned).clients ≡ []
+effect_clients (effects.Move moved) = move_clients moved
+effect_clients (effects.Liquidate liquidator struck) = refl
+effect_clients effects.Rotate = refl
+
+pub without_client : (planned : Effect) (room : Room) (client : ℕ)
+    → IsWithin (record (room_of planned) { clients = client ∷ [] }) room → IsWithin (room_of planned) room
+without_client planned room client h =
     record {
       wallets = h.wallets;
       troves = h.troves;
       surplus = h.surplus;
       deposits = h.deposits;
-      clients = tt;
+      clients = subst (λ keys. AreAmong keys room.clients) (sym (effect_clients planned)) tt;
       list = h.list;
       finished = h.finished;
     }

@@ -1,10 +1,9 @@
 -- The states for which a core stands: what is ruled, planned and done for one of them is so for each.
-use Rattle.std.proofs.Common.{◌≡◌, ℕ, true, subst, Option, refl, ap, sym, ◌∙◌}
+use Rattle.std.proofs.Common.{◌≡◌, ℕ, List, subst, Option, ap, sym, ◌∙◌, inl, inr}
 use Rattle.std.specs.Prelude.{Result}
 use Rattle.liq_types.specs.declared.replies.Refusal.{Refusal}
 use Rattle.liq_types.specs.declared.figures.Market.{Market}
 use Rattle.liq_types.specs.declared.requests.Call.{Call}
-use Rattle.liq_types.specs.declared.requests.Call.TheVariants.{Price, Advance, Fund, Take, Send, Open, Adjust, Close, Provide, Withdraw, GainToTrove, Liquidate, LiquidateLowest, Redeem, Claim, Rotate}
 use Rattle.liq_types.specs.declared.requests.Command.{Command}
 use Rattle.liq_types.specs.declared.requests.Request.TheVariants.{Do}
 use Rattle.liq_rule_step.specs.Step.{Ruling, after, after_ruling, step}
@@ -12,20 +11,21 @@ use Rattle.liq_types.specs.State.{State}
 use Rattle.liq_types.specs.Totals.{market_of, or_nothing}
 use Rattle.liq_troves.specs.StakeSums.{entire_of}
 use Rattle.liq_stability.specs.Position.{gain_of}
-use Rattle.liq_borrow.specs.declared.change.Change.{Change}
 use Rattle.liq_borrow.specs.Borrowing.{opening_terms, adjusting_terms, closing_terms, gaining_terms}
 use Rattle.liq_types.specs.Soundness.{IsSoundImage}
 use Rattle.liq_liquidation.specs.declared.one.One.{One}
+use Rattle.liq_liquidation.specs.declared.one.Victim.{Victim}
 use Rattle.liq_liquidation.specs.Lowest.{victim_by}
-use Rattle.liq_redemption.specs.Redemption.{RedeemTerms, redeeming_terms, visited}
 use Rattle.liq_core.specs.Core.{Core, Changes, StandsFor, state_of}
 use Rattle.liq_rule_step.specs.Liquidation.{listed}
 use Rattle.liq_rule_step.specs.Step.{Allowed, ruling, effect}
+use Rattle.liq_core.specs.declared.effects.Effect.{Effect}
+use Rattle.liq_core.specs.declared.effects.Effect.TheVariants as effects
+use Rattle.liq_core.specs.declared.effects.Move.{Move}
+use Rattle.liq_core.specs.declared.effects.Move.TheVariants as moves
 use Rattle.liq_core.specs.declared.turns.Forecast.{Forecast}
-use Rattle.liq_core.specs.declared.turns.Terms.{Terms}
-use Rattle.liq_core.specs.declared.turns.Terms.TheVariants as kind
+use Rattle.liq_core.specs.Effects.{IsEffect, IsMove, IsStruck, victims_in}
 use Rattle.liq_core.specs.Plan.{IsForecast, IsPlan, plan_of}
-use Rattle.liq_core.specs.Terms.{AreTerms, IsTrove, IsClosing, IsRedeeming, is_redeeming, TermsFit}
 use Rattle.liq_rule_step.proofs.AlikeFollowed.{call_events_alike, call_changes_alike}
 use Rattle.liq_rule_step.proofs.AlikeLiquidation.{one_alike, lowest_alike}
 use Rattle.liq_rule_step.proofs.AlikeRedemption.{terms_alike as redeeming_alike}
@@ -72,39 +72,52 @@ stepped_stands old new c sound allowed made s h =
     record { image = its.image ∙ sym e.image; records = its.records ∙ sym e.records; formed = e.left }
 
 -- what is planned for one state holds for each that is the same
-pub terms_alike : {s t : State} → Alike s t → (call : Call) (terms : Terms) → AreTerms t call terms
-    → AreTerms s call terms
-terms_alike {s} {t} h (Open account coll borrow bound hint) terms are =
-    subst (λ (m : Market). IsTrove (opening_terms m coll borrow) terms) (sym (market_alike h)) are
-terms_alike {s} {t} h (Adjust account coll_in coll_out borrow repay bound hint) terms are =
-    let change : Change = record { coll_in = coll_in; coll_out = coll_out; borrow = borrow; repay = repay } in
-    subst (λ (m : Market). IsTrove (adjusting_terms m (or_nothing (entire_of s account)) change) terms)
-    (sym (market_alike h))
-    (subst (λ (o : Option (ℕ × ℕ)). IsTrove (adjusting_terms (market_of t) (or_nothing o) change) terms)
-    (sym (entire_alike h account)) are)
-terms_alike {s} {t} h (Close account) terms are =
-    subst (λ (o : Option (ℕ × ℕ)). IsClosing (closing_terms (or_nothing o)) terms) (sym (entire_alike h account)) are
-terms_alike h (Price price) terms are = are
-terms_alike h (Advance minutes) terms are = are
-terms_alike h (Fund account coll) terms are = are
-terms_alike h (Take account coll) terms are = are
-terms_alike h (Send from to lusd) terms are = are
-terms_alike h (Provide account lusd) terms are = are
-terms_alike h (Withdraw account lusd) terms are = are
-terms_alike {s} {t} h (GainToTrove account hint) terms are =
-    subst (λ (m : Market). IsTrove (gaining_terms m (or_nothing (entire_of s account)) (gain_of s account)) terms)
-    (sym (market_alike h))
-    (subst (λ (o : Option (ℕ × ℕ)). IsTrove (gaining_terms (market_of t) (or_nothing o) (gain_of s account)) terms)
-    (sym (entire_alike h account))
-    (subst (λ n. IsTrove (gaining_terms (market_of t) (or_nothing (entire_of t account)) n) terms)
-    (sym (gain_alike h account)) are))
-terms_alike h (Liquidate liquidator account) terms are = are
-    ∙ sym (ap (λ (made : Result One Refusal). listed (victim_by account made)) (one_alike h account))
-terms_alike h (LiquidateLowest liquidator count) terms are = are ∙ sym (lowest_alike count h)
-terms_alike {s} {t} h (Redeem account lusd bound hint) terms are =
-    subst (λ (taken : RedeemTerms). IsRedeeming taken terms) (sym (redeeming_alike h lusd)) are
-terms_alike h (Claim account) terms are = are
-terms_alike h Rotate terms are = are
+move_alike : {s t : State} → Alike s t → (call : Call) (moved : Move) → IsMove t call moved → IsMove s call moved
+move_alike {s} {t} h call (moves.Open account borrow plan words) is = (
+  is.0,
+  is.1,
+  is.2 ∙ ap (λ (m : Market). opening_terms m plan.coll borrow) (sym (market_alike h)),
+)
+move_alike {s} {t} h call (moves.Adjust account change plan words) is = (
+  is.0,
+  is.1,
+  is.2 ∙ ap (λ (m : Market). adjusting_terms m (or_nothing (entire_of t account)) change) (sym (market_alike h))
+      ∙ ap (λ (o : Option (ℕ × ℕ)). adjusting_terms (market_of s) (or_nothing o) change) (sym (entire_alike h account)),
+)
+move_alike {s} {t} h call (moves.Close account repaid coll) is = (
+  is.0,
+  is.1 ∙ ap (λ (o : Option (ℕ × ℕ)). closing_terms (or_nothing o)) (sym (entire_alike h account)),
+)
+move_alike {s} {t} h call (moves.GainToTrove account plan words) is = (
+  is.0,
+  is.1 ∙ ap (λ (m : Market). gaining_terms m (or_nothing (entire_of t account)) (gain_of t account))
+      (sym (market_alike h))
+      ∙ ap (λ (o : Option (ℕ × ℕ)). gaining_terms (market_of s) (or_nothing o) (gain_of t account))
+      (sym (entire_alike h account))
+      ∙ ap (gaining_terms (market_of s) (or_nothing (entire_of s account))) (sym (gain_alike h account)),
+)
+move_alike {s} {t} h call (moves.Redeem account plan words) is = (
+  is.0,
+  is.1,
+  is.2,
+  is.3 ∙ sym (redeeming_alike h is.0),
+)
+move_alike h call _ is = is
+
+struck_alike : {s t : State} → Alike s t → (call : Call) (liquidator : ℕ) (struck : List Victim)
+    → IsStruck t call liquidator struck → IsStruck s call liquidator struck
+struck_alike h call liquidator struck (inl is) = inl (
+  is.0,
+  is.1,
+  is.2 ∙ sym (ap (λ (made : Result One Refusal). listed (victim_by is.0 made)) (one_alike h is.0)),
+)
+struck_alike h call liquidator struck (inr is) = inr (is.0, is.1, is.2 ∙ sym (lowest_alike is.0 h))
+
+effect_same : {s t : State} → Alike s t → (call : Call) (planned : Effect) → IsEffect t call planned
+    → IsEffect s call planned
+effect_same h call (effects.Move moved) is = move_alike h call moved is
+effect_same h call (effects.Liquidate liquidator struck) is = struck_alike h call liquidator (victims_in struck) is
+effect_same h call effects.Rotate is = is
 
 pub planned_alike : {s t : State} → Alike s t → (c : Command) (forecast : Forecast) → ruling s c ≡ Allowed
     → IsForecast t c.call forecast → IsPlan s (plan_of c forecast)
@@ -112,29 +125,7 @@ planned_alike h c forecast allowed f =
     record {
       allowed = allowed;
       done = f.done ∙ sym (done_alike h c.call);
-      terms = terms_alike h c.call forecast.terms f.terms;
+      effect = effect_same h c.call forecast.effect f.effect;
       events = f.events ∙ sym (call_events_alike h c.call);
       changes = f.changes ∙ sym (call_changes_alike h c.call);
     }
-
--- the terms that a state has fit their call
-pub terms_fit : (s : State) (call : Call) (terms : Terms) → AreTerms s call terms → TermsFit call terms
-terms_fit s (Redeem account lusd bound hint) terms are = by terms are where
-  by : (all : Terms) → IsRedeeming (redeeming_terms (market_of s) (visited s) lusd) all → is_redeeming all ≡ true
-  by (kind.Redeem plan) h = refl
-  by _ h = absurd h
-terms_fit s (Price price) terms are = tt
-terms_fit s (Advance minutes) terms are = tt
-terms_fit s (Fund account coll) terms are = tt
-terms_fit s (Take account coll) terms are = tt
-terms_fit s (Send from to lusd) terms are = tt
-terms_fit s (Open account coll borrow bound hint) terms are = tt
-terms_fit s (Adjust account coll_in coll_out borrow repay bound hint) terms are = tt
-terms_fit s (Close account) terms are = tt
-terms_fit s (Provide account lusd) terms are = tt
-terms_fit s (Withdraw account lusd) terms are = tt
-terms_fit s (GainToTrove account hint) terms are = tt
-terms_fit s (Liquidate liquidator account) terms are = tt
-terms_fit s (LiquidateLowest liquidator count) terms are = tt
-terms_fit s (Claim account) terms are = tt
-terms_fit s Rotate terms are = tt

@@ -5,7 +5,7 @@ use Rattle.std.specs.Option.{option_or}
 use Rattle.liq_types.specs.declared.figures.Trove.{Trove}
 use Rattle.liq_types.specs.declared.hints.Hint.{Hint}
 use Rattle.liq_types.specs.declared.requests.Call.{Call}
-use Rattle.liq_types.specs.declared.requests.Call.TheVariants.{Price, Advance, Fund, Take, Send, Open, Adjust, Close, Provide, Withdraw, GainToTrove, Liquidate, LiquidateLowest, Redeem, Claim, Rotate}
+use Rattle.liq_types.specs.declared.requests.Call.TheVariants as calls
 use Rattle.liq_types.specs.Ranked.{Ranked, key_in}
 use Rattle.liq_types.specs.State.{State}
 use Rattle.liq_types.specs.Tables.{Table, at}
@@ -25,18 +25,18 @@ use Rattle.liq_redemption.specs.Last.{last_entry}
 use Rattle.liq_redemption.specs.Redemption.{RedeemTerms, redeeming_terms, visited}
 use Rattle.liq_rule_step.specs.ListChanges.{stands}
 use Rattle.liq_rule_step.specs.Rules.{effect, call_changes}
-use Rattle.liq_rule_step.specs.Verbs.{liquidates}
+use Rattle.liq_rule_step.specs.Verbs.{accounts, rotates}
 use Rattle.liq_rule_step.proofs.AlikeFollowed.{told, stands-image}
 use Rattle.liq_rule_step.proofs.Ascending.{Ordered, effect-ascends}
 use Rattle.liq_rule_step.proofs.Following.{troves-ascend}
 use Rattle.liq_rule_sound.proofs.SoundFacts.{in_order}
-use Rattle.liq_core.specs.declared.turns.Terms.{Terms}
-use Rattle.liq_core.specs.declared.turns.Terms.TheVariants as kind
+use Rattle.liq_core.specs.declared.effects.Move.{Move}
+use Rattle.liq_core.specs.declared.effects.Move.TheVariants as moves
 use Rattle.liq_types.specs.Soundness.{IsSoundImage}
 use Rattle.liq_core.specs.Core.{Core, state_of}
 use Rattle.liq_core.proofs.SoundCores.{core_finds}
-use Rattle.liq_core.specs.Steps.{cuts_in, entry_put, last_put, put_of}
-use Rattle.liq_core.specs.Terms.{AreTerms, IsRedeeming}
+use Rattle.liq_core.specs.Effects.{IsMadeBy, IsMove, room_to_move, words_in}
+use Rattle.liq_core.specs.Steps.{entry_put, last_put, put_of, words_of}
 
 -- ---- no steps
 
@@ -87,58 +87,78 @@ module _ (s : State) (ascend : Ascends (trove_rows s)) where
         takes_or (trove_order s) hint (last_put (map (λ (c : Cut). stands s c.account) (next ∷ more)))
         (put_of (stands s cut.account)) old new (cuts_put (next ∷ more) h)
 
--- the cuts of a redemption are those of its terms
-cuts_are : (s : State) (lusd : ℕ) (all : Terms) → IsRedeeming (redeeming_terms (market_of s) (visited s) lusd) all
-    → cuts_in all ≡ (redeeming_terms (market_of s) (visited s) lusd).cuts
-cuts_are s lusd (kind.Redeem plan) h = ap (λ (p : RedeemTerms). p.cuts) h
-cuts_are s lusd _ h = absurd h
-
--- what a call put into the list that it made is what is told of it
-call_puts : (s : State) (call : Call) (all : Terms) (hint : Hint) (old new : ℕ) → liquidates call ≡ false
-    → AreTerms s call all → Ascends (trove_rows (effect s call))
-    → TakesFew (trove_order (effect s call)) hint (entry_put call all (trove_order (effect s call))) old new
+-- what a move put into the list is what is told of the call that makes it
+abbrev Puts : State → Move → Hint → ℕ → ℕ → Call → Type 0
+Puts s moved hint old new call = Ascends (trove_rows (effect s call))
+    → TakesFew (trove_order (effect s call)) hint (entry_put moved (trove_order (effect s call))) old new
     → TakesFew (trove_order (effect s call)) hint (last_put (call_changes s call)) old new
-call_puts s (Open account coll borrow bound words) all hint old new stays are ascend h =
-    one_put (effect s (Open account coll borrow bound words)) ascend hint old new account h
-call_puts s (Adjust account coll_in coll_out borrow repay bound words) all hint old new stays are ascend h =
-    one_put (effect s (Adjust account coll_in coll_out borrow repay bound words)) ascend hint old new account h
-call_puts s (GainToTrove account words) all hint old new stays are ascend h =
-    one_put (effect s (GainToTrove account words)) ascend hint old new account h
-call_puts s (Redeem account lusd bound words) all hint old new stays are ascend h =
-    let next = effect s (Redeem account lusd bound words) in
-    cuts_put next ascend hint old new (redeeming_terms (market_of s) (visited s) lusd).cuts
-    (subst (λ (cuts : List Cut). TakesFew (trove_order next) hint (last_entry (trove_order next) cuts) old new)
-    (cuts_are s lusd all are) h)
-call_puts s (Price price) all hint old new stays are ascend h = h
-call_puts s (Advance minutes) all hint old new stays are ascend h = h
-call_puts s (Fund account coll) all hint old new stays are ascend h = h
-call_puts s (Take account coll) all hint old new stays are ascend h = h
-call_puts s (Send from to lusd) all hint old new stays are ascend h = h
-call_puts s (Close account) all hint old new stays are ascend h = h
-call_puts s (Provide account lusd) all hint old new stays are ascend h = h
-call_puts s (Withdraw account lusd) all hint old new stays are ascend h = h
-call_puts s (Claim account) all hint old new stays are ascend h = h
-call_puts s Rotate all hint old new stays are ascend h = h
-call_puts s (Liquidate liquidator account) all hint old new stays are ascend h = cc
-call_puts s (LiquidateLowest liquidator count) all hint old new stays are ascend h = cc
+
+move_puts : (s : State) (call : Call) (moved : Move) (hint : Hint) (old new : ℕ) → IsMove s call moved
+    → Puts s moved hint old new call
+move_puts s call (moves.Open account borrow plan words) hint old new is =
+    let made = calls.Open account plan.coll borrow is.0 words in
+    subst (Puts s (moves.Open account borrow plan words) hint old new) (sym is.1)
+    (λ ascend h. one_put (effect s made) ascend hint old new account h)
+move_puts s call (moves.Adjust account change plan words) hint old new is =
+    let made = calls.Adjust account change.coll_in change.coll_out change.borrow change.repay is.0 words in
+    subst (Puts s (moves.Adjust account change plan words) hint old new) (sym is.1)
+    (λ ascend h. one_put (effect s made) ascend hint old new account h)
+move_puts s call (moves.GainToTrove account plan words) hint old new is =
+    let made = calls.GainToTrove account words in
+    subst (Puts s (moves.GainToTrove account plan words) hint old new) (sym is.0)
+    (λ ascend h. one_put (effect s made) ascend hint old new account h)
+move_puts s call (moves.Redeem account plan words) hint old new is =
+    let made = calls.Redeem account is.0 is.1 words in
+    let next = effect s made in
+    subst (Puts s (moves.Redeem account plan words) hint old new) (sym is.2)
+    (λ ascend h. cuts_put next ascend hint old new (redeeming_terms (market_of s) (visited s) is.0).cuts
+    (subst (λ (p : RedeemTerms). TakesFew (trove_order next) hint (last_entry (trove_order next) p.cuts) old new) is.3
+    h))
+move_puts s call (moves.Close account repaid coll) hint old new is =
+    subst (Puts s (moves.Close account repaid coll) hint old new) (sym is.0) (λ ascend h. h)
+move_puts s call moved hint old new is = subst (Puts s moved hint old new) (sym is) (λ ascend h. h)
 
 -- the same of a list that is the trove order after the call
 pub planned_puts : (core : Core) → IsSoundImage core.image core.records
-    → (call : Call) (all : Terms) (list : List Ranked) (hint : Hint) (old new : ℕ) → liquidates call ≡ false
-    → AreTerms (state_of core) call all → list ≡ trove_order (effect (state_of core) call)
-    → TakesFew list hint (entry_put call all list) old new
+    → (call : Call) (moved : Move) (list : List Ranked) (hint : Hint) (old new : ℕ)
+    → IsMove (state_of core) call moved → list ≡ trove_order (effect (state_of core) call)
+    → TakesFew list hint (entry_put moved list) old new
     → TakesFew list hint (last_put (call_changes (state_of core) call)) old new
-planned_puts core sound call all list hint old new stays are is h =
+planned_puts core sound call moved list hint old new made is h =
     let s = state_of core in
     let ordered : Ordered s = record { tables = in_order s (core_finds core sound).stands } in
     let ascend = troves-ascend (effect s call) (effect-ascends s call ordered).tables.1 in
     subst (λ (l : List Ranked). TakesFew l hint (last_put (call_changes s call)) old new) (sym is)
-    (call_puts s call all hint old new stays are ascend (subst (λ (l : List Ranked). TakesFew l hint
-    (entry_put call all l) old new) is h))
+    (move_puts s call moved hint old new made ascend (subst (λ (l : List Ranked). TakesFew l hint
+    (entry_put moved l) old new) is h))
 
--- a call that is no liquidation
-pub strikes_none : (call : Call) → ((liquidator account : ℕ) → call ≡ Liquidate liquidator account → ⊥)
-    → ((liquidator count : ℕ) → call ≡ LiquidateLowest liquidator count → ⊥) → liquidates call ≡ false
-strikes_none (Liquidate liquidator account) one lowest = absurd (one liquidator account refl)
-strikes_none (LiquidateLowest liquidator count) one lowest = absurd (lowest liquidator count refl)
-strikes_none _ one lowest = refl
+-- ---- the call of a move
+
+-- it has the move's hint words, is no rotation, and names just the accounts whose wallets are written
+pub record Makes (moved : Move) (call : Call) : Type 0 where
+  pub words : words_of call ≡ words_in moved
+  pub stays : rotates call ≡ false
+  pub names : accounts call ≡ (room_to_move moved).wallets
+
+pub move_makes : (s : State) (call : Call) (moved : Move) → IsMove s call moved → Makes moved call
+move_makes s call (moves.Open account borrow plan words) is = subst (Makes (moves.Open account borrow plan words))
+    (sym is.1) (record { words = refl; stays = refl; names = refl })
+move_makes s call (moves.Adjust account change plan words) is = subst (Makes (moves.Adjust account change plan words))
+    (sym is.1) (record { words = refl; stays = refl; names = refl })
+move_makes s call (moves.Close account repaid coll) is = subst (Makes (moves.Close account repaid coll)) (sym is.0)
+    (record { words = refl; stays = refl; names = refl })
+move_makes s call (moves.GainToTrove account plan words) is = subst (Makes (moves.GainToTrove account plan words))
+    (sym is.0) (record { words = refl; stays = refl; names = refl })
+move_makes s call (moves.Redeem account plan words) is = subst (Makes (moves.Redeem account plan words)) (sym is.2)
+    (record { words = refl; stays = refl; names = refl })
+move_makes s call moved is = subst (Makes moved) (sym is) (record { words = refl; stays = refl; names = refl })
+
+-- what holds of one call that makes the move
+pub made_so : (s : State) (call : Call) (moved : Move) → IsMove s call moved → (Is : Call → Type 0) → Is call
+    → IsMadeBy s moved Is
+made_so s call (moves.Open account borrow plan words) is Is so = (is.0, subst Is is.1 so, is.2)
+made_so s call (moves.Adjust account change plan words) is Is so = (is.0, subst Is is.1 so, is.2)
+made_so s call (moves.Close account repaid coll) is Is so = (subst Is is.0 so, is.1)
+made_so s call (moves.GainToTrove account plan words) is Is so = (subst Is is.0 so, is.1)
+made_so s call (moves.Redeem account plan words) is Is so = (is.0, is.1, subst Is is.2 so, is.3)
+made_so s call _ is Is so = subst Is is so

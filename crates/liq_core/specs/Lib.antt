@@ -1,10 +1,10 @@
 pub mod Core
+pub mod Effects
 pub mod Entries
 pub mod Held
 pub mod Parts
 pub mod Plan
 pub mod Sound
 pub mod Steps
-pub mod Terms
 pub mod Told
 pub mod Turn

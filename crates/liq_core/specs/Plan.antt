@@ -1,5 +1,5 @@
 -- A planned command, the states on which it may be applied, and the rows that it wants.
-use Rattle.std.specs.Prelude.{◌≡◌, ◌<◌, List, [], ◌∷◌, length}
+use Rattle.std.specs.Prelude.{◌≡◌, ◌<◌, List, [], ◌∷◌}
 use Rattle.std.specs.List.{AllByRecursion}
 use Rattle.liq_types.specs.declared.amounts.TheConstants.{ACCOUNTS}
 use Rattle.liq_types.specs.declared.events.ListChange.{ListChange}
@@ -8,20 +8,20 @@ use Rattle.liq_types.specs.declared.replies.Done.{Done}
 use Rattle.liq_types.specs.declared.requests.Call.{Call}
 use Rattle.liq_types.specs.declared.requests.Command.{Command}
 use Rattle.liq_types.specs.State.{State}
+use Rattle.liq_core.specs.declared.effects.Effect.{Effect}
 use Rattle.liq_core.specs.declared.turns.Forecast.{Forecast}
-use Rattle.liq_core.specs.declared.turns.Terms.{Terms}
 use Rattle.liq_core.specs.Core.{Core, IsWithin, Room, StandsFor}
 use Rattle.liq_rule_step.specs.Rules.{call_events, call_changes}
 use Rattle.liq_rule_step.specs.Step.{Allowed, ruling, done_of}
-use Rattle.liq_core.specs.Terms.{AreTerms, TermsFit, claimants, struck_by}
+use Rattle.liq_core.specs.Effects.{IsEffect, room_of}
 use Rattle.liq_core.specs.Told.{events_in, changes_in}
-use Rattle.liq_rule_step.specs.Verbs.{accounts, pays, opens, provides}
+use Rattle.liq_rule_step.specs.Verbs.{accounts}
 
--- a command that is allowed: its reply, what it makes of what it changes, and what others follow
+-- a command that is allowed: its reply, what it does, and what others follow of it
 pub record Plan : Type 0 where
   pub command : Command
   pub done : Done
-  pub terms : Terms
+  pub effect : Effect
   pub events : List PoolEvent
   pub changes : List ListChange
 
@@ -30,7 +30,7 @@ plan_of command forecast =
     record {
       command = command;
       done = forecast.done;
-      terms = forecast.terms;
+      effect = forecast.effect;
       events = events_in forecast.events;
       changes = changes_in forecast.changes;
     }
@@ -38,7 +38,7 @@ plan_of command forecast =
 -- all of an allowed call is as the state has it
 pub record IsForecast (s : State) (call : Call) (forecast : Forecast) : Type 0 where
   pub done : forecast.done ≡ done_of s call
-  pub terms : AreTerms s call forecast.terms
+  pub effect : IsEffect s call forecast.effect
   pub events : events_in forecast.events ≡ call_events s call
   pub changes : changes_in forecast.changes ≡ call_changes s call
 
@@ -46,7 +46,7 @@ pub record IsForecast (s : State) (call : Call) (forecast : Forecast) : Type 0 w
 pub record IsPlan (s : State) (plan : Plan) : Type 0 where
   pub allowed : ruling s plan.command ≡ Allowed
   pub done : plan.done ≡ done_of s plan.command.call
-  pub terms : AreTerms s plan.command.call plan.terms
+  pub effect : IsEffect s plan.command.call plan.effect
   pub events : plan.events ≡ call_events s plan.command.call
   pub changes : plan.changes ≡ call_changes s plan.command.call
 
@@ -54,32 +54,15 @@ pub record IsPlan (s : State) (plan : Plan) : Type 0 where
 abbrev pub IsPlannedOn : Core → Plan → Type 0
 IsPlannedOn core plan = (s : State) → StandsFor core s → IsPlan s plan
 
--- room for what a call writes: for each trove that is liquidated also a sum of the Stability Pool
--- that it may finish
-abbrev pub room_of_call : Call → Terms → Room
-room_of_call call terms =
-    record {
-      wallets = pays call;
-      troves = opens call;
-      surplus = claimants call terms;
-      deposits = provides call;
-      clients = [];
-      list = length (opens call);
-      finished = length (struck_by call terms);
-    }
-
 -- room for all that a planned command writes
 abbrev pub room_for : Plan → Room
-room_for plan =
-    record (room_of_call plan.command.call plan.terms) { clients = plan.command.client ∷ [] }
+room_for plan = record (room_of plan.effect) { clients = plan.command.client ∷ [] }
 
 -- there is a row for all that the planned command writes
 abbrev pub HasRoom : Core → Plan → Type 0
 HasRoom core plan = IsWithin (room_for plan) core.room
 
--- what holds of every planned command: its client and its accounts are in range, and its terms are
--- those of its verb
+-- what holds of every planned command: its client and its accounts are in range
 pub record IsSoundPlan (plan : Plan) : Type 0 where
   pub client : plan.command.client < ACCOUNTS
   pub accounts : AllByRecursion (λ account. account < ACCOUNTS) (accounts plan.command.call)
-  pub terms : TermsFit plan.command.call plan.terms

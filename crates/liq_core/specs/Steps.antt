@@ -9,11 +9,10 @@ use Rattle.liq_types.specs.declared.requests.Call.{Call}
 use Rattle.liq_types.specs.declared.requests.Call.TheVariants.{Open, Adjust, GainToTrove, Redeem}
 use Rattle.liq_types.specs.Ranked.{Ranked}
 use Rattle.liq_trove_moves.specs.Steps.{entry_in}
-use Rattle.liq_redemption.specs.declared.cut.Cut.{Cut}
 use Rattle.liq_redemption.specs.Last.{last_entry}
 use Rattle.liq_rule_step.specs.Verbs.{no_hint}
-use Rattle.liq_core.specs.declared.turns.Terms.{Terms}
-use Rattle.liq_core.specs.declared.turns.Terms.TheVariants as terms
+use Rattle.liq_core.specs.declared.effects.Move.{Move}
+use Rattle.liq_core.specs.declared.effects.Move.TheVariants as moves
 
 -- ---- hints
 
@@ -43,16 +42,10 @@ abbrev pub last_put : List ListChange → Option Ranked
 last_put [] = None
 last_put (change ∷ changes) = option_or (last_put changes) (put_of change)
 
--- the cuts of a redemption
-abbrev pub cuts_in : Terms → List Cut
-cuts_in (terms.Redeem plan) = plan.cuts
-cuts_in _ = []
-
--- the entry that a call puts last, as it is found in the list
-abbrev pub entry_put : Call → Terms → List Ranked → Option Ranked
-entry_put (Open account coll borrow bound words) made list = entry_in list account
-entry_put (Adjust account coll_in coll_out borrow repay bound words) made list =
-    entry_in list account
-entry_put (GainToTrove account words) made list = entry_in list account
-entry_put (Redeem account lusd bound words) made list = last_entry list (cuts_in made)
-entry_put call made list = None
+-- the entry that a move puts last, as it is found in the list
+abbrev pub entry_put : Move → List Ranked → Option Ranked
+entry_put (moves.Open account borrow plan words) list = entry_in list account
+entry_put (moves.Adjust account change plan words) list = entry_in list account
+entry_put (moves.GainToTrove account plan words) list = entry_in list account
+entry_put (moves.Redeem account plan words) list = last_entry list plan.cuts
+entry_put _ list = None

@@ -15,15 +15,17 @@ ghost use Rattle.liq_core.specs.Core.{Changes, state_of};
 ghost use Rattle.liq_rule_step.specs.Step.{rules, first_refusal};
 ghost use Rattle.liq_core.specs.Turn.{IsRuled};
 
+use crate::effects::{Effect, Move};
 use crate::engine::Protocol;
+use crate::kinds;
 use crate::standing::{change_trove, lift_trove};
 use crate::told::{ListChanges, PoolEvents};
-use crate::turns::{Forecast, Terms};
+use crate::turns::Forecast;
 use liq_borrow::{Change, Plan, plan_adjust, plan_close, plan_open};
 use liq_trove_moves::place;
 use liq_troves::{entire, key};
 use liq_types::amounts::{ACCOUNTS, LIM, RESERVE};
-use liq_types::{Done, Hint, ListChange, Refusal, Steps, Wallet};
+use liq_types::{Done, Hint, HintWords, ListChange, Refusal, Steps, Wallet};
 use std::sync::ledger::Ledger;
 
 impl Protocol {
@@ -56,9 +58,9 @@ impl Protocol {
         coll: u64,
         borrow: u64,
         bound: u64,
+        words: HintWords,
     ) -> Result<Forecast, Refusal>
-        ensures { (hint : HintWords)
-            → IsRuled (state_of self.now) (call.Open account coll borrow bound hint) result }
+        ensures { IsRuled (state_of self.now) (call.Open account coll borrow bound words) result }
     {
         let exists = self.troves.get(account).is_some();
         let wallet = self.wallet(account);
@@ -73,10 +75,15 @@ impl Protocol {
         )?;
         Ok(Forecast {
             done: Done {
-                kind: 6,
+                kind: kinds::OPEN,
                 values: [plan.debt, plan.fee, 0, 0, 0, 0],
             },
-            terms: Terms::Trove(plan),
+            effect: Effect::Move(Move::Open {
+                account,
+                borrow,
+                plan,
+                words,
+            }),
             events: PoolEvents::Nothing,
             changes: ListChanges::One([self.standing(account, plan.coll, plan.debt)]),
         })
@@ -87,10 +94,10 @@ impl Protocol {
         account: u32,
         change: &Change,
         bound: u64,
+        words: HintWords,
     ) -> Result<Forecast, Refusal>
-        ensures { (hint : HintWords)
-            → IsRuled (state_of self.now) (call.Adjust account change.now.coll_in
-            change.now.coll_out change.now.borrow change.now.repay bound hint) result }
+        ensures { IsRuled (state_of self.now) (call.Adjust account change.now.coll_in
+            change.now.coll_out change.now.borrow change.now.repay bound words) result }
     {
         // odd: field read
         let _ = &self.records;
@@ -99,10 +106,15 @@ impl Protocol {
         let plan = plan_adjust(&self.market(), &wallet, had, account, change, bound)?;
         Ok(Forecast {
             done: Done {
-                kind: 7,
+                kind: kinds::ADJUST,
                 values: [plan.coll, plan.debt, plan.fee, 0, 0, 0],
             },
-            terms: Terms::Trove(plan),
+            effect: Effect::Move(Move::Adjust {
+                account,
+                change: *change,
+                plan,
+                words,
+            }),
             events: PoolEvents::Nothing,
             changes: ListChanges::One([self.standing(account, plan.coll, plan.debt)]),
         })
@@ -116,10 +128,14 @@ impl Protocol {
         let (repaid, coll) = plan_close(&self.market(), &wallet, had, account)?;
         Ok(Forecast {
             done: Done {
-                kind: 8,
+                kind: kinds::CLOSE,
                 values: [repaid, coll, 0, 0, 0, 0],
             },
-            terms: Terms::Closing { repaid, coll },
+            effect: Effect::Move(Move::Close {
+                account,
+                repaid,
+                coll,
+            }),
             events: PoolEvents::Nothing,
             changes: ListChanges::One([ListChange::Gone { account }]),
         })

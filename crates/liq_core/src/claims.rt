@@ -7,7 +7,9 @@ ghost use Rattle.liq_core.specs.Core.{Changes, state_of};
 ghost use Rattle.liq_rule_step.specs.Step.{rules, first_refusal};
 ghost use Rattle.liq_core.specs.Turn.{IsRuled};
 
+use crate::effects::{Effect, Move};
 use crate::engine::Protocol;
+use crate::kinds;
 use crate::turns::Forecast;
 use liq_types::amounts::ACCOUNTS;
 use liq_types::{Done, Refusal};
@@ -20,10 +22,11 @@ impl Protocol {
         if coll == 0 {
             return Err(Refusal::NoSurplus { account });
         }
-        Ok(Forecast::plain(Done {
-            kind: 15,
+        let done = Done {
+            kind: kinds::CLAIM,
             values: [coll, 0, 0, 0, 0, 0],
-        }))
+        };
+        Ok(Forecast::plain(done, Effect::Move(Move::Claim { account })))
     }
 
     /// All that the account may claim comes into its wallet.

@@ -19,14 +19,16 @@ ghost use Rattle.liq_rule_step.specs.Pool.{trove_under};
 ghost use Rattle.liq_rule_step.specs.Step.{rules, first_refusal};
 ghost use Rattle.liq_core.specs.Turn.{IsRuled};
 
+use crate::effects::{Effect, Move};
 use crate::engine::Protocol;
+use crate::kinds;
 use crate::standing::change_trove;
 use crate::told::{ListChanges, PoolEvents};
-use crate::turns::{Forecast, Terms};
+use crate::turns::Forecast;
 use liq_borrow::{Plan, plan_gain};
 use liq_num::GWEI_PER_ETH;
 use liq_types::amounts::{ACCOUNTS, LIM, MCR};
-use liq_types::{Done, Hint, PoolEvent, Refusal, Steps, Wallet};
+use liq_types::{Done, Hint, HintWords, PoolEvent, Refusal, Steps, Wallet};
 use std::sync::ledger::Ledger;
 
 impl Protocol {
@@ -62,10 +64,10 @@ impl Protocol {
         let amount = balance + lusd;
         Ok(Forecast {
             done: Done {
-                kind: 9,
+                kind: kinds::PROVIDE,
                 values: [amount, gain, 0, 0, 0, 0],
             },
-            terms: Terms::Words,
+            effect: Effect::Move(Move::Provide { account, lusd }),
             events: PoolEvents::One([PoolEvent::Own {
                 account,
                 put: lusd,
@@ -90,10 +92,10 @@ impl Protocol {
         let paid = lusd.min(balance);
         Ok(Forecast {
             done: Done {
-                kind: 10,
+                kind: kinds::WITHDRAW,
                 values: [paid, gain, 0, 0, 0, 0],
             },
-            terms: Terms::Words,
+            effect: Effect::Move(Move::Withdraw { account, lusd }),
             events: PoolEvents::One([PoolEvent::Own {
                 account,
                 put: 0,
@@ -127,9 +129,12 @@ impl Protocol {
         Ok(())
     }
 
-    pub(crate) fn plan_gain_to_trove(&self, account: u32) -> Result<Forecast, Refusal>
-        ensures { (hint : HintWords) → IsRuled (state_of self.now) (call.GainToTrove account hint)
-            result }
+    pub(crate) fn plan_gain_to_trove(
+        &self,
+        account: u32,
+        words: HintWords,
+    ) -> Result<Forecast, Refusal>
+        ensures { IsRuled (state_of self.now) (call.GainToTrove account words) result }
     {
         if self.no_deposit(account) {
             return Err(Refusal::NoDeposit { account });
@@ -139,10 +144,14 @@ impl Protocol {
         let plan = plan_gain(&self.market(), had, account, gain)?;
         Ok(Forecast {
             done: Done {
-                kind: 11,
+                kind: kinds::GAIN_TO_TROVE,
                 values: [gain, plan.coll, 0, 0, 0, 0],
             },
-            terms: Terms::Trove(plan),
+            effect: Effect::Move(Move::GainToTrove {
+                account,
+                plan,
+                words,
+            }),
             events: PoolEvents::One([PoolEvent::Own {
                 account,
                 put: 0,
@@ -182,10 +191,8 @@ impl Protocol {
         requires room { Contains self.old.room.wallets account }
         ensures { Changes self.old (call.Withdraw account lusd) self.new }
     {
-        match self.pool.withdraw(account, lusd) {
-            Ok((paid, gain)) => self.wallets.pay(account, gain, paid),
-            Err(_) => unreachable!(),
-        }
+        let (paid, gain) = self.pool.withdraw(account, lusd).unwrap();
+        self.wallets.pay(account, gain, paid);
     }
 
     /// The gain of the account's deposit moves into its trove, as it is planned.
@@ -208,10 +215,7 @@ impl Protocol {
             steps.new }
         ensures any { steps.new ≤ steps.old + (length self.old.list + 4) }
     {
-        match self.pool.withdraw(account, 0) {
-            Ok(_) => {}
-            Err(_) => unreachable!(),
-        }
+        self.pool.withdraw(account, 0).unwrap();
         let (pools, troves) = (&mut self.pools, &mut self.troves);
         change_trove(pools, troves, &mut self.order, account, plan, hint, steps);
     }

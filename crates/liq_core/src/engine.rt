@@ -1,7 +1,8 @@
 //! The protocol's state, and its steps: planned by a command's verb, and applied.
 
-ghost use Rattle.std.specs.Prelude.{◌≡◌, ◌≤◌, ◌<◌, ◌+◌, ℕ, false, length, None};
+ghost use Rattle.std.specs.Prelude.{◌≡◌, ◌≤◌, ◌<◌, ◌+◌, false, length, None};
 ghost use Rattle.std.specs.List.{AllByRecursion, Contains};
+ghost use Rattle.liq_types.specs.declared.requests.Call.{Call};
 ghost use Rattle.liq_types.specs.declared.requests.Request.TheVariants.{Do, Ask};
 ghost use Rattle.liq_types.specs.declared.replies.Reply.TheVariants.{Said};
 ghost use Rattle.liq_types.specs.Image.{IsLimit};
@@ -9,17 +10,19 @@ ghost use Rattle.liq_types.specs.State.{State, opening, opening_with, client_of}
 ghost use Rattle.liq_order.specs.Order.{trove_order};
 ghost use Rattle.liq_trove_moves.specs.Steps.{TakesFew};
 ghost use Rattle.liq_stability.specs.Words.{pool_words};
-ghost use Rattle.liq_core.specs.Core.{AreAmong, Changes, StandsFor, current, state_of};
+ghost use Rattle.liq_core.specs.Core.{Changes, IsWithin, StandsFor, current, state_of};
 ghost use Rattle.liq_core.specs.Sound.{IsKeptRow};
+ghost use Rattle.liq_core.specs.Effects.{IsMadeBy, IsMove, room_to_move, words_in};
 ghost use Rattle.liq_core.specs.Steps.{entry_put, last_put, used_hint, words_of};
-ghost use Rattle.liq_core.specs.Terms.{AreTerms, claimants};
-ghost use Rattle.liq_rule_step.specs.Verbs.{pays, opens, provides, plans_list, liquidates, rotates};
-ghost use Rattle.liq_rule_step.specs.Step.{accounts, rules, first_refusal, noted, step};
+ghost use Rattle.liq_core.specs.Turn.{Forecasts, IsRuled};
+ghost use Rattle.liq_rule_step.specs.Verbs.{rotates};
+ghost use Rattle.liq_rule_step.specs.Step.{rules, first_refusal, noted, step};
 
+use crate::effects::{Effect, Move};
 use crate::laws::lists_stand;
 use crate::payments::plan_price;
 use crate::ranges::check_accounts;
-use crate::turns::{Forecast, PlanFault, Planned, Terms, Turn};
+use crate::turns::{Forecast, PlanFault, Planned, Turn};
 use liq_borrow::Change;
 use liq_core_limits::{Generation, repeated_reply};
 use liq_ledger::{Pools, Surplus, Wallets};
@@ -113,7 +116,7 @@ const NO_POOLS: Pools = Pools {
 
 impl Protocol {
     ghost use Rattle.liq_core.specs.Plan.{HasRoom, IsPlannedOn};
-    ghost use Rattle.liq_core.specs.Turn.{Plans, IsKept, IsRuled, Forecasts, ForecastsCall};
+    ghost use Rattle.liq_core.specs.Turn.{Plans, IsKept, ForecastsCall};
 
     /// The protocol as it opens: nothing is inside.
     pub fn new(alloc: Global) -> Protocol
@@ -251,48 +254,36 @@ impl Protocol {
         ensures { Forecasts (state_of self.now) call.now result }
     {
         match *call {
-            Call::Redeem(account, lusd, bound, _) => self.plan_redeem(account, lusd, bound),
-            Call::LiquidateLowest(liquidator, count) => {
-                self.plan_liquidate_lowest(liquidator, count)
+            Call::Price(price) => ruled(plan_price(price)),
+            Call::Advance(minutes) => ruled(self.plan_advance(minutes)),
+            Call::Fund(account, coll) => ruled(self.plan_fund(account, coll)),
+            Call::Take(account, coll) => ruled(self.plan_take(account, coll)),
+            Call::Send(from, to, lusd) => ruled(self.plan_send(from, to, lusd)),
+            Call::Open(account, coll, borrow, bound, words) => {
+                ruled(self.plan_open(account, coll, borrow, bound, words))
             }
-            _ => match self.plan_listless(call) {
-                Ok(forecast) => Ok(forecast),
-                Err(refusal) => Err(PlanFault::No(refusal)),
-            },
-        }
-    }
-
-    /// Rules on a call that plans no list.
-    fn plan_listless(&self, call: &Call) -> Result<Forecast, Refusal>
-        requires { plans_list call.now ≡ false }
-        ensures { IsRuled (state_of self.now) call.now result }
-    {
-        match *call {
-            Call::Price(price) => plan_price(price),
-            Call::Advance(minutes) => self.plan_advance(minutes),
-            Call::Fund(account, coll) => self.plan_fund(account, coll),
-            Call::Take(account, coll) => self.plan_take(account, coll),
-            Call::Send(from, to, lusd) => self.plan_send(from, to, lusd),
-            Call::Open(account, coll, borrow, bound, _) => {
-                self.plan_open(account, coll, borrow, bound)
-            }
-            Call::Adjust(account, coll_in, coll_out, borrow, repay, bound, _) => {
+            Call::Adjust(account, coll_in, coll_out, borrow, repay, bound, words) => {
                 let change = Change {
                     coll_in,
                     coll_out,
                     borrow,
                     repay,
                 };
-                self.plan_adjust(account, &change, bound)
+                ruled(self.plan_adjust(account, &change, bound, words))
             }
-            Call::Close(account) => self.plan_close(account),
-            Call::Provide(account, lusd) => self.plan_provide(account, lusd),
-            Call::Withdraw(account, lusd) => self.plan_withdraw(account, lusd),
-            Call::GainToTrove(account, _) => self.plan_gain_to_trove(account),
-            Call::Liquidate(liquidator, account) => self.plan_liquidate(liquidator, account),
-            Call::Claim(account) => self.plan_claim(account),
+            Call::Close(account) => ruled(self.plan_close(account)),
+            Call::Provide(account, lusd) => ruled(self.plan_provide(account, lusd)),
+            Call::Withdraw(account, lusd) => ruled(self.plan_withdraw(account, lusd)),
+            Call::GainToTrove(account, words) => ruled(self.plan_gain_to_trove(account, words)),
+            Call::Liquidate(liquidator, account) => ruled(self.plan_liquidate(liquidator, account)),
+            Call::LiquidateLowest(liquidator, count) => {
+                self.plan_liquidate_lowest(liquidator, count)
+            }
+            Call::Redeem(account, lusd, bound, words) => {
+                self.plan_redeem(account, lusd, bound, words)
+            }
+            Call::Claim(account) => ruled(self.plan_claim(account)),
             Call::Rotate => Ok(self.plan_rotate()),
-            _ => unreachable!(),
         }
     }
 
@@ -318,77 +309,83 @@ impl Protocol {
         // odd: field read; law called
         let _ = &self.records;
         let Planned { command, forecast } = planned;
-        let Forecast { done, terms, .. } = forecast;
-        match command.call {
-            Call::Liquidate(liquidator, _) | Call::LiquidateLowest(liquidator, _) => {
-                self.apply_liquidate(&command, done, liquidator, terms.victims());
-            }
-            Call::Rotate => self.apply_rotate(&command, done),
-            _ => {
-                self.change(&command.call, &terms, hint, steps);
+        let Forecast { done, effect, .. } = forecast;
+        match &effect {
+            Effect::Move(moved) => {
+                self.change(moved, hint, steps);
                 self.note(&command, done);
             }
+            Effect::Liquidate {
+                liquidator,
+                victims,
+            } => self.apply_liquidate(&command, done, *liquidator, victims.as_slice()),
+            Effect::Rotate => self.apply_rotate(&command, done),
         }
         lists_stand(self);
         done
     }
 
-    /// The effect of a call that is allowed, liquidates no trove and is no rotation.
-    fn change<L: Ledger>(&mut self, call: &Call, terms: &Terms, hint: &Hint, steps: &mut Steps<L>)
-        requires stays { rotates call.now ≡ false }
-        requires strikes_none { liquidates call.now ≡ false }
-        requires range { AllByRecursion (λ account. account < ACCOUNTS) (accounts call.now) }
-        requires allowed { first_refusal (rules (state_of self.old) call.now) ≡ None }
-        requires terms { AreTerms (state_of self.old) call.now terms.now }
-        requires wallets { AllByRecursion (λ account. Contains self.old.room.wallets account)
-            (pays call.now) }
-        requires troves { AllByRecursion (λ account. Contains self.old.room.troves account)
-            (opens call.now) }
-        requires deposits { AllByRecursion (λ account. Contains self.old.room.deposits account)
-            (provides call.now) }
-        requires claims { AreAmong (claimants call.now terms.now) self.old.room.surplus }
-        requires list { length (opens call.now) ≤ self.old.room.list }
-        ensures made { Changes self.old call.now self.new }
-        ensures few { TakesFew self.new.list (used_hint (words_of call.now) hint.now)
-            (entry_put call.now terms.now self.new.list) steps.old steps.new }
+    /// Makes a move that some allowed call makes in this state. It is not yet counted.
+    fn change<L: Ledger>(&mut self, moved: &Move, hint: &Hint, steps: &mut Steps<L>)
+        requires allowed { IsMadeBy (state_of self.old) moved.now (λ call. first_refusal
+            (rules (state_of self.old) call) ≡ None) }
+        requires range { AllByRecursion (λ account. account < ACCOUNTS)
+            (room_to_move moved.now).wallets }
+        requires room { IsWithin (room_to_move moved.now) self.old.room }
+        ensures made { (call : Call) → IsMove (state_of self.old) call moved.now
+            → Changes self.old call self.new }
+        ensures few { TakesFew self.new.list (used_hint (words_in moved.now) hint.now)
+            (entry_put moved.now self.new.list) steps.old steps.new }
         ensures any { steps.new ≤ steps.old + (length self.old.list + 4) }
     {
-        match *call {
-            Call::Price(price) => self.apply_price(price),
-            Call::Advance(minutes) => self.apply_advance(minutes),
-            Call::Fund(account, coll) => self.apply_fund(account, coll),
-            Call::Take(account, coll) => self.apply_take(account, coll),
-            Call::Send(from, to, lusd) => self.apply_send(from, to, lusd),
-            Call::Open(account, _, borrow, _, words) => {
-                let hint = hint_of(&words, hint);
-                self.apply_open(account, borrow, terms.trove(), &hint, steps);
+        match *moved {
+            Move::Price(price) => self.apply_price(price),
+            Move::Advance(minutes) => self.apply_advance(minutes),
+            Move::Fund { account, coll } => self.apply_fund(account, coll),
+            Move::Take { account, coll } => self.apply_take(account, coll),
+            Move::Send { from, to, lusd } => self.apply_send(from, to, lusd),
+            Move::Open {
+                account,
+                borrow,
+                ref plan,
+                ref words,
+            } => {
+                let hint = hint_of(words, hint);
+                self.apply_open(account, borrow, plan, &hint, steps);
             }
-            Call::Adjust(account, coll_in, coll_out, borrow, repay, _, words) => {
-                let change = Change {
-                    coll_in,
-                    coll_out,
-                    borrow,
-                    repay,
-                };
-                let hint = hint_of(&words, hint);
-                self.apply_adjust(account, &change, terms.trove(), &hint, steps);
+            Move::Adjust {
+                account,
+                ref change,
+                ref plan,
+                ref words,
+            } => {
+                let hint = hint_of(words, hint);
+                self.apply_adjust(account, change, plan, &hint, steps);
             }
-            Call::Close(account) => {
-                let (repaid, coll) = terms.closing();
-                self.apply_close(account, repaid, coll);
+            Move::Close {
+                account,
+                repaid,
+                coll,
+            } => self.apply_close(account, repaid, coll),
+            Move::Provide { account, lusd } => self.apply_provide(account, lusd),
+            Move::Withdraw { account, lusd } => self.apply_withdraw(account, lusd),
+            Move::GainToTrove {
+                account,
+                ref plan,
+                ref words,
+            } => {
+                let hint = hint_of(words, hint);
+                self.apply_gain_to_trove(account, plan, &hint, steps);
             }
-            Call::Provide(account, lusd) => self.apply_provide(account, lusd),
-            Call::Withdraw(account, lusd) => self.apply_withdraw(account, lusd),
-            Call::GainToTrove(account, words) => {
-                let hint = hint_of(&words, hint);
-                self.apply_gain_to_trove(account, terms.trove(), &hint, steps);
+            Move::Redeem {
+                account,
+                ref plan,
+                ref words,
+            } => {
+                let hint = hint_of(words, hint);
+                self.apply_redeem(account, plan, &hint, steps);
             }
-            Call::Claim(account) => self.apply_claim(account),
-            Call::Redeem(account, _, _, words) => {
-                let hint = hint_of(&words, hint);
-                self.apply_redeem(account, terms.redemption(), &hint, steps);
-            }
-            _ => unreachable!(),
+            Move::Claim { account } => self.apply_claim(account),
         }
     }
 
@@ -432,5 +429,15 @@ fn hint_of(words: &HintWords, given: &Hint) -> Hint
         prev: words.prev,
         next: words.next,
         version: given.version,
+    }
+}
+
+/// The same of a call that plans no list, for which there is always memory.
+fn ruled(planned: Result<Forecast, Refusal>) -> Result<Forecast, PlanFault>
+    ensures { (s : State) → (call : Call) → IsRuled s call planned → Forecasts s call result }
+{
+    match planned {
+        Ok(forecast) => Ok(forecast),
+        Err(refusal) => Err(PlanFault::No(refusal)),
     }
 }

@@ -16,9 +16,11 @@ ghost use Rattle.liq_rule_step.specs.Verbs.{rotates};
 ghost use Rattle.liq_core_lowest.specs.Lowest.{AreLowest, IsNoPlan};
 ghost use Rattle.liq_core_lowest.specs.Victims.{AreVictims, course_of};
 
+use crate::effects::{Effect, Victims};
 use crate::engine::Protocol;
+use crate::kinds;
 use crate::told::{ListChanges, PoolEvents};
-use crate::turns::{Forecast, PlanFault, Terms};
+use crate::turns::{Forecast, PlanFault};
 use liq_core_lowest::{CallEvents, Course, lowest_done, plan_victims, reserve_owners, strike};
 use liq_liquidation::{LowestFault, One, Victim, plan_one};
 use liq_stability::Stability;
@@ -37,7 +39,7 @@ impl Protocol {
         let event = course.pass(self.stake(account), &one);
         Ok(Forecast {
             done: Done {
-                kind: 12,
+                kind: kinds::LIQUIDATE,
                 values: [
                     one.gas,
                     one.offset_debt,
@@ -47,7 +49,10 @@ impl Protocol {
                     one.surplus,
                 ],
             },
-            terms: Terms::Victim([Victim { account, one }]),
+            effect: Effect::Liquidate {
+                liquidator,
+                victims: Victims::One([Victim { account, one }]),
+            },
             events: PoolEvents::of(event),
             changes: ListChanges::Two([ListChange::Gone { account }, course.list_words()]),
         })
@@ -75,7 +80,10 @@ impl Protocol {
         };
         Ok(Forecast {
             done: lowest_done(victims.as_slice()),
-            terms: Terms::Victims(victims),
+            effect: Effect::Liquidate {
+                liquidator,
+                victims: Victims::Many(victims),
+            },
             events: PoolEvents::Many(told.events),
             changes: ListChanges::Many(told.changes),
         })

@@ -8,7 +8,9 @@ ghost use Rattle.liq_core.specs.Core.{Changes, state_of};
 ghost use Rattle.liq_rule_step.specs.Step.{rules, first_refusal};
 ghost use Rattle.liq_core.specs.Turn.{IsRuled};
 
+use crate::effects::{Effect, Move};
 use crate::engine::Protocol;
+use crate::kinds;
 use crate::turns::Forecast;
 use liq_types::amounts::{ACCOUNTS, MINUTE_MOST, PRICE_LEAST, PRICE_MOST};
 use liq_types::{Done, Refusal, Wallet};
@@ -31,10 +33,11 @@ impl Protocol {
             let limit = MINUTE_MOST;
             return Err(Refusal::AmountLimit { sum, limit });
         }
-        Ok(Forecast::plain(Done {
-            kind: 2,
+        let done = Done {
+            kind: kinds::ADVANCE,
             values: [self.minute + minutes, 0, 0, 0, 0, 0],
-        }))
+        };
+        Ok(Forecast::plain(done, Effect::Move(Move::Advance(minutes))))
     }
 
     pub(crate) fn plan_fund(&self, account: u32, coll: u64) -> Result<Forecast, Refusal>
@@ -42,7 +45,10 @@ impl Protocol {
     {
         match self.current().no_inflow(self.brought, coll) {
             Some(refusal) => Err(refusal),
-            None => Ok(Forecast::plain(done(3))),
+            None => {
+                let fund = Move::Fund { account, coll };
+                Ok(Forecast::plain(done(kinds::FUND), Effect::Move(fund)))
+            }
         }
     }
 
@@ -56,7 +62,8 @@ impl Protocol {
         if have < coll {
             return Err(Refusal::ShortCollateral { need: coll, have });
         }
-        Ok(Forecast::plain(done(4)))
+        let take = Move::Take { account, coll };
+        Ok(Forecast::plain(done(kinds::TAKE), Effect::Move(take)))
     }
 
     pub(crate) fn plan_send(&self, from: u32, to: u32, lusd: u64) -> Result<Forecast, Refusal>
@@ -69,7 +76,8 @@ impl Protocol {
         if have < lusd {
             return Err(Refusal::ShortTokens { need: lusd, have });
         }
-        Ok(Forecast::plain(done(5)))
+        let send = Move::Send { from, to, lusd };
+        Ok(Forecast::plain(done(kinds::SEND), Effect::Move(send)))
     }
 
     /// Sets the price.
@@ -111,10 +119,7 @@ impl Protocol {
         ensures { Changes self.old (call.Take account coll) self.new }
     {
         self.brought -= coll;
-        match self.wallets.take(account, coll) {
-            Ok(()) => {}
-            Err(_) => unreachable!(),
-        }
+        self.wallets.take(account, coll).unwrap();
     }
 
     /// LUSD from one wallet into another, which may be the same.
@@ -127,10 +132,7 @@ impl Protocol {
         requires enough { lusd ≤ (wallet_of (state_of self.old) from).lusd }
         ensures { Changes self.old (call.Send from to lusd) self.new }
     {
-        match self.wallets.send(from, to, lusd) {
-            Ok(()) => {}
-            Err(_) => unreachable!(),
-        }
+        self.wallets.send(from, to, lusd).unwrap();
     }
 }
 
@@ -141,7 +143,8 @@ pub(crate) fn plan_price(price: u64) -> Result<Forecast, Refusal>
     if price < PRICE_LEAST || price > PRICE_MOST {
         return Err(Refusal::PriceRange { price });
     }
-    Ok(Forecast::plain(done(1)))
+    let effect = Effect::Move(Move::Price(price));
+    Ok(Forecast::plain(done(kinds::PRICE), effect))
 }
 
 /// A reply without values.

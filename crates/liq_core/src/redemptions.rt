@@ -14,15 +14,17 @@ ghost use Rattle.liq_core.specs.Core.{AreAmong, Changes, state_of};
 ghost use Rattle.liq_rule_step.specs.Redemption.{cut_told};
 ghost use Rattle.liq_rule_sound.specs.SoundState.{CutIsCovered};
 ghost use Rattle.liq_rule_step.specs.Step.{rules, first_refusal};
-ghost use Rattle.liq_core.specs.Terms.{closed};
+ghost use Rattle.liq_core.specs.Effects.{closed};
 ghost use Rattle.liq_core.specs.Turn.{Forecasts};
 
+use crate::effects::{Effect, Move};
 use crate::engine::Protocol;
+use crate::kinds;
 use crate::told::{ListChanges, PoolEvents};
-use crate::turns::{Forecast, PlanFault, Terms};
+use crate::turns::{Forecast, PlanFault};
 use liq_redemption::{Cut, RedeemFault, RedeemPlan, apply, plan};
 use liq_types::amounts::ACCOUNTS;
-use liq_types::{Done, Hint, ListChange, NoMemory, Steps};
+use liq_types::{Done, Hint, HintWords, ListChange, NoMemory, Steps};
 use std::sync::ledger::Ledger;
 
 impl Protocol {
@@ -32,9 +34,9 @@ impl Protocol {
         account: u32,
         lusd: u64,
         bound: u64,
+        words: HintWords,
     ) -> Result<Forecast, PlanFault>
-        ensures { (hint : HintWords)
-            → Forecasts (state_of self.now) (call.Redeem account lusd bound hint) result }
+        ensures { Forecasts (state_of self.now) (call.Redeem account lusd bound words) result }
     {
         // odd: field read
         let _ = &self.records;
@@ -49,7 +51,7 @@ impl Protocol {
         };
         Ok(Forecast {
             done: Done {
-                kind: 14,
+                kind: kinds::REDEEM,
                 values: [
                     taken.redeemed,
                     taken.drawn,
@@ -59,7 +61,11 @@ impl Protocol {
                     0,
                 ],
             },
-            terms: Terms::Redeem(taken),
+            effect: Effect::Move(Move::Redeem {
+                account,
+                plan: taken,
+                words,
+            }),
             events: PoolEvents::Nothing,
             changes: ListChanges::Many(changes),
         })

@@ -1,15 +1,16 @@
 //! Room for what planned commands write, so that writing takes no memory.
 
-ghost use Rattle.std.specs.Prelude.{◌≡◌, ◌≤◌, IsOk, OnOk};
+ghost use Rattle.std.specs.Prelude.{◌≤◌, IsOk, OnOk};
 ghost use Rattle.std.specs.List.{Contains};
 ghost use Rattle.liq_core.specs.Core.{AreAmong, IsWithin, SameContent};
-ghost use Rattle.liq_core.specs.Plan.{HasRoom, room_of_call};
-ghost use Rattle.liq_core.specs.Terms.{TermsFit, closed};
+ghost use Rattle.liq_core.specs.Effects.{closed, room_of, room_to_move};
+ghost use Rattle.liq_core.specs.Plan.{HasRoom};
 
+use crate::effects::{Effect, Move};
 use crate::engine::Protocol;
-use crate::turns::{Planned, Terms};
+use crate::turns::Planned;
 use liq_redemption::RedeemPlan;
-use liq_types::{Call, NoMemory};
+use liq_types::NoMemory;
 
 impl Protocol {
     /// Makes room for what the planned command writes, so that [`Protocol::apply`] takes no memory.
@@ -22,33 +23,45 @@ impl Protocol {
         ensures had { HasRoom self.old planned.now → IsOk result }
     {
         self.reserve_client(planned.command.client)?;
-        self.reserve_call(&planned.command.call, &planned.forecast.terms)
+        self.reserve_effect(&planned.forecast.effect)
     }
 
-    /// Room for what a call writes. A rotation writes its client's row alone.
-    fn reserve_call(&mut self, call: &Call, terms: &Terms) -> Result<(), NoMemory>
-        requires { TermsFit call.now terms.now }
+    /// Room for what a command writes beside its client's row, which is all that a rotation writes.
+    fn reserve_effect(&mut self, effect: &Effect) -> Result<(), NoMemory>
         ensures same { SameContent self.old self.new }
-        ensures room { OnOk result (IsWithin (room_of_call call.now terms.now) self.new.room) }
+        ensures room { OnOk result (IsWithin (room_of effect.now) self.new.room) }
         ensures kept { IsWithin self.old.room self.new.room }
-        ensures had { IsWithin (room_of_call call.now terms.now) self.old.room → IsOk result }
+        ensures had { IsWithin (room_of effect.now) self.old.room → IsOk result }
     {
-        match *call {
-            Call::Price(_) | Call::Advance(_) | Call::Rotate => Ok(()),
-            Call::Fund(account, _)
-            | Call::Take(account, _)
-            | Call::Adjust(account, ..)
-            | Call::Close(account)
-            | Call::Withdraw(account, _)
-            | Call::GainToTrove(account, _)
-            | Call::Claim(account) => self.reserve_wallet(account),
-            Call::Send(from, to, _) => self.reserve_wallets(from, to),
-            Call::Open(account, ..) => self.reserve_trove(account),
-            Call::Provide(account, _) => self.reserve_deposit(account),
-            Call::Liquidate(liquidator, _) | Call::LiquidateLowest(liquidator, _) => {
-                self.reserve_liquidation(liquidator, terms.victims())
-            }
-            Call::Redeem(account, ..) => self.reserve_redemption(account, terms.redemption()),
+        match effect {
+            Effect::Move(moved) => self.reserve_move(moved),
+            Effect::Liquidate {
+                liquidator,
+                victims,
+            } => self.reserve_liquidation(*liquidator, victims.as_slice()),
+            Effect::Rotate => Ok(()),
+        }
+    }
+
+    fn reserve_move(&mut self, moved: &Move) -> Result<(), NoMemory>
+        ensures same { SameContent self.old self.new }
+        ensures room { OnOk result (IsWithin (room_to_move moved.now) self.new.room) }
+        ensures kept { IsWithin self.old.room self.new.room }
+        ensures had { IsWithin (room_to_move moved.now) self.old.room → IsOk result }
+    {
+        match moved {
+            Move::Price(_) | Move::Advance(_) => Ok(()),
+            Move::Fund { account, .. }
+            | Move::Take { account, .. }
+            | Move::Adjust { account, .. }
+            | Move::Close { account, .. }
+            | Move::Withdraw { account, .. }
+            | Move::GainToTrove { account, .. }
+            | Move::Claim { account } => self.reserve_wallet(*account),
+            Move::Send { from, to, .. } => self.reserve_wallets(*from, *to),
+            Move::Open { account, .. } => self.reserve_trove(*account),
+            Move::Provide { account, .. } => self.reserve_deposit(*account),
+            Move::Redeem { account, plan, .. } => self.reserve_redemption(*account, plan),
         }
     }
 

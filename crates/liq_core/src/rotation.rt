@@ -15,8 +15,10 @@ ghost use Rattle.liq_core.specs.Turn.{IsRuled};
 ghost use Rattle.liq_rule_step.specs.Image.{image};
 ghost use Rattle.liq_rule_step.specs.Step.{Allowed, after, done_of, first_refusal, room_rules, ruling};
 
+use crate::effects::Effect;
 use crate::engine::Protocol;
 use crate::image::client_rows;
+use crate::kinds;
 use crate::turns::{Forecast, Planned};
 use liq_core_limits::clients_with;
 use liq_tables::Reserved;
@@ -28,10 +30,11 @@ impl Protocol {
     pub(crate) fn plan_rotate(&self) -> Forecast
         ensures { IsRuled (state_of self.now) Rotate (Ok result) }
     {
-        Forecast::plain(Done {
-            kind: 16,
+        let done = Done {
+            kind: kinds::ROTATE,
             values: [self.current().next().number, 0, 0, 0, 0, 0],
-        })
+        };
+        Forecast::plain(done, Effect::Rotate)
     }
 
     /// Why the journal takes a command no more. A rotation needs one more generation and room for

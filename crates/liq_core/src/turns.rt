@@ -1,106 +1,37 @@
 //! What planning a command gives: a reply that was kept, or what the step will make and how it will
 //! be answered.
 
-ghost use Rattle.std.specs.Prelude.{◌≡◌, true};
-ghost use Rattle.liq_core.specs.declared.turns.Terms.TheVariants as terms;
-ghost use Rattle.liq_core.specs.Terms.{is_trove, is_closing, is_redeeming, victims_in};
+ghost use Rattle.std.specs.Prelude.{◌≡◌};
 ghost use Rattle.liq_core.specs.declared.told.PoolEvents.TheVariants as events;
 ghost use Rattle.liq_core.specs.declared.told.ListChanges.TheVariants as changes;
 
+use crate::effects::Effect;
 use crate::told::{ListChanges, PoolEvents};
-use liq_borrow::Plan;
-use liq_liquidation::Victim;
-use liq_redemption::RedeemPlan;
 use liq_types::{Command, Done, ListChange, PoolEvent, Refusal};
 use std::marker::Model;
 
-/// What a planned call makes of what it changes, where its words alone do not say it.
-#[derive(Drop)]
-pub(crate) enum Terms {
-    /// The words say all.
-    Words,
-    /// What the account's trove then has.
-    Trove(Plan),
-    /// LUSD that is repaid (micro-LUSD) and collateral that is returned (gwei).
-    Closing { repaid: u64, coll: u64 },
-    /// The trove that is liquidated.
-    Victim([Victim; 1]),
-    /// The troves that are liquidated, in order.
-    Victims(Vec<Victim>),
-    /// What is taken of each trove, and what it comes to.
-    Redeem(RedeemPlan),
-}
-
-impl Terms {
-    /// What the account's trove then has.
-    pub(crate) fn trove(&self) -> &Plan
-        requires { is_trove self.now ≡ true }
-        ensures { self.now ≡ terms.Trove result.now }
-    {
-        match self {
-            Terms::Trove(plan) => plan,
-            _ => unreachable!(),
-        }
-    }
-
-    /// LUSD that is repaid (micro-LUSD) and collateral that is returned (gwei).
-    pub(crate) fn closing(&self) -> (u64, u64)
-        requires { is_closing self.now ≡ true }
-        ensures { self.now ≡ terms.Closing result.0 result.1 }
-    {
-        match *self {
-            Terms::Closing { repaid, coll } => (repaid, coll),
-            _ => unreachable!(),
-        }
-    }
-
-    /// The troves that are liquidated, in order.
-    pub(crate) fn victims(&self) -> &[Victim]
-        ensures { result.now ≡ victims_in self.now }
-    {
-        match self {
-            Terms::Victim(victim) => victim,
-            Terms::Victims(victims) => victims,
-            _ => &[],
-        }
-    }
-
-    /// What a redemption takes of each trove, and what it comes to.
-    pub(crate) fn redemption(&self) -> &RedeemPlan
-        requires { is_redeeming self.now ≡ true }
-        ensures { self.now ≡ terms.Redeem result.now }
-    {
-        match self {
-            Terms::Redeem(plan) => plan,
-            _ => unreachable!(),
-        }
-    }
-}
-
-/// What an allowed call comes to: its reply, what it makes of what it changes, and what others
-/// follow.
+/// What an allowed call comes to: its reply, what it does, and what others follow of it.
 #[derive(Drop)]
 pub(crate) struct Forecast {
     pub(crate) done: Done,
-    pub(crate) terms: Terms,
+    pub(crate) effect: Effect,
     pub(crate) events: PoolEvents,
     pub(crate) changes: ListChanges,
 }
 
 impl Forecast {
-    /// The forecast of a call whose words say all, and that changes neither the Stability Pool nor
-    /// the list.
-    pub(crate) fn plain(done: Done) -> Forecast
+    /// The forecast of a call that changes neither the Stability Pool nor the list.
+    pub(crate) fn plain(done: Done, effect: Effect) -> Forecast
         ensures { result ≡ record {
           done = done;
-          terms = terms.Words;
+          effect = effect;
           events = events.Nothing;
           changes = changes.Nothing;
         } }
     {
         Forecast {
             done,
-            terms: Terms::Words,
+            effect,
             events: PoolEvents::Nothing,
             changes: ListChanges::Nothing,
         }

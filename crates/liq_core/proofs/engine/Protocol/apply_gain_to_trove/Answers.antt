@@ -1,15 +1,13 @@
-use Rattle.std.proofs.Common.{◌≡◌, sym, ◌∙◌, ap, arith, length}
+use Rattle.std.proofs.Common.{sym, ◌∙◌, ap, arith, length}
 use Rattle.liq_core.specs.Core.{Core}
-use Rattle.std.specs.Prelude.{Result, Ok, Err}
+use Rattle.liq_core.proofs.Answered.{if_value, is_value}
 use Rattle.liq_core.proofs.Depositing.{moves_so, move_answer, move_changes, move_sound}
 use Rattle.liq_core.proofs.Lending.{books_stand, coll_held, debt_held}
 use Rattle.liq_core.proofs.engine.Protocol.apply_gain_to_trove.Goals as goal
 
-refused_not : {A B : Type 0} (r : Result A B) (e : B) (x : A) → r ≡ Err e → r ≡ Ok x → ⊥
-refused_not r e x is not = cc
-
-pub unreachable-requires : goal.unreachable-requires
-unreachable-requires g c = refused_not c.withdraw.result _ _ c.in-Err.is (c.withdraw.ensures.answer
+pub unwrap-requires : goal.unwrap-requires
+unwrap-requires g c =
+    is_value c.withdraw.result _ (c.withdraw.ensures.answer
     ∙ move_answer c.self.inside c.args.self.now c.self.view_is c.self.invariant c.args.account c.args.plan.now
     c.requires.range c.requires.terms c.requires.allowed)
 
@@ -51,17 +49,21 @@ pub invariant_of-self : goal.invariant_of-self
 invariant_of-self g c =
     move_sound c.self.inside c.args.self.now c.self.view_is c.self.invariant c.args.account c.args.plan.now
     c.requires.range c.requires.terms c.requires.allowed
-    c.in-Ok.field-0 (sym c.withdraw.ensures.answer ∙ c.in-Ok.is) c.withdraw.new.self c.change_trove.new.pools
-    c.change_trove.new.troves c.change_trove.new.order c.in-Ok.ensures.words c.in-Ok.ensures.finished
-    c.in-Ok.ensures.deposits c.change_trove.ensures.books c.change_trove.ensures.others c.change_trove.ensures.list
+    c.unwrap.result (sym c.withdraw.ensures.answer ∙ c.unwrap.ensures) c.withdraw.new.self c.change_trove.new.pools
+    c.change_trove.new.troves c.change_trove.new.order
+    (if_value _ c.withdraw.result c.unwrap.result c.unwrap.ensures c.withdraw.ensures.words) c.withdraw.ensures.finished
+    (if_value _ c.withdraw.result c.unwrap.result c.unwrap.ensures c.withdraw.ensures.deposits)
+    c.change_trove.ensures.books c.change_trove.ensures.others c.change_trove.ensures.list
 
 pub returns-clause-made : goal.returns-clause-made
 returns-clause-made g c =
     move_changes c.self.inside c.args.self.now c.self.view_is c.self.invariant c.args.account c.args.plan.now
     c.requires.range c.requires.terms c.requires.allowed
-    c.in-Ok.field-0 (sym c.withdraw.ensures.answer ∙ c.in-Ok.is) c.withdraw.new.self c.change_trove.new.pools
-    c.change_trove.new.troves c.change_trove.new.order c.in-Ok.ensures.words c.in-Ok.ensures.finished
-    c.in-Ok.ensures.deposits c.change_trove.ensures.books c.change_trove.ensures.others
+    c.unwrap.result (sym c.withdraw.ensures.answer ∙ c.unwrap.ensures) c.withdraw.new.self c.change_trove.new.pools
+    c.change_trove.new.troves c.change_trove.new.order
+    (if_value _ c.withdraw.result c.unwrap.result c.unwrap.ensures c.withdraw.ensures.words) c.withdraw.ensures.finished
+    (if_value _ c.withdraw.result c.unwrap.result c.unwrap.ensures c.withdraw.ensures.deposits)
+    c.change_trove.ensures.books c.change_trove.ensures.others
 
 pub returns-clause-any : goal.returns-clause-any
 returns-clause-any g c =

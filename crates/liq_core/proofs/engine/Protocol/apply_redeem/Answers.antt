@@ -1,7 +1,7 @@
 use Rattle.std.proofs.Common.{sym, subst, ap, arith, length}
 use Rattle.std.specs.List.{Contains}
 use Rattle.liq_core.specs.Core.{AreAmong, Core}
-use Rattle.liq_core.specs.Terms.{closed}
+use Rattle.liq_core.specs.Effects.{closed}
 use Rattle.liq_core.proofs.Rooms.{among_closed}
 use Rattle.liq_core.proofs.Redeeming.{redeem_parts, redeem_planned, wallets_ascend, redeem_changes, redeem_sound}
 use Rattle.liq_core.proofs.engine.Protocol.apply_redeem.Goals as goal

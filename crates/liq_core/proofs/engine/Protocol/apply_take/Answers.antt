@@ -1,8 +1,9 @@
-use Rattle.std.proofs.Common.{subst, sym, arith}
+use Rattle.std.proofs.Common.{subst, sym, ◌∙◌, arith}
 use Rattle.std.specs.Prelude.{◌≤◌}
 use Rattle.liq_types.specs.State.{wallet_in}
 use Rattle.liq_core.specs.Core.{Core}
 use Rattle.liq_core.specs.Sound.{core_of}
+use Rattle.liq_core.proofs.Answered.{is_value, on_value}
 use Rattle.liq_core.proofs.Paying.{charge_passes, taken, taken_sound}
 use Rattle.liq_core.proofs.SoundCores.{wallet_coll}
 use Rattle.liq_core.proofs.engine.Protocol.apply_take.Goals as goal
@@ -17,16 +18,16 @@ overflow_sub-self c =
 pub invariant_of-self : goal.invariant_of-self
 invariant_of-self c =
     taken_sound c.self.inside c.args.self.now c.self.view_is c.self.invariant c.args.account c.args.coll _
-    c.requires.range c.requires.allowed c.in-Ok.ensures.moved
+    c.requires.range c.requires.allowed (on_value _ c.take.result c.unwrap.result c.unwrap.ensures c.take.ensures.moved)
 
 pub returns : goal.returns
 returns c = taken c.self.inside c.args.self.now c.self.view_is c.self.invariant c.args.account c.args.coll _
-    c.in-Ok.ensures.moved
+    (on_value _ c.take.result c.unwrap.result c.unwrap.ensures c.take.ensures.moved)
 
-pub unreachable-requires : goal.unreachable-requires
-unreachable-requires c =
+pub unwrap-requires : goal.unwrap-requires
+unwrap-requires c =
     let enough = subst (λ (core : Core). c.args.coll ≤ (wallet_in core.image.wallets c.args.account).coll)
     (sym c.self.view_is) c.requires.enough in
     let passes = charge_passes (wallet_in c.self.inside.wallets.rows c.args.account) c.args.coll 0 enough
     (omega arith) in
-    cc (c.take.ensures.refused, c.in-Err.is)
+    is_value c.take.result tt (c.take.ensures.refused ∙ passes)

@@ -9,7 +9,7 @@ use Rattle.liq_core.specs.Turn.{ForecastsCall}
 use Rattle.liq_rule_step.specs.Verbs.{accounts}
 use Rattle.liq_rule_step.proofs.AlikeLists.{plans_list_alike}
 use Rattle.liq_rule_step.proofs.Ruled.{accounts_within, allowed_call, refused_call, refused_room}
-use Rattle.liq_core.proofs.Stands.{planned_alike, standing_alike, standing_ruling, terms_fit}
+use Rattle.liq_core.proofs.Stands.{planned_alike, standing_alike, standing_ruling}
 use Rattle.liq_core.proofs.engine.Protocol.plan.Goals as goal
 
 pub returns-in-Ok-Some : goal.returns-in-Ok-Some
@@ -66,7 +66,6 @@ invariant_of-result c =
     record {
       client = (rw c.in-Ok-None.field-0-is at c.in-Ok-None.ensures).0;
       accounts = accounts_within (accounts call) (rules (state_of c.args.self.now) call) c.in-Ok.ensures.0;
-      terms = terms_fit (state_of c.args.self.now) call c.in-Ok.forecast.terms c.in-Ok.ensures.1.terms;
     }
 
 pub returns : goal.returns

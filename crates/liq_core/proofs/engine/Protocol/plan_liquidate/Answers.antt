@@ -1,5 +1,6 @@
 use Rattle.std.proofs.Common.{[], ◌∷◌, refl, sym, ◌∙◌, subst, arith}
 use Rattle.liq_liquidation.specs.declared.one.Victim.{Victim}
+use Rattle.liq_core.specs.declared.effects.Victims.TheVariants as victims
 use Rattle.liq_core.specs.Core.{Core, state_of}
 use Rattle.liq_rule_sound.specs.SoundState.{IsSoundState}
 use Rattle.liq_core.proofs.Planning.{liquidate_ruled}
@@ -32,7 +33,7 @@ returns c =
     let made = sym c.one.ensures ∙ c.in_ok-one.was in
     let later = course_at s sound (v ∷ []) (made, tt) (omega arith) 0 (omega arith) c.stake.result c.stake.ensures
     c.course-course.result c.pass-event.new.self c.course-course.ensures c.pass-event.ensures.after in
-    liquidate_ruled s c.args.liquidator c.args.account c.in_ok-one.one made _ refl refl
+    liquidate_ruled s c.args.liquidator c.args.account c.in_ok-one.one made _ (victims.One (v ∷ [])) refl refl refl
     (events_at s sound (v ∷ []) (made, tt) (omega arith) 0 (omega arith) c.course-course.result c.course-course.ensures
     c.pass-event.result c.pass-event.ensures.event [] _ refl c.of.ensures)
     (changes_at s sound (v ∷ []) (made, tt) (omega arith) 0 (omega arith) c.pass-event.new.self later

@@ -2,6 +2,7 @@ use Rattle.std.proofs.Common.{◌<◌, ◌≤◌, ◌^◌, List, length, refl, a
 use Rattle.std.specs.Prelude.{sum_by}
 use Rattle.liq_types.specs.declared.amounts.TheConstants.{LOWEST_MOST}
 use Rattle.liq_liquidation.specs.declared.one.Victim.{Victim}
+use Rattle.liq_core.specs.declared.effects.Victims.TheVariants as victims
 use Rattle.liq_core.specs.Core.{Core, state_of}
 use Rattle.liq_rule_step.specs.Liquidation.{lowest_values, offset_events, victim_changes}
 use Rattle.liq_rule_step.specs.Rules.{six}
@@ -54,10 +55,10 @@ pub returns : goal.returns
 returns c =
     let s = state_of c.args.self.now in
     let vs = c.in-Ok.victims.items in
-    lowest_ruled s c.args.liquidator c.args.count vs c.in-Ok.ensures _
+    lowest_ruled s c.args.liquidator c.args.count vs c.in-Ok.ensures _ (victims.Many c.in-Ok.victims)
     (c.lowest_done.ensures ∙ ap (λ (l : List Victim). record { kind = 13; values = six (lowest_values l) })
     c.as_slice-2.ensures.value)
-    refl
+    refl refl
     (c.in-Ok-told.ensures.events ∙ ap (λ (l : List Victim). offset_events s l) c.as_slice.ensures.value)
     (c.in-Ok-told.ensures.changes ∙ ap (λ (l : List Victim). victim_changes s l) c.as_slice.ensures.value)
 

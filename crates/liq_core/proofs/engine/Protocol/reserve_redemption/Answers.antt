@@ -1,7 +1,7 @@
 use Rattle.std.proofs.Common.{arith, sym, subst}
 use Rattle.std.specs.List.{Contains}
 use Rattle.liq_core.specs.Core.{AreAmong, Core}
-use Rattle.liq_core.specs.Terms.{closed}
+use Rattle.liq_core.specs.Effects.{closed}
 use Rattle.liq_core.proofs.Rooms.{among_closed, closed_among, on_ok, room_kept}
 use Rattle.liq_core.proofs.engine.Protocol.reserve_redemption.Goals as goal
 
