@@ -6,20 +6,20 @@ ghost use Rattle.liq_types.specs.declared.requests.Request.TheVariants.{Do};
 ghost use Rattle.liq_core.specs.Core.{SameContent, StandsFor, state_of};
 ghost use Rattle.liq_core.specs.Plan.{HasRoom, IsPlannedOn};
 ghost use Rattle.liq_rule_step.specs.Step.{step};
-ghost use Rattle.liq_store.specs.Preparing.{HasRoomBehind, IsGuided, IsPrepared, IsReady};
+ghost use Rattle.liq_store.specs.Preparing.{HasRoomBehind, IsGuided, IsHinted, IsPrepared, IsReady};
 
 use liq_core::laws::protocols_stand;
 use liq_core::{PlanFault, Planned, Turn, unhinted};
-use liq_core_hinted::{Guided, Hints};
+use liq_core_hinted::{Guided, Hints, words_of};
 use liq_types::{Command, Done, Hint, ListChange, Refusal, Steps};
 use std::sync::ledger::{Blank, Ledger};
 
 // What comes of a command before anything is written.
 #[derive(Drop)]
 pub enum Prepared {
-    // It is planned, and there is room for it. The guide says between whom the account will stand
-    // that it puts last, if it puts any.
-    Ready(Planned, Option<Hint>),
+    // It is planned, and there is room for it. Of its hints the guide's says between whom the
+    // account will stand that it puts last, if it puts any.
+    Ready(Planned, Hints),
     // It comes again, and makes no step.
     Again(Done),
     // It is refused, and makes none.
@@ -30,13 +30,19 @@ pub enum Prepared {
 // Plans a command without its own hint words, which change nothing but how far the list is walked,
 // and makes room for it, also behind the changes that others follow. What is seen of these and of
 // the protocol stays.
-pub fn prepare(protocol: &mut Guided, changes: &mut Vec<ListChange>, command: &Command) -> Prepared
+pub fn prepare(
+    protocol: &mut Guided,
+    changes: &mut Vec<ListChange>,
+    command: &Command,
+    given: &Hint,
+) -> Prepared
     ensures same { SameContent protocol.old protocol.new }
     ensures changes { changes.new.items ≡ changes.old.items }
     ensures prepared { (s : State) → StandsFor protocol.old s → IsPrepared s command.now result }
     ensures ready { IsReady command.now protocol.new result }
     ensures room { HasRoomBehind (vec_len changes.new) (vec_capacity changes.new) result }
     ensures exact { IsGuided protocol.old.list result }
+    ensures hints { IsHinted command.now given.now result }
     ensures stands { StandsFor protocol.old (state_of protocol.old) }
 {
     // odd: law called
@@ -53,7 +59,14 @@ pub fn prepare(protocol: &mut Guided, changes: &mut Vec<ListChange>, command: &C
         return Prepared::NoMemory;
     };
     match protocol.reserve(&planned) {
-        Ok(exact) => Prepared::Ready(planned, exact),
+        Ok(exact) => {
+            let hints = Hints {
+                exact,
+                words: words_of(&command.call),
+                given: *given,
+            };
+            Prepared::Ready(planned, hints)
+        }
         Err(_) => Prepared::NoMemory,
     }
 }

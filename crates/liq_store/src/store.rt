@@ -44,7 +44,7 @@ use crate::rotating::checkpoint_after;
 use crate::standing::{Stood, stand};
 use crate::telling::{clear, note};
 use liq_core::Protocol;
-use liq_core_hinted::{Guided, Hints, words_of};
+use liq_core_hinted::Guided;
 use liq_disk_pair::Side;
 use liq_disk_records::{AcceptedFault, begin_generation, later_side, write_record};
 use liq_journal::Journal;
@@ -239,16 +239,11 @@ impl<D: Disk> Store<D> {
             Request::Do(command) => command,
             Request::Ask(_) => unreachable!(),
         };
-        let (planned, exact) = match prepare(&mut self.protocol, &mut self.changes, command) {
-            Prepared::Ready(planned, exact) => (planned, exact),
+        let (planned, hints) = match prepare(&mut self.protocol, &mut self.changes, command, hint) {
+            Prepared::Ready(planned, hints) => (planned, hints),
             Prepared::Again(done) => return Answer::Reply(Reply::Said(done)),
             Prepared::No(refusal) => return Answer::Reply(Reply::No(refusal)),
             Prepared::NoMemory => return Answer::NoMemory,
-        };
-        let hints = Hints {
-            exact,
-            words: words_of(&command.call),
-            given: *hint,
         };
         if let Call::Rotate = command.call {
             let Ok(checkpoint) = checkpoint_after(self.alloc, self.protocol.protocol(), &planned)
