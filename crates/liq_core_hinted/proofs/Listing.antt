@@ -1,8 +1,7 @@
 -- The list of a protocol: how it stands, what becomes of it, and how it is told.
-use Rattle.std.proofs.Common.{◌≡◌, Bool, true, false, List, [], ◌∷◌, ◌++◌, map, refl, sym, ap, subst, ◌∙◌}
+use Rattle.std.proofs.Common.{◌≡◌, Bool, true, false, List, [], ◌∷◌, map, refl, sym, ap, subst, ◌∙◌}
 use Rattle.std.specs.Prelude.{filter_map}
 use Rattle.liq_types.specs.declared.events.ListChange.{ListChange}
-use Rattle.liq_types.specs.declared.events.ListChange.TheVariants.{Words}
 use Rattle.liq_types.specs.declared.image.Image.{Image}
 use Rattle.liq_types.specs.declared.requests.Request.TheVariants.{Do}
 use Rattle.liq_types.specs.Ranked.{Ranked, IsAscending}

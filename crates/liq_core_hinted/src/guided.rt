@@ -1,8 +1,9 @@
 //! A protocol, and beside it the guide of its ordered list, which is never let go.
 
-ghost use Rattle.std.specs.Prelude.{◌≡◌, ◌≤◌, ◌+◌, ℕ, false, length, IfOk, OnOk};
+ghost use Rattle.std.specs.Prelude.{◌≡◌, ◌≤◌, ◌+◌, ℕ, length, IfOk, OnErr, OnOk};
 ghost use Rattle.liq_types.specs.Image.{IsLimit};
 ghost use Rattle.liq_types.specs.State.{State, opening_with};
+ghost use Rattle.liq_types.specs.declared.requests.Command.{Command};
 ghost use Rattle.liq_types.specs.declared.replies.Reply.TheVariants.{Said};
 ghost use Rattle.liq_types.specs.declared.requests.Request.TheVariants.{Do, Ask};
 ghost use Rattle.liq_core.specs.Core.{SameContent, StandsFor};
@@ -11,16 +12,14 @@ ghost use Rattle.liq_core.specs.Steps.{last_put, used_hint, words_of};
 ghost use Rattle.liq_list_index.specs.Followed.{all_listed};
 ghost use Rattle.liq_trove_moves.specs.Steps.{TakesFew};
 ghost use Rattle.liq_core.specs.Turn.{Plans};
-ghost use Rattle.liq_rule_step.specs.Step.{step};
-ghost use Rattle.liq_rule_step.specs.Verbs.{rotates};
+ghost use Rattle.liq_rule_step.specs.Step.{after, step};
+ghost use Rattle.liq_rule_step.specs.Verbs.{unhinted};
 ghost use Rattle.liq_core_hinted.specs.Hints.{IsExact, hint_used};
-ghost use Rattle.liq_core_hinted.specs.Replays.{Replays};
 
 use crate::hints::Hints;
 use crate::list_guide::ListGuide;
-use crate::redone::RedoFault;
 use liq_core::laws::{lists_stand, protocols_are_sound_states, protocols_stand};
-use liq_core::{PlanFault, Planned, Protocol, Turn, unhinted};
+use liq_core::{PlanFault, Planned, Protocol, Turn};
 use liq_types::{Command, Done, Hint, NoMemory, Query, Reply, Steps};
 use std::alloc::Global;
 use std::marker::Model;
@@ -179,36 +178,23 @@ impl Guided {
         done
     }
 
-    /// Makes the step of a command that was accepted long ago, without its own hint words. Where it
-    /// makes none all is as before. However long the list is, the place of its trove takes at most
-    /// four steps.
-    pub fn redo<L: Ledger>(
+    /// Makes room for what the planned command writes, and then its step, with the guide's hint
+    /// alone. Where there is no memory all is as before. Where the command has no hint words, the
+    /// place of its trove takes at most four steps, however long the list is.
+    pub fn reserve_and_apply<L: Ledger>(
         &mut self,
-        command: &Command,
+        planned: Planned,
         steps: &mut Steps<L>,
-    ) -> Result<(), RedoFault>
-        ensures redone { (s : State) → StandsFor self.old s
-            → Replays s command.now self.new result }
-        ensures counted { rotates command.now.call ≡ false
-            → OnOk result (self.new.records ≡ self.old.records + 1) }
-        ensures generation { rotates command.now.call ≡ false
-            → OnOk result (self.new.image.generation ≡ self.old.image.generation) }
-        ensures few { OnOk result (steps.new ≤ steps.old + 4) }
+    ) -> Result<(), NoMemory>
+        requires { IsPlannedOn self.old planned }
+        ensures made { OnOk result ((s : State) → StandsFor self.old s
+            → StandsFor self.new (after s planned.command)) }
+        ensures same { OnErr result (SameContent self.old self.new) }
+        ensures few { (c : Command) → planned.command ≡ unhinted c
+            → OnOk result (steps.new ≤ steps.old + 4) }
     {
-        // odd: law called
-        protocols_stand(&self.protocol);
-        let planned = match self.plan(&unhinted(command)) {
-            Ok(Turn::New(planned)) => planned,
-            Ok(Turn::Again(kept)) => return Err(RedoFault::Again(kept)),
-            Err(PlanFault::No(refusal)) => return Err(RedoFault::No(refusal)),
-            Err(PlanFault::NoMemory) => return Err(RedoFault::NoMemory),
-        };
-        match self.reserve(&planned) {
-            Ok(exact) => {
-                let _ = self.apply(planned, &Hints::of_guide(exact), steps);
-                Ok(())
-            }
-            Err(NoMemory) => Err(RedoFault::NoMemory),
-        }
+        let exact = self.reserve(&planned)?;
+        let _ = self.apply(planned, &Hints::of_guide(exact), steps);
+        Ok(())
     }
 }

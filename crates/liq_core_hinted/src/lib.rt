@@ -1,4 +1,4 @@
-//! A protocol whose list is asked with the hint of a guide, and commands that are made again on it.
+//! A protocol whose list is asked with the hint of a guide.
 //!
 //! The guide is the list as sorted entries (`liq_list_index`). While room is reserved for a command it
 //! is ahead of the protocol's list by just that command's changes:
@@ -15,8 +15,6 @@
 mod guided;
 mod hints;
 mod list_guide;
-mod redone;
 
 pub use guided::Guided;
 pub use hints::{Hints, words_of};
-pub use redone::RedoFault;

@@ -13,7 +13,8 @@ use Rattle.liq_disk_pair.specs.Replay.{replay}
 use Rattle.liq_disk_records.specs.declared.answers.AcceptedFault.{AcceptedFault}
 use Rattle.liq_disk_records.specs.declared.answers.AcceptedFault.TheVariants.{DiskFault, Damaged, NoMemory}
 use Rattle.liq_disk_records.specs.Reading.{IsReadable}
-use Rattle.liq_disk_records.specs.Replays.{IsDamageBy, IsOutcome, Replays}
+use Rattle.liq_disk_replay.specs.Making.{IsDamageBy}
+use Rattle.liq_disk_records.specs.Replays.{IsOutcome, Replays}
 use Rattle.liq_disk_pair.proofs.Replaying.{replay_none, replay_allowed}
 
 -- one command is the record's

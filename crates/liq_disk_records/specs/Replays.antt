@@ -4,15 +4,10 @@ use Rattle.liq_types.specs.declared.requests.Command.{Command}
 use Rattle.liq_types.specs.State.{State}
 use Rattle.liq_core.specs.Core.{Core, StandsFor}
 use Rattle.liq_rule_step.specs.Step.{Allowed, ruling, after}
-use Rattle.liq_journal.specs.declared.damage.Damage.{Damage}
-use Rattle.liq_disk_pair.specs.Replay.{replay, replayed}
+use Rattle.liq_disk_pair.specs.Replay.{replay}
+use Rattle.liq_disk_replay.specs.Making.{IsDamageBy}
 use Rattle.liq_disk_records.specs.declared.answers.AcceptedFault.{AcceptedFault}
 use Rattle.liq_disk_records.specs.declared.answers.AcceptedFault.TheVariants as fault
-
--- a command that is not accepted damages its record, whichever it is and whatever follows it
-abbrev pub IsDamageBy : State → Command → ℕ → Damage → Type 0
-IsDamageBy s c index damage = (rest : Result State Damage) → replayed index (ruling s c) rest
-    ≡ Err damage
 
 -- What becomes of the record of this number in the state before it: its command is accepted there,
 -- or damages it.

@@ -1,5 +1,5 @@
 //! A journal's commands, made again one after the other.
-ghost use Rattle.std.specs.Prelude.{◌≡◌, ◌≢◌, ◌≤◌, ◌<◌, ◌+◌, ◌-◌, Some, Ok, Err, false, List, ℕ, length};
+ghost use Rattle.std.specs.Prelude.{◌≡◌, ◌≤◌, ◌<◌, ◌+◌, ◌-◌, Some, Ok, Err, List, ℕ, length};
 ghost use Rattle.std.specs.Prelude.{slice_get, drop, OnOk, IfSome};
 ghost use Rattle.std.specs.Result.{MatchResult};
 ghost use Rattle.liq_types.specs.declared.requests.Command.{Command};
@@ -8,49 +8,18 @@ ghost use Rattle.liq_core.specs.Core.{StandsFor};
 ghost use Rattle.liq_journal.specs.Bodies.{IsJournalOf};
 ghost use Rattle.liq_outside.specs.Disk.{Looked};
 ghost use Rattle.liq_journal.specs.Parts.{IsPartOf};
-ghost use Rattle.liq_journal.specs.Written.{Written, is_rotate};
+ghost use Rattle.liq_journal.specs.Written.{Written};
 ghost use Rattle.liq_disk_records.specs.Reading.{CountsReading, IsRecordNumber};
 ghost use Rattle.liq_disk_records.specs.Replays.{IsOutcome, Replays};
 
 use crate::answers::AcceptedFault;
 use crate::reading::tested_command;
-use liq_core_hinted::{Guided, RedoFault};
-use liq_journal::{Block, Damage, Journal, What};
+use liq_core_hinted::Guided;
+use liq_disk_replay::{ReplayFault, redo};
+use liq_journal::{Block, Journal};
 use liq_outside::Disk;
-use liq_types::{Command, Steps, code_of};
+use liq_types::Steps;
 use std::sync::ledger::{Blank, Ledger};
-
-// The record of this number is damaged: the rules refuse its command, with this code; or it is a
-// repetition, and the code is 0.
-fn unaccepted(index: u64, code: u8) -> AcceptedFault
-    ensures { result ≡ AcceptedFault.Damaged (record { index = index; what = What.Replay code }) }
-{
-    let what = What::Replay { code };
-    AcceptedFault::Damaged(Damage { index, what })
-}
-
-// Makes the step of the command of the record of this number.
-fn redo<L: Ledger>(
-    protocol: &mut Guided,
-    command: &Command,
-    index: u64,
-    steps: &mut Steps<L>,
-) -> Result<(), AcceptedFault>
-    requires { is_rotate command.now.call ≡ false }
-    ensures outcome { (s : State) → StandsFor protocol.old s
-        → IsOutcome s command.now index protocol.new result }
-    ensures counted { OnOk result (protocol.new.records ≡ protocol.old.records + 1) }
-    ensures generation { OnOk result (protocol.new.image.generation
-        ≡ protocol.old.image.generation) }
-    ensures no_device { result ≢ Err AcceptedFault.DiskFault }
-{
-    match protocol.redo(command, steps) {
-        Ok(()) => Ok(()),
-        Err(RedoFault::Again(_)) => Err(unaccepted(index, 0)),
-        Err(RedoFault::No(refusal)) => Err(unaccepted(index, code_of(&refusal))),
-        Err(RedoFault::NoMemory) => Err(AcceptedFault::NoMemory),
-    }
-}
 
 // Makes the step of the record of this number.
 fn redo_record<D: Disk, L: Ledger>(
@@ -81,7 +50,11 @@ fn redo_record<D: Disk, L: Ledger>(
         Ok(command) => command,
         Err(why) => return Err(why),
     };
-    redo(protocol, &command, index, steps)
+    match redo(protocol, &mut (), &command, index, steps) {
+        Ok(()) => Ok(()),
+        Err(ReplayFault::Damaged(damage)) => Err(AcceptedFault::Damaged(damage)),
+        Err(ReplayFault::NoMemory) => Err(AcceptedFault::NoMemory),
+    }
 }
 
 /// Makes the steps of all of a journal's records, on the protocol with which it begins.

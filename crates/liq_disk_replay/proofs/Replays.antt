@@ -1,5 +1,5 @@
 -- Replays: one more command, and what a whole one is.
-use Rattle.std.proofs.Common.{◌≡◌, ℕ, ◌+◌, ◌<◌, ◌≤◌, List, [], ◌∷◌, ◌++◌, length, get_or, take, drop, Ok, Err, refl, ap, sym, subst, ◌∙◌, append_assoc, append-nil, drop-cons, add-one, arith}
+use Rattle.std.proofs.Common.{◌≡◌, ℕ, ◌+◌, ◌<◌, ◌≤◌, List, [], ◌∷◌, ◌++◌, length, get_or, take, drop, Ok, Err, inl, refl, ap, sym, subst, ◌∙◌, append_assoc, append-nil, drop-cons, add-one, arith}
 use Rattle.std.specs.Prelude.{IsErrAnd, Result, false}
 use Rattle.std.proofs.lemmas.List.{take_more, take_all}
 use Rattle.std.proofs.lemmas.List.Elements.{All-take}
@@ -12,8 +12,8 @@ use Rattle.liq_types.specs.declared.requests.Command.{Command}
 use Rattle.liq_types.specs.Codes.{code_of}
 use Rattle.liq_types.specs.Image.{IsLimit}
 use Rattle.liq_types.specs.State.{State, opening_with}
-use Rattle.liq_rule_step.specs.Rules.{call_events, done_of}
-use Rattle.liq_rule_step.specs.Step.{Refused, Repeated, Ruling, ruling, after}
+use Rattle.liq_rule_step.specs.Rules.{done_of}
+use Rattle.liq_rule_step.specs.Step.{Allowed, Refused, Repeated, ruling, after}
 use Rattle.liq_rule_step.specs.Verbs.{unhinted_call}
 use Rattle.liq_core.specs.Core.{Core, StandsFor}
 use Rattle.liq_journal.specs.declared.damage.Damage.{Damage}
@@ -24,27 +24,27 @@ use Rattle.liq_disk_pair.proofs.Generations.{HaveNoRotation}
 use Rattle.liq_disk_pair.proofs.Replaying.{first_accepted, replay_more, replay_none, replay_then}
 use Rattle.liq_disk_replay.specs.declared.fault.ReplayFault.{ReplayFault}
 use Rattle.liq_disk_replay.specs.declared.fault.ReplayFault.TheVariants.{Damaged, NoMemory}
-use Rattle.liq_disk_replay.specs.Making.{StopsAt, MakesNext}
+use Rattle.liq_disk_replay.specs.Making.{IsUnmade, Replays}
 use Rattle.liq_disk_replay.specs.Retold.{noted_of, noted, IsRetold, HasCome}
 use Rattle.liq_disk_replay.proofs.Runs.{replay_few}
 
--- ---- where the rules do not accept a command
+-- ---- a command that is not accepted
 
-pub stops_repeated : (s : State) (c : Command) (index : ℕ) (kept : Done) → ruling s c ≡ Repeated kept
-    → StopsAt s c index (Damaged (record { index = index; what = what.Replay 0 }))
-stops_repeated s c index kept is rest = ap (λ r. replayed index r rest) is
+pub damage_repeated : (s : State) (c : Command) (index : ℕ) (kept : Done) → ruling s c ≡ Repeated kept
+    → IsUnmade s c index (Damaged (record { index = index; what = what.Replay 0 }))
+damage_repeated s c index kept is rest = ap (λ r. replayed index r rest) is
 
-pub stops_refused : (s : State) (c : Command) (index : ℕ) (refusal : Refusal) (code : ℕ) → code ≡ code_of refusal
-    → ruling s c ≡ Refused refusal → StopsAt s c index (Damaged (record { index = index; what = what.Replay code }))
-stops_refused s c index refusal code coded is rest =
+pub damage_refused : (s : State) (c : Command) (index : ℕ) (refusal : Refusal) (code : ℕ) → code ≡ code_of refusal
+    → ruling s c ≡ Refused refusal → IsUnmade s c index (Damaged (record { index = index; what = what.Replay code }))
+damage_refused s c index refusal code coded is rest =
     ap (λ r. replayed index r rest) is ∙ ap (λ n. Err (record { index = index; what = what.Replay n })) (sym coded)
 
--- nothing else counts than what the rules say of the command
-stops_same : (s : State) (c d : Command) → ruling s d ≡ ruling s c → (index : ℕ) (why : ReplayFault)
-    → StopsAt s d index why → StopsAt s c index why
-stops_same s c d ruled index (Damaged damage) stop = λ rest. subst (λ (r : Ruling). replayed index r rest
-    ≡ Err damage) ruled (stop rest)
-stops_same s c d ruled index NoMemory stop = tt
+-- no memory, which is handed on
+pub handed_unmade : (s : State) (c : Command) (index : ℕ) (core : Core) (end : Result (Unit {0}) ReplayFault)
+    → IsErrAnd end (λ e. e ≡ NoMemory) → ruling s c ≡ Allowed → StandsFor core s → Replays s c index core end
+handed_unmade s c index core (Ok done) handed allowed stands = absurd handed
+handed_unmade s c index core (Err why) handed allowed stands =
+    (subst (λ (w : ReplayFault). IsUnmade s c index w) (sym handed) (inl allowed), stands)
 
 -- a fault that is handed on
 pub handed_fault : {T : Type 0} (end : Result T ReplayFault) (why : ReplayFault) (damage : Damage)
@@ -61,18 +61,6 @@ done_same s (Redeem account lusd bound hint) = refl
 done_same s _ = refl
 
 module _ {N : Type 0} (adds : ℕ → Done → List PoolEvent → List N) where
-  pub makes_same : (s : State) (c d : Command) → ruling s d ≡ ruling s c → after s d ≡ after s c
-      → done_of s d.call ≡ done_of s c.call → call_events s d.call ≡ call_events s c.call
-      → (index : ℕ) (core : Core) (old new : List N) (result : Result (Unit {0}) ReplayFault)
-      → MakesNext adds s d index core old new result → MakesNext adds s c index core old new result
-  makes_same s c d ruled made replied said index core old new (Ok done) h = (
-    sym ruled ∙ h.0,
-    subst (StandsFor core) made h.1,
-    h.2 ∙ ap (λ (r : Done). old ++ adds s.minute r (call_events s d.call)) replied
-        ∙ ap (λ (es : List PoolEvent). old ++ adds s.minute (done_of s c.call) es) said,
-  )
-  makes_same s c d ruled made replied said index core old new (Err why) h = stops_same s c d ruled index why h
-
   -- ---- one command more
 
   pub noted_then : (index : ℕ) (s end : State) (cs : List Command) (c : Command) → replay index s cs ≡ Ok end
@@ -122,10 +110,11 @@ module _ {N : Type 0} (adds : ℕ → Done → List PoolEvent → List N) where
         ∙ replay_more (i + 1) h.retold.state (get_or commands i d) (drop (i + 1) commands)
 
     pub next_made : i < length commands → (core_now : Core) (now : List N)
-        → MakesNext adds h.retold.state (get_or commands i d) (i + 1) core_now notes now (Ok tt)
+        → Replays h.retold.state (get_or commands i d) (i + 1) core_now (Ok tt)
+        → now ≡ notes ++ noted_of adds h.retold.state (get_or commands i d).call
         → IsUnderWay limit commands (i + 1) core_now now
     unfolding s here
-    next_made lt core_now now k = record {
+    next_made lt core_now now k noted_now = record {
       retold = record {
         state = after h.retold.state (get_or commands i d);
         replays =
@@ -134,7 +123,7 @@ module _ {N : Type 0} (adds : ℕ → Done → List PoolEvent → List N) where
             h.retold.replays k.0;
         stands = k.1;
         notes_are =
-            k.2
+            noted_now
             ∙ ap (λ (ns : List N). ns ++ noted_of adds h.retold.state (get_or commands i d).call) h.retold.notes_are
             ∙ sym (noted_then 1 (opening_with limit) h.retold.state (take i commands) (get_or commands i d)
             h.retold.replays)
@@ -145,11 +134,11 @@ module _ {N : Type 0} (adds : ℕ → Done → List PoolEvent → List N) where
     }
 
     pub next_stops : i < length commands → (damage : Damage) (why : ReplayFault)
-        → StopsAt h.retold.state (get_or commands i d) (i + 1) why → why ≡ Damaged damage
+        → IsUnmade h.retold.state (get_or commands i d) (i + 1) why → why ≡ Damaged damage
         → replay 1 (opening_with limit) commands ≡ Err damage
     unfolding s here
     next_stops lt damage why stop is =
-        let here_stops = subst (λ (w : ReplayFault). StopsAt h.retold.state (get_or commands i d) (i + 1) w) is stop in
+        let here_stops = subst (λ (w : ReplayFault). IsUnmade h.retold.state (get_or commands i d) (i + 1) w) is stop in
         left_here lt ∙ here_stops (replay (i + 1 + 1) (after h.retold.state (get_or commands i d))
         (drop (i + 1) commands))
 

@@ -39,3 +39,12 @@ module _ {N : Type 0} (adds : ℕ → Done → List PoolEvent → List N) where
     pub made : List Command
     pub few : length made ≤ RECORDS_MOST
     pub retold : IsRetold limit made core notes
+
+  -- nothing is noted of any command
+  abbrev pub NotesNothing : Type 0
+  NotesNothing = (minute : ℕ) (done : Done) (events : List PoolEvent) → adds minute done events
+      ≡ []
+
+  -- what an onlooker may rest on who notes anything
+  abbrev pub MaySee : Core → List N → Type 0
+  MaySee core notes = (NotesNothing → ⊥) → HasCome core notes

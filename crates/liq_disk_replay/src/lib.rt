@@ -1,6 +1,7 @@
-//! The replay of a list of commands, from the opening under a limit on, with an onlooker who is
-//! told of each before it is made. It ends behind the last command, or at the first that the rules
-//! refuse or that comes again: that one is damage, told by its number.
+//! Commands that are made again, each shown to an onlooker before it is made: one of them, as who
+//! reads a journal makes them, or a list, from the opening under a limit on. A replay ends behind
+//! the last command, or at the first that the rules refuse or that comes again: that one is
+//! damage, told by its number.
 #![tactic(auto)]
 
 mod fault;
@@ -9,4 +10,4 @@ mod replay;
 
 pub use fault::ReplayFault;
 pub use onlooker::Onlooker;
-pub use replay::replay_commands;
+pub use replay::{redo, replay_commands};

@@ -1,4 +1,4 @@
-//! Who looks on while commands are made again.
+//! Who looks on while commands are made again, or nobody.
 
 ghost use Rattle.std.specs.Prelude.{◌≡◌, ◌++◌, ℕ, List, OnOk};
 ghost use Rattle.liq_types.specs.declared.events.PoolEvent.{PoolEvent};
@@ -6,7 +6,7 @@ ghost use Rattle.liq_types.specs.declared.replies.Done.{Done};
 ghost use Rattle.liq_types.specs.State.{State};
 ghost use Rattle.liq_core.specs.Core.{StandsFor};
 ghost use Rattle.liq_core.specs.Plan.{IsPlannedOn};
-ghost use Rattle.liq_disk_replay.specs.Retold.{HasCome};
+ghost use Rattle.liq_disk_replay.specs.Retold.{MaySee};
 
 use liq_core::{Planned, Protocol};
 use liq_types::NoMemory;
@@ -22,11 +22,27 @@ pub trait Onlooker {
     /// Stability Pool.
     ghost adds: { ℕ → Done → List PoolEvent → List Self.Note };
 
-    /// Notes a command before it is made. All commands before it were noted.
+    /// Notes a command before it is made. All commands before it were noted, unless nothing is
+    /// noted of any.
     fn see(&mut self, before: &Protocol, planned: &Planned) -> Result<(), NoMemory>
-        requires come { HasCome adds before.now (notes self.old) }
+        requires come { MaySee adds before.now (notes self.old) }
         requires planned { IsPlannedOn before.now planned.now }
         ensures { OnOk result ((s : State) → StandsFor before.now s
             → notes self.new ≡ notes self.old ++ adds s.minute planned.now.done
             planned.now.events) };
+}
+
+/// Nobody looks on.
+impl Onlooker for () {
+    ghost use Rattle.std.specs.Prelude.{[]};
+
+    type Note = ();
+
+    ghost notes = { λ _. [] };
+
+    ghost adds = { λ _ _ _. [] };
+
+    fn see(&mut self, _before: &Protocol, _planned: &Planned) -> Result<(), NoMemory> {
+        Ok(())
+    }
 }

@@ -1,7 +1,7 @@
-//! A list of commands, made again one after the other: each is shown to the onlooker, and then
-//! made.
+//! A command, made again: it is shown to the onlooker, and then made. And a list of them, one after
+//! the other.
 
-ghost use Rattle.std.specs.Prelude.{◌≡◌, All, [], false, Err, IfOk};
+ghost use Rattle.std.specs.Prelude.{◌≡◌, ◌≤◌, ◌+◌, ◌++◌, All, [], false, Err, IfOk, OnOk};
 ghost use Rattle.liq_types.specs.declared.requests.Command.{Command};
 ghost use Rattle.liq_types.specs.Image.{IsLimit};
 ghost use Rattle.liq_types.specs.State.{State, opening_with};
@@ -9,13 +9,14 @@ ghost use Rattle.liq_core.specs.Core.{StandsFor};
 ghost use Rattle.liq_journal.specs.declared.damage.Damage.{Damage};
 ghost use Rattle.liq_journal.specs.Written.{is_rotate};
 ghost use Rattle.liq_disk_pair.specs.Replay.{replay};
-ghost use Rattle.liq_disk_replay.specs.Retold.{HasCome, IsRetold};
-ghost use Rattle.liq_disk_replay.specs.Making.{PlansNext, MakesNext};
+ghost use Rattle.liq_disk_replay.specs.Retold.{IsRetold, MaySee, noted_of};
+ghost use Rattle.liq_disk_replay.specs.Making.{Replays};
 
 use crate::fault::ReplayFault;
 use crate::onlooker::Onlooker;
-use liq_core::{PlanFault, Planned, Protocol, Turn, unhinted};
-use liq_core_hinted::{Guided, Hints};
+use liq_core::laws::protocols_stand;
+use liq_core::{PlanFault, Protocol, Turn, unhinted};
+use liq_core_hinted::Guided;
 use liq_journal::{Damage, What};
 use liq_types::{Command, Steps, code_of};
 use std::alloc::Global;
@@ -67,43 +68,43 @@ fn replay_commands_on<O: Onlooker, L: Ledger>(
     let mut steps = Steps::<L>::new(blank);
     let mut protocol = Guided::with_limit(alloc, limit);
     for (i, command) in commands.iter().enumerate() {
-        // Its own hint words change nothing.
-        let command = unhinted(command);
-        make(&mut protocol, onlooker, &command, i as u64 + 1, &mut steps)?;
+        redo(&mut protocol, onlooker, command, i as u64 + 1, &mut steps)?;
     }
     Ok(protocol.into_protocol())
 }
 
-/// Makes a command, which has this number among the commands.
-fn make<O: Onlooker, L: Ledger>(
+/// Makes a command again, which has this number among the commands: it is shown to the onlooker,
+/// and then its step is made, without its own hint words. Where it makes none the protocol is as
+/// before. However long the list is, the place of its trove takes at most four steps.
+pub fn redo<O: Onlooker, L: Ledger>(
     protocol: &mut Guided,
     onlooker: &mut O,
     command: &Command,
     index: u64,
     steps: &mut Steps<L>,
 ) -> Result<(), ReplayFault>
-    requires { HasCome O.adds protocol.old (O.notes onlooker.old) }
-    ensures { (s : State) → StandsFor protocol.old s
-        → MakesNext O.adds s command.now index protocol.new (O.notes onlooker.old)
-        (O.notes onlooker.new) result }
+    requires { MaySee O.adds protocol.old (O.notes onlooker.old) }
+    ensures replayed { (s : State) → StandsFor protocol.old s
+        → Replays s command.now index protocol.new result }
+    ensures noted { OnOk result ((s : State) → StandsFor protocol.old s
+        → O.notes onlooker.new ≡ O.notes onlooker.old ++ noted_of O.adds s command.now.call) }
+    ensures counted { is_rotate command.now.call ≡ false
+        → OnOk result (protocol.new.records ≡ protocol.old.records + 1) }
+    ensures generation { is_rotate command.now.call ≡ false
+        → OnOk result (protocol.new.image.generation ≡ protocol.old.image.generation) }
+    ensures few { OnOk result (steps.new ≤ steps.old + 4) }
 {
-    let planned = plan(protocol, command, index)?;
+    // odd: law called
+    protocols_stand(protocol.protocol());
+    let planned = match protocol.plan(&unhinted(command)) {
+        Ok(Turn::New(planned)) => planned,
+        Ok(Turn::Again(_)) => return Err(damaged(index, 0)),
+        Err(PlanFault::No(refusal)) => return Err(damaged(index, code_of(&refusal))),
+        Err(PlanFault::NoMemory) => return Err(ReplayFault::NoMemory),
+    };
     onlooker.see(protocol.protocol(), &planned)?;
-    let exact = protocol.reserve(&planned)?;
-    protocol.apply(planned, &Hints::of_guide(exact), steps);
+    protocol.reserve_and_apply(planned, steps)?;
     Ok(())
-}
-
-/// Plans a command, which must be new and allowed.
-fn plan(protocol: &Guided, command: &Command, index: u64) -> Result<Planned, ReplayFault>
-    ensures { (s : State) → StandsFor protocol.now s → PlansNext s command.now index result }
-{
-    match protocol.plan(command) {
-        Ok(Turn::New(planned)) => Ok(planned),
-        Ok(Turn::Again(_)) => Err(damaged(index, 0)),
-        Err(PlanFault::No(refusal)) => Err(damaged(index, code_of(&refusal))),
-        Err(PlanFault::NoMemory) => Err(ReplayFault::NoMemory),
-    }
 }
 
 /// The command of this number is not accepted, for this reason.

@@ -5,7 +5,7 @@ use Rattle.std.proofs.lemmas.List.Elements.{All-pop}
 use Rattle.std.proofs.lemmas.List.{get_or-append_right}
 use Rattle.std.proofs.Common.{get_or, ◌-◌}
 use Rattle.liq_journal.proofs.Reading.{isnt_long}
-use Rattle.liq_core_hinted.specs.Replays.{MayWantMemory}
+use Rattle.liq_disk_replay.specs.Making.{MayWantMemory}
 use Rattle.liq_follower.specs.Fed.{Completes, LackOne}
 use Rattle.liq_types.specs.declared.requests.Command.{Command}
 use Rattle.liq_types.specs.State.{State, opening_with}

@@ -1,5 +1,6 @@
 -- What each byte makes of the bytes and the phase.
-use Rattle.std.proofs.Common.{◌≡◌, ⊎_elim, ℕ, ◌+◌, ◌-◌, ◌^◌, ◌<◌, ◌≤◌, min, List, [], ◌∷◌, ◌++◌, length, get_or, refl, sym, ◌∙◌, ap, subst, arith, length-append, append_assoc}
+use Rattle.std.proofs.Common.{◌≡◌, ⊎_elim, ℕ, ◌+◌, ◌-◌, ◌^◌, ◌<◌, ◌≤◌, min, List, [], ◌∷◌, ◌++◌, length, get_or, Ok, Err, refl, sym, ◌∙◌, ap, subst, arith, length-append, append_assoc}
+use Rattle.liq_types.specs.declared.replies.NoMemory.{NoMemory}
 use Rattle.liq_types.specs.declared.requests.Command.{Command}
 use Rattle.liq_types.specs.State.{State, opening_with}
 use Rattle.liq_rule_step.specs.Step.{Allowed, after, ruling}
@@ -9,9 +10,8 @@ use Rattle.liq_journal.proofs.Reading.{isnt_long}
 use Rattle.liq_follower.specs.declared.header.Judged.{Judged}
 use Rattle.liq_follower.specs.declared.header.Judged.TheVariants as judged
 use Rattle.liq_follower.specs.declared.phase.Phase.{Phase}
-use Rattle.liq_follower.specs.declared.phase.Phase.TheVariants.{Header, Inside}
-use Rattle.liq_follower.specs.declared.record.RecordReplay.TheVariants as redone
-use Rattle.liq_core_hinted.specs.Replays.{MayWantMemory}
+use Rattle.liq_follower.specs.declared.phase.Phase.TheVariants.{Start, Header, Gate, Inside, Shut, Damaged, Rotated}
+use Rattle.liq_disk_replay.specs.Making.{MayWantMemory}
 use Rattle.liq_follower.specs.Fed.{AreDamagedAt, Completes, EndsWhole, IsBegun, IsNoRecord, IsRecordOf, LackOne, LeadTo, begun_limit}
 use Rattle.liq_follower.specs.Following.{EndsAs, Followed, IsAt, IsInPhase, StandsBeforeLast}
 use Rattle.liq_follower.specs.Judging.{IsJudged, IsTaken, IsUnfit, phase_of}
@@ -171,23 +171,27 @@ module _ (bytes held : List ℕ) (core : Core) (last index : ℕ) (size : length
   )
 
   -- by what the record was taken for, as its bytes were put together
-  pub made_by : (read : List ℕ) → read ≡ raw → (next_core : Core) → IsTaken state index read next_core redone.Made
-      → EndsAs (bytes ++ last ∷ []) next_core
-  made_by read same next_core (c, is, allowed, stands) =
+  pub taken_by : (read : List ℕ) → read ≡ raw → (next_core : Core) (phase : Phase)
+      → IsTaken state index read next_core (Ok phase) → IsInPhase phase held (bytes ++ last ∷ []) next_core
+  taken_by read same next_core Gate (c, is, allowed, stands) =
       record_made c (subst (λ (l : List ℕ). IsRecordOf index l c) same is) allowed next_core stands
-
-  pub refused_by : (read : List ℕ) → read ≡ raw → (next_core : Core) → IsTaken state index read next_core redone.Refused
-      → AreDamagedAt index (bytes ++ last ∷ []) × StandsBeforeLast (bytes ++ last ∷ []) next_core
-  refused_by read same next_core t = record_refused next_core (subst (λ (l : List ℕ). IsUnfit state index l
-      × StandsFor next_core state) same t)
+  taken_by read same next_core (Damaged at) (is, unfit, stands) =
+      subst (λ (n : ℕ). AreDamagedAt n (bytes ++ last ∷ []) × StandsBeforeLast (bytes ++ last ∷ []) next_core) (sym is)
+      (record_refused next_core (subst (λ (l : List ℕ). IsUnfit state index l) same unfit, stands))
+  taken_by read same next_core Start t = absurd t
+  taken_by read same next_core Header t = absurd t
+  taken_by read same next_core Inside t = absurd t
+  taken_by read same next_core Shut t = absurd t
+  taken_by read same next_core (Rotated generation) t = absurd t
 
   completed : (c : Command) → IsRecordOf index raw c → MayWantMemory state c → Completes last bytes
   completed c read wants = subst (Completes last) (sym at.1) (completes at.0 state front held last index c size index_is
       read wants)
 
-  pub lacking : (read : List ℕ) → read ≡ raw → (next_core : Core) → IsTaken state index read next_core redone.NoMemory
+  pub lacking : (read : List ℕ) → read ≡ raw → (next_core : Core) (none : NoMemory)
+      → IsTaken state index read next_core (Err none)
       → IsInPhase Inside held bytes next_core × LackOne bytes × Completes last bytes
-  lacking read same next_core (c, is, wants, stands) = (
+  lacking read same next_core none (c, is, wants, stands) = (
     (at.0, at.1, at.2, (state, front, stands)),
     lacks bytes held core size at,
     completed c (subst (λ (l : List ℕ). IsRecordOf index l c) same is) wants,

@@ -6,13 +6,13 @@ use Rattle.std.specs.Str.{bytes_eq}
 use Rattle.liq_types.specs.declared.amounts.TheConstants.{LIM, LIM_OF_VERSION_1, RECORDS_MOST}
 use Rattle.liq_types.specs.declared.requests.Command.{Command}
 use Rattle.liq_types.specs.State.{State, opening_with}
-use Rattle.liq_core_hinted.specs.Replays.{MayWantMemory}
 use Rattle.liq_journal.specs.declared.damage.Damage.{Damage}
 use Rattle.liq_journal.specs.declared.damage.What.{What}
 use Rattle.liq_disk_header.specs.Layout.{generation_on, header_size, layout_on, name_on, version_1}
 use Rattle.liq_journal.specs.Written.{Open, Written, and_then, end_of, found_on, record_on}
 use Rattle.liq_disk_pair.specs.Pair.{Standing, Faulty, Holding, standing}
 use Rattle.liq_disk_pair.specs.Replay.{outcome}
+use Rattle.liq_disk_replay.specs.Making.{MayWantMemory}
 use Rattle.liq_follower.specs.declared.answers.FedEnd.{FedEnd}
 use Rattle.liq_follower.specs.declared.answers.FedEnd.TheVariants.{All, Damaged, NoMemory, Rotated}
 

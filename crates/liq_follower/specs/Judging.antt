@@ -1,5 +1,6 @@
 -- What a whole header and a whole record are found to be, and what becomes of a record's command.
-use Rattle.std.specs.Prelude.{◌≡◌, ◌⊎◌, ℕ, List, Option, Some, None, Ok, Err, take, true}
+use Rattle.std.specs.Prelude.{◌≡◌, ◌⊎◌, ℕ, List, Option, Some, None, Result, Ok, Err, take, true}
+use Rattle.liq_types.specs.declared.replies.NoMemory.{NoMemory}
 use Rattle.liq_types.specs.declared.requests.Command.{Command}
 use Rattle.liq_types.specs.State.{State}
 use Rattle.liq_core.specs.Core.{Core, StandsFor}
@@ -10,11 +11,9 @@ use Rattle.liq_disk_header.specs.Layout.{generation_on, layout_on}
 use Rattle.liq_journal.specs.Written.{command_from, first_fault, header_tests}
 use Rattle.liq_follower.specs.declared.header.Judged.{Judged}
 use Rattle.liq_follower.specs.declared.header.Judged.TheVariants.{Damaged, Right, Turned}
-use Rattle.liq_follower.specs.declared.record.RecordReplay.{RecordReplay}
-use Rattle.liq_follower.specs.declared.record.RecordReplay.TheVariants.{Made, NoMemory, Refused}
 use Rattle.liq_follower.specs.declared.phase.Phase.{Phase}
 use Rattle.liq_follower.specs.declared.phase.Phase.TheVariants as phase
-use Rattle.liq_core_hinted.specs.Replays.{MayWantMemory}
+use Rattle.liq_disk_replay.specs.Making.{MayWantMemory}
 use Rattle.liq_follower.specs.Fed.{IsNoRecord, IsRecordOf, is_turned}
 
 -- no test of the header fails; or one does, and it isn't turned
@@ -44,21 +43,18 @@ abbrev pub IsTested : ℕ → List ℕ → Option Command → Type 0
 IsTested index raw (Some command) = IsRecordOf index raw command
 IsTested index raw None = IsNoRecord index raw
 
--- what becomes of a command in a state that stands before it
-abbrev pub ReplaysRecord : State → Command → Core → RecordReplay → Type 0
-ReplaysRecord s c core Made = (ruling s c ≡ Allowed) × StandsFor core (after s c)
-ReplaysRecord s c core Refused = (ruling s c ≡ Allowed → ⊥) × StandsFor core s
-ReplaysRecord s c core NoMemory = MayWantMemory s c × StandsFor core s
-
 -- the record of this number has a fault, or its command is not allowed
 abbrev pub IsUnfit : State → ℕ → List ℕ → Type 0
 IsUnfit s index raw = IsNoRecord index raw ⊎ ((c : Command) × IsRecordOf index raw c
     × (ruling s c ≡ Allowed → ⊥))
 
--- what becomes of a whole record of this number, in a state that stands before it
-abbrev pub IsTaken : State → ℕ → List ℕ → Core → RecordReplay → Type 0
-IsTaken s index raw core Made =
+-- What becomes of a whole record of this number, in a state that stands before it: its step is made,
+-- and the gate of the next one comes; or it is damaged, or its step finds no memory.
+abbrev pub IsTaken : State → ℕ → List ℕ → Core → Result Phase NoMemory → Type 0
+IsTaken s index raw core (Ok phase.Gate) =
     (c : Command) × IsRecordOf index raw c × (ruling s c ≡ Allowed) × StandsFor core (after s c)
-IsTaken s index raw core Refused = IsUnfit s index raw × StandsFor core s
-IsTaken s index raw core NoMemory = (c : Command) × IsRecordOf index raw c × MayWantMemory s c
+IsTaken s index raw core (Ok (phase.Damaged at)) =
+    (at ≡ index) × IsUnfit s index raw × StandsFor core s
+IsTaken s index raw core (Ok _) = ⊥
+IsTaken s index raw core (Err none) = (c : Command) × IsRecordOf index raw c × MayWantMemory s c
     × StandsFor core s

@@ -12,7 +12,7 @@ use crate::answers::{Fed, FedEnd};
 use crate::header::{Judged, begun_limit, header_size, judge};
 use crate::held::{BODY_AND_DIGEST, Held};
 use crate::phase::Phase;
-use crate::record::{RecordReplay, take};
+use crate::record::take;
 use liq_core::Protocol;
 use liq_core_hinted::Guided;
 use liq_types::NoMemory;
@@ -344,16 +344,13 @@ impl Follower {
     {
         let index = self.guided.records().saturating_add(1);
         let raw = self.held.with(last);
+        // odd: match for ?
         match take(&mut self.guided, &raw, index) {
-            RecordReplay::Made => {
-                self.phase = Phase::Gate;
+            Ok(phase) => {
+                self.phase = phase;
                 Ok(())
             }
-            RecordReplay::Refused => {
-                self.phase = Phase::Damaged { index };
-                Ok(())
-            }
-            RecordReplay::NoMemory => Err(NoMemory),
+            Err(NoMemory) => Err(NoMemory),
         }
     }
 }

@@ -5,24 +5,18 @@ ghost use Rattle.liq_types.specs.State.{State};
 ghost use Rattle.liq_core.specs.Core.{StandsFor};
 ghost use Rattle.liq_journal.specs.Written.{is_rotate};
 ghost use Rattle.liq_disk_header.specs.RecordDigest.{record_digest};
-ghost use Rattle.liq_follower.specs.Judging.{ReplaysRecord, IsSpelled, IsTaken, IsTested};
+ghost use Rattle.liq_disk_replay.specs.Making.{Replays};
+ghost use Rattle.liq_follower.specs.Judging.{IsSpelled, IsTaken, IsTested};
 
 use crate::held::BODY_AND_DIGEST;
-use liq_core_hinted::{Guided, RedoFault};
+use crate::phase::Phase;
+use liq_core_hinted::Guided;
 use liq_disk_header::record_digest;
-use liq_types::{Call, Command, Steps};
+use liq_disk_replay::{ReplayFault, redo};
+use liq_types::{Call, Command, NoMemory, Steps};
 use liq_wire::decode;
 use std::marker::Brand;
 use std::sync::ledger::{Blank, Ledger};
-
-// What became of a command.
-#[derive(Clone, Copy)]
-pub enum RecordReplay {
-    Made,
-    // The rules refuse it, or it is a repetition.
-    Refused,
-    NoMemory,
-}
 
 // The body of a record.
 fn body_of(raw: &[u8; BODY_AND_DIGEST]) -> [u8; 96]
@@ -67,41 +61,46 @@ fn test_record(raw: &[u8; BODY_AND_DIGEST], index: u64) -> Option<Command>
     decode_record(raw)
 }
 
-// Makes the step of a command. Its steps are counted on a ledger of their own.
-pub fn redo<L: Ledger>(protocol: &mut Guided, command: &Command, blank: Blank) -> RecordReplay
+// Makes a command again. Its steps are counted on a ledger of their own.
+fn make_on<L: Ledger>(
+    protocol: &mut Guided,
+    command: &Command,
+    index: u64,
+    blank: Blank,
+) -> Result<(), ReplayFault>
     requires name { blank.name ≡ L.name }
     requires parts { blank.parts ≡ L.parts }
     requires one { L.parts ≡ 1 }
-    requires stays { is_rotate command.now.call ≡ false }
     ensures { (s : State) → StandsFor protocol.old s
-        → ReplaysRecord s command.now protocol.new result }
+        → Replays s command.now index protocol.new result }
 {
-    let mut steps = Steps::<L>::new(blank);
-    match protocol.redo(command, &mut steps) {
-        Ok(()) => RecordReplay::Made,
-        Err(RedoFault::Again(_)) => RecordReplay::Refused,
-        Err(RedoFault::No(_)) => RecordReplay::Refused,
-        Err(RedoFault::NoMemory) => RecordReplay::NoMemory,
-    }
+    redo(protocol, &mut (), command, index, &mut Steps::<L>::new(blank))
 }
 
 // The same, on a ledger of one part.
-fn make(protocol: &mut Guided, command: &Command) -> RecordReplay
-    requires stays { is_rotate command.now.call ≡ false }
+fn make(protocol: &mut Guided, command: &Command, index: u64) -> Result<(), ReplayFault>
     ensures { (s : State) → StandsFor protocol.old s
-        → ReplaysRecord s command.now protocol.new result }
+        → Replays s command.now index protocol.new result }
 {
     // odd: steps counted
-    redo::<Brand>(protocol, command, Blank::new(1))
+    make_on::<Brand>(protocol, command, index, Blank::new(1))
 }
 
 // Makes the step of the command of a whole record of this number, if it has one and the rules allow
-// it.
-pub fn take(protocol: &mut Guided, raw: &[u8; BODY_AND_DIGEST], index: u64) -> RecordReplay
+// it, and tells the phase behind it.
+pub fn take(
+    protocol: &mut Guided,
+    raw: &[u8; BODY_AND_DIGEST],
+    index: u64,
+) -> Result<Phase, NoMemory>
     ensures { (s : State) → StandsFor protocol.old s → IsTaken s index raw.now protocol.new result }
 {
-    match test_record(raw, index) {
-        Some(command) => make(protocol, &command),
-        None => RecordReplay::Refused,
+    let Some(command) = test_record(raw, index) else {
+        return Ok(Phase::Damaged { index });
+    };
+    match make(protocol, &command, index) {
+        Ok(()) => Ok(Phase::Gate),
+        Err(ReplayFault::Damaged(_)) => Ok(Phase::Damaged { index }),
+        Err(ReplayFault::NoMemory) => Err(NoMemory),
     }
 }

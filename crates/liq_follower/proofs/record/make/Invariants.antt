@@ -1,4 +1,4 @@
 use Rattle.liq_follower.proofs.record.make.Given as goal
 
-abbrev pub ghosts-redo : goal.ghosts-redo
-ghosts-redo a = record { name = a.blank.name; parts = a.blank.parts }
+abbrev pub ghosts-make_on : goal.ghosts-make_on
+ghosts-make_on a = record { name = a.blank.name; parts = a.blank.parts }
