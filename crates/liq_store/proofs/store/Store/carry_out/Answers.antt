@@ -10,10 +10,12 @@ use Rattle.liq_core.proofs.SameContents.{stands_after, stands_before}
 use Rattle.liq_rule_step.specs.Rules.{call_changes}
 use Rattle.liq_rule_step.specs.Step.{Allowed, Refused, Repeated, after}
 use Rattle.liq_core_hinted.proofs.Steps.{counts_on, generation_stays}
+use Rattle.liq_journal.specs.Crash.{beginning}
 use Rattle.liq_journal.specs.Settled.{JournalOn}
 use Rattle.liq_journal.specs.Written.{is_odd, is_size}
 use Rattle.liq_journal.proofs.Testing.{not_rotate}
 use Rattle.liq_disk_pair.specs.declared.side.Side.{Side}
+use Rattle.liq_disk_pair.specs.Kept.{IsRotationOf}
 use Rattle.liq_disk_pair.specs.Sides.{on, other}
 use Rattle.liq_disk_pair.proofs.Generations.{never_rotates}
 use Rattle.liq_store.specs.Calling.{WritesOn}
@@ -30,7 +32,18 @@ use Rattle.liq_store.proofs.Going.{order_going, order_halted, order_same, within
 use Rattle.liq_store.proofs.Rulings.{none_told, ruled, told_by_ruling}
 use Rattle.liq_store.proofs.Steps.{prepared_allowed, prepared_steps, prepared_told, replied, unhinted_rotation}
 use Rattle.liq_store.proofs.Turning.{rotation_from, turning_done, turning_failed, turning_halts, turning_within, turns_by}
+use Rattle.liq_store.proofs.store.Store.carry_out.Given.{Over}
 use Rattle.liq_store.proofs.store.Store.carry_out.Goals as goal
+use Rattle.liq_store.proofs.store.Store.carry_out.Goals.{After-deref}
+
+-- the rotation that is planned, from the bytes as they are read
+rotates_on : (g : Over) (c : After-deref g) → (s : State) → StandsFor c.self.inside.protocol s
+    → IsRotationOf s (beginning (s.generation + 1) c.deref.result.now) c.in-Do.command
+rotates_on g c =
+    rotation_from c.self.inside.protocol c.prepare.new.protocol c.protocol.result.now c.in-Ready.planned
+    c.in-Do.command c.in-Ok.checkpoint.items c.deref.result.now c.prepare.ensures.same c.protocol.ensures
+    (c.in-Ready.ensures.ready.0 ∙ unhinted_rotation c.in-Do.command c.in-Rotate.is) c.deref.ensures.value
+    c.in-Ok.ensures.rotation
 
 pub invariant_of-self : goal.invariant_of-self
 invariant_of-self g c =
@@ -110,10 +123,7 @@ invariant_of-self-in-Err g c =
     c.begin_generation.new.beside
     c.self.inside.protocol c.self.inside.stopped c.in-Do.command c.deref.result.now (ap (λ (o : Stored g.row.D.Denot).
     o.stopped) c.self.view_is ∙ c.requires.going) c.self.invariant
-    (rotation_from c.self.inside.protocol c.prepare.new.protocol c.protocol.result.now c.in-Ready.planned
-    c.in-Do.command c.in-Ok.checkpoint.items c.deref.result.now c.prepare.ensures.same c.protocol.ensures
-    (c.in-Ready.ensures.ready.0 ∙ unhinted_rotation c.in-Do.command c.in-Rotate.is) c.deref.ensures.value
-    c.in-Ok.ensures.rotation)
+    (rotates_on g (goal.at.invariant_of-self-in-Err g c).After-deref)
     c.in-Err.ensures.lasts.telling c.in-Err.ensures.crash c.in-Err.ensures.lasts.time in
     subst (λ (j : JournalOn g.row.D.Denot). IsWithin g.D.Disk.at c.self.inside.side j c.begin_generation.new.beside
     c.prepare.new.protocol (Some c.sum_of_faults.result) c.prepare.new.changes.items) (sym c.in-Err.ensures.kept)
@@ -122,23 +132,7 @@ invariant_of-self-in-Err g c =
     c.self.invariant c.prepare.new.protocol c.prepare.ensures.same c.sum_of_faults.result)
 
 pub returns-in-Err-clause-order : goal.returns-in-Err-clause-order
-returns-in-Err-clause-order g c =
-    let t = turns_by g.D.Disk.at c.self.inside.side c.self.inside.taken c.self.inside.beside
-    c.begin_generation.new.beside
-    c.self.inside.protocol c.self.inside.stopped c.in-Do.command c.deref.result.now (ap (λ (o : Stored g.row.D.Denot).
-    o.stopped) c.self.view_is ∙ c.requires.going) c.self.invariant
-    (rotation_from c.self.inside.protocol c.prepare.new.protocol c.protocol.result.now c.in-Ready.planned
-    c.in-Do.command c.in-Ok.checkpoint.items c.deref.result.now c.prepare.ensures.same c.protocol.ensures
-    (c.in-Ready.ensures.ready.0 ∙ unhinted_rotation c.in-Do.command c.in-Rotate.is) c.deref.ensures.value
-    c.in-Ok.ensures.rotation)
-    c.in-Err.ensures.lasts.telling c.in-Err.ensures.crash c.in-Err.ensures.lasts.time in
-    subst (λ (j : JournalOn g.row.D.Denot). IsInOrder g.D.Disk.at (stored c.self.inside.side j
-    c.begin_generation.new.beside
-    c.prepare.new.protocol (Some c.sum_of_faults.result) c.prepare.new.changes.items)) (sym c.in-Err.ensures.kept)
-    (turning_halts g.D.Disk.at c.self.inside.side c.self.inside.taken c.self.inside.beside c.begin_generation.new.beside
-    c.self.inside.protocol c.in-Do.command c.deref.result.now t {changes = c.prepare.new.changes.items}
-    g.met.D.Disk.seen_may_stay c.self.inside.stopped c.self.invariant c.prepare.new.protocol c.prepare.ensures.same
-    c.sum_of_faults.result).order
+returns-in-Err-clause-order g c = (invariant_of-self-in-Err g c).order
 
 pub returns-in-Err-clause-disks : goal.returns-in-Err-clause-disks
 returns-in-Err-clause-disks g c =
@@ -146,10 +140,7 @@ returns-in-Err-clause-disks g c =
     c.begin_generation.new.beside
     c.self.inside.protocol c.self.inside.stopped c.in-Do.command c.deref.result.now (ap (λ (o : Stored g.row.D.Denot).
     o.stopped) c.self.view_is ∙ c.requires.going) c.self.invariant
-    (rotation_from c.self.inside.protocol c.prepare.new.protocol c.protocol.result.now c.in-Ready.planned
-    c.in-Do.command c.in-Ok.checkpoint.items c.deref.result.now c.prepare.ensures.same c.protocol.ensures
-    (c.in-Ready.ensures.ready.0 ∙ unhinted_rotation c.in-Do.command c.in-Rotate.is) c.deref.ensures.value
-    c.in-Ok.ensures.rotation)
+    (rotates_on g (goal.at.returns-in-Err-clause-disks g c).After-deref)
     c.in-Err.ensures.lasts.telling c.in-Err.ensures.crash c.in-Err.ensures.lasts.time in
     subst (λ (j : JournalOn g.row.D.Denot). WritesOn g.D.Disk.at c.args.self.now c.args.request.now answer.DiskFault
     (stored c.self.inside.side j c.begin_generation.new.beside c.prepare.new.protocol (Some c.sum_of_faults.result)
@@ -166,10 +157,7 @@ invariant_of-self-in-Rotate g c =
     c.begin_generation.new.taken.disk
     c.self.inside.protocol c.self.inside.stopped c.in-Do.command c.deref.result.now (ap (λ (o : Stored g.row.D.Denot).
     o.stopped) c.self.view_is ∙ c.requires.going) c.self.invariant
-    (rotation_from c.self.inside.protocol c.prepare.new.protocol c.protocol.result.now c.in-Ready.planned
-    c.in-Do.command c.in-Ok.checkpoint.items c.deref.result.now c.prepare.ensures.same c.protocol.ensures
-    (c.in-Ready.ensures.ready.0 ∙ unhinted_rotation c.in-Do.command c.in-Rotate.is) c.deref.ensures.value
-    c.in-Ok.ensures.rotation)
+    (rotates_on g (goal.at.invariant_of-self-in-Rotate g c).After-deref)
     c.in-Ok-begin_generation.ensures.lasts.telling c.in-Ok-begin_generation.ensures.crash
     c.in-Ok-begin_generation.ensures.lasts.time in
     subst (λ (x : Side). IsWithin g.D.Disk.at x c.begin_generation.new.taken c.begin_generation.new.beside
@@ -195,39 +183,7 @@ invariant_of-self-in-Rotate g c =
     c.in-Ok-begin_generation.ensures.settled)))
 
 pub returns-in-Rotate-clause-order : goal.returns-in-Rotate-clause-order
-returns-in-Rotate-clause-order g c =
-    let t = turns_by g.D.Disk.at c.self.inside.side c.self.inside.taken c.self.inside.beside
-    c.begin_generation.new.taken.disk
-    c.self.inside.protocol c.self.inside.stopped c.in-Do.command c.deref.result.now (ap (λ (o : Stored g.row.D.Denot).
-    o.stopped) c.self.view_is ∙ c.requires.going) c.self.invariant
-    (rotation_from c.self.inside.protocol c.prepare.new.protocol c.protocol.result.now c.in-Ready.planned
-    c.in-Do.command c.in-Ok.checkpoint.items c.deref.result.now c.prepare.ensures.same c.protocol.ensures
-    (c.in-Ready.ensures.ready.0 ∙ unhinted_rotation c.in-Do.command c.in-Rotate.is) c.deref.ensures.value
-    c.in-Ok.ensures.rotation)
-    c.in-Ok-begin_generation.ensures.lasts.telling c.in-Ok-begin_generation.ensures.crash
-    c.in-Ok-begin_generation.ensures.lasts.time in
-    subst (λ (x : Side). IsInOrder g.D.Disk.at (stored x c.begin_generation.new.taken c.begin_generation.new.beside
-    c.make-done.new.protocol
-    c.self.inside.stopped c.prepare.new.changes.items)) (sym c.in-Ok-begin_generation.ensures.side)
-    (subst (λ (d : g.row.D.Denot). IsInOrder g.D.Disk.at (stored (other c.self.inside.side)
-    c.begin_generation.new.taken d
-    c.make-done.new.protocol c.self.inside.stopped c.prepare.new.changes.items)) (sym
-    c.in-Ok-begin_generation.ensures.exchanged)
-    (subst (λ (o : Option ℕ). IsInOrder g.D.Disk.at (stored (other c.self.inside.side) c.begin_generation.new.taken
-    c.self.inside.taken.disk c.make-done.new.protocol o c.prepare.new.changes.items))
-    (sym (ap (λ (o : Stored g.row.D.Denot). o.stopped) c.self.view_is ∙ c.requires.going))
-    (turning_within g.D.Disk.at c.self.inside.side c.self.inside.taken c.self.inside.beside
-    c.begin_generation.new.taken.disk
-    c.self.inside.protocol c.in-Do.command c.deref.result.now t {changes = c.prepare.new.changes.items}
-    c.make-done.new.protocol (state_of c.self.inside.protocol) c.prepare.ensures.stands
-    (λ t so. let is = c.in-Ready.ensures.prepared t so
-    in prepared_steps c.make-done.new.protocol t c.in-Do.command c.in-Ready.planned is (c.make-done.ensures.state t
-    (stands_after c.self.inside.protocol c.prepare.new.protocol t c.prepare.ensures.same so)))
-    c.in-Ok-begin_generation.ensures.durable c.in-Ok-begin_generation.ensures.created
-    c.begin_generation.new.taken.generation c.begin_generation.new.taken.limit c.begin_generation.new.taken.start
-    c.begin_generation.new.taken.count
-    c.in-Ok-begin_generation.ensures.known.0 c.in-Ok-begin_generation.ensures.known.3
-    c.in-Ok-begin_generation.ensures.settled).order))
+returns-in-Rotate-clause-order g c = (invariant_of-self-in-Rotate g c).order
 
 pub returns-in-Rotate-clause-disks : goal.returns-in-Rotate-clause-disks
 returns-in-Rotate-clause-disks g c =
@@ -235,10 +191,7 @@ returns-in-Rotate-clause-disks g c =
     c.begin_generation.new.taken.disk
     c.self.inside.protocol c.self.inside.stopped c.in-Do.command c.deref.result.now (ap (λ (o : Stored g.row.D.Denot).
     o.stopped) c.self.view_is ∙ c.requires.going) c.self.invariant
-    (rotation_from c.self.inside.protocol c.prepare.new.protocol c.protocol.result.now c.in-Ready.planned
-    c.in-Do.command c.in-Ok.checkpoint.items c.deref.result.now c.prepare.ensures.same c.protocol.ensures
-    (c.in-Ready.ensures.ready.0 ∙ unhinted_rotation c.in-Do.command c.in-Rotate.is) c.deref.ensures.value
-    c.in-Ok.ensures.rotation)
+    (rotates_on g (goal.at.returns-in-Rotate-clause-disks g c).After-deref)
     c.in-Ok-begin_generation.ensures.lasts.telling c.in-Ok-begin_generation.ensures.crash
     c.in-Ok-begin_generation.ensures.lasts.time in
     subst (λ (x : Side). WritesOn g.D.Disk.at c.args.self.now c.args.request.now
@@ -330,17 +283,7 @@ invariant_of-self-in-Err-write_record g c =
     }
 
 pub returns-in-Err-write_record-clause-order : goal.returns-in-Err-write_record-clause-order
-returns-in-Err-write_record-clause-order g c =
-    let a = appends g.D.Disk.at c.self.inside.side c.self.inside.taken c.write_record.new.taken c.self.inside.beside
-    c.self.inside.protocol c.self.inside.stopped c.in-Do.command c.in-Ready.planned (ap (λ (o : Stored g.row.D.Denot).
-    o.stopped) c.self.view_is ∙ c.requires.going) c.self.invariant c.in-Ready.ensures.prepared
-    c.write_record.ensures.called.lasts.telling c.write_record.ensures.crash in
-    order_same g.D.Disk.at c.self.inside.changes.items _ c.self.inside.side c.write_record.new.taken
-    c.self.inside.beside c.self.inside.protocol c.prepare.new.protocol
-    (Some c.sum_of_faults-in-Err-write_record.result) c.prepare.ensures.same
-    (order_halted g.D.Disk.at c.self.inside.side c.write_record.new.taken c.self.inside.beside c.self.inside.protocol
-    c.sum_of_faults-in-Err-write_record.result g.met.D.Disk.seen_may_stay (kept_near g.D.Disk.at c.self.inside.side
-    c.self.inside.taken c.write_record.new.taken c.self.inside.beside c.self.inside.protocol c.in-Do.command a))
+returns-in-Err-write_record-clause-order g c = (invariant_of-self-in-Err-write_record g c).order
 
 pub returns-in-Err-write_record-clause-disks : goal.returns-in-Err-write_record-clause-disks
 returns-in-Err-write_record-clause-disks g c =
@@ -394,21 +337,7 @@ invariant_of-self-2 g c =
     }
 
 pub returns-clause-order : goal.returns-clause-order
-returns-clause-order g c =
-    let a = appends g.D.Disk.at c.self.inside.side c.self.inside.taken c.write_record.new.taken c.self.inside.beside
-    c.self.inside.protocol c.self.inside.stopped c.in-Do.command c.in-Ready.planned (ap (λ (o : Stored g.row.D.Denot).
-    o.stopped) c.self.view_is ∙ c.requires.going) c.self.invariant c.in-Ready.ensures.prepared
-    c.write_record.ensures.called.lasts.telling c.write_record.ensures.crash in
-    subst (λ (o : Option ℕ). IsInOrder g.D.Disk.at (stored c.self.inside.side c.write_record.new.taken
-    c.self.inside.beside c.make-done-2.new.protocol o c.note.new.changes.items))
-    (sym (ap (λ (o : Stored g.row.D.Denot). o.stopped) c.self.view_is ∙ c.requires.going))
-    (order_going g.D.Disk.at c.self.inside.side c.write_record.new.taken c.self.inside.beside
-    c.make-done-2.new.protocol (went_on g.D.Disk.at c.self.inside.side c.self.inside.taken c.write_record.new.taken
-    c.self.inside.beside c.self.inside.protocol c.in-Do.command a c.make-done-2.new.protocol
-    (state_of c.self.inside.protocol) c.prepare.ensures.stands (λ t so. let is = c.in-Ready.ensures.prepared t so
-    in prepared_steps c.make-done-2.new.protocol t c.in-Do.command c.in-Ready.planned is
-    (c.make-done-2.ensures.state t (stands_after c.self.inside.protocol c.prepare.new.protocol t
-    c.prepare.ensures.same so))) c.in-Ok-write_record.ensures.durable c.in-Ok-write_record.ensures.appended))
+returns-clause-order g c = (invariant_of-self-2 g c).order
 
 pub returns-clause-disks : goal.returns-clause-disks
 returns-clause-disks g c =
