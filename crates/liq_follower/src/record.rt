@@ -74,7 +74,13 @@ fn make_on<L: Ledger>(
     ensures { (s : State) → StandsFor protocol.old s
         → Replays s command.now index protocol.new result }
 {
-    redo(protocol, &mut (), command, index, &mut Steps::<L>::new(blank))
+    redo(
+        protocol,
+        &mut (),
+        command,
+        index,
+        &mut Steps::<L>::new(blank),
+    )
 }
 
 // The same, on a ledger of one part.

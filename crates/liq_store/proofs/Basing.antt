@@ -1,5 +1,5 @@
 -- The state with which a journal begins, by its generation and what its checkpoint is read as.
-use Rattle.std.proofs.Common.{◌≡◌, ◌∙◌, ◌==◌, ◌&&◌, ◌+◌, ℕ, List, length, Some, None, Bool, true, false, Result, Ok, Err, if◌then◌else◌, sym, ap, subst}
+use Rattle.std.proofs.Common.{◌≡◌, ◌∙◌, ◌==◌, ◌&&◌, ◌+◌, ℕ, List, length, Some, None, Bool, true, false, Result, Ok, Err, if◌then◌else◌, sym, ap, subst, rules, tests}
 use Rattle.liq_types.specs.declared.image.Image.{Image}
 use Rattle.liq_types.specs.Soundness.{first_unsound}
 use Rattle.liq_types.specs.State.{State, started}
@@ -60,3 +60,7 @@ pub tested_image : (w : Written) (i begun : Image) (generation limit : ℕ) → 
     → is_image_of w i ≡ (begun.generation == generation && begun.limit == limit)
 tested_image w i begun generation limit same same_limit is =
     let back = sym is in λ k. (back k).generation == same k && (back k).limit == same_limit k
+
+-- of two tests that hold the first
+pub first_same : (x y : ℕ) (other : Bool) → (x == y && other) ≡ true → x ≡ y
+first_same x y other both = search (rules, tests)

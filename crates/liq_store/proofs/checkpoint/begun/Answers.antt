@@ -1,9 +1,9 @@
-use Rattle.std.proofs.Common.{◌≡◌, ◌∙◌, None, Ok, Err, sym, subst}
+use Rattle.std.proofs.Common.{◌≡◌, ◌∙◌, None, Ok, Err, ap, sym, subst}
 use Rattle.liq_types.specs.Soundness.{first_unsound}
 use Rattle.liq_types.specs.State.{started}
 use Rattle.liq_core.specs.Core.{Core, StandsFor}
 use Rattle.liq_disk_pair.specs.Replay.{read_base}
-use Rattle.liq_store.proofs.Basing.{begins_badly, foreign_base, own_base, tested_image, unsound_base}
+use Rattle.liq_store.proofs.Basing.{begins_badly, first_same, foreign_base, own_base, tested_image, unsound_base}
 use Rattle.liq_store.proofs.checkpoint.begun.Goals as goal
 
 pub returns-in-Err-Unsound-clause-begins : goal.returns-in-Err-Unsound-clause-begins
@@ -35,3 +35,8 @@ returns-in-Ok-of-clause-begins c w same limit =
       own_base w c.args.image none is,
       subst (λ (k : Core). StandsFor k (started c.args.image)) (sym c.in-Ok-of.ensures) c.in-Ok.ensures.stands,
     )
+
+pub returns-in-Ok-of-clause-generation : goal.returns-in-Ok-of-clause-generation
+returns-in-Ok-of-clause-generation c =
+    ap (λ (k : Core). k.image.generation) c.in-Ok-of.ensures
+    ∙ first_same c.in-Ok.protocol.image.generation c.args.generation _ (sym c.is_of.ensures ∙ c.if-not-is_of.false)
