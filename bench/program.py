@@ -9,13 +9,16 @@ from pathlib import Path
 from typing import Iterator
 
 TOP = Path(__file__).resolve().parent.parent
-PROGRAM = str(TOP / "crates/liq_main/out/liq_main")
+# Another build of the program may be named as for bin/liq; it is never built then.
+NAMED = os.environ.get("LIQ_PROGRAM", "")
+PROGRAM = os.path.abspath(NAMED or TOP / "crates/liq_main/out/liq_main")
 DISKS = ("left.liq", "right.liq")
 
 
 def build() -> None:
     """Lets bin/liq build the program where there is none, or one that is older than its sources."""
-    subprocess.run([TOP / "bin/liq", "build"], stdin=subprocess.DEVNULL, stdout=subprocess.DEVNULL)
+    if not NAMED:
+        subprocess.run([TOP / "bin/liq", "build"], stdin=subprocess.DEVNULL, stdout=subprocess.DEVNULL)
 
 
 @contextlib.contextmanager
