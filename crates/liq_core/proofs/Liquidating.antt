@@ -49,7 +49,8 @@ use Rattle.liq_rule_step.specs.Rules.{effect, done_of, rules}
 use Rattle.liq_core.specs.Sound.{IsSound, core_of}
 use Rattle.liq_rule_sound.specs.SoundState.{IsSoundState}
 use Rattle.liq_rule_step.specs.Step.{Allowed, after, ruling}
-use Rattle.liq_rule_step.specs.Verbs.{accounts, rotates}
+use Rattle.liq_types.specs.Verbs.{is_rotate}
+use Rattle.liq_rule_step.specs.Verbs.{accounts}
 use Rattle.liq_core_lowest.specs.Victims.{AreKept, AreVictims}
 use Rattle.liq_rule_step.proofs.Allowed.{all-records, allowed_rules}
 use Rattle.liq_rule_step.proofs.Counting.{listed_count, lowest_count, lowest_within}
@@ -72,7 +73,7 @@ pub record IsStrike (s : State) (call : Call) (liquidator : ℕ) (vs : List Vict
   pub victims : AreVictims s liquidator vs
   pub few : length vs ≤ LOWEST_MOST
   pub range : liquidator < ACCOUNTS
-  pub stays : rotates call ≡ false
+  pub stays : is_rotate call ≡ false
 
 listed_victims : (s : State) (liquidator account : ℕ) (made : Result One Refusal) → one s account ≡ made
     → AreVictims s liquidator (listed (victim_by account made))
@@ -246,7 +247,7 @@ counted p wallets pools surplus kept order pool clients =
 pub record IsAsked (core : Core) (command : Command) (done : Done) (liquidator : ℕ) (vs : List Victim) : Type 0 where
   pub allowed : ruling (state_of core) command ≡ Allowed
   pub made : done ≡ done_of (state_of core) command.call
-  pub stays : rotates command.call ≡ false
+  pub stays : is_rotate command.call ≡ false
   pub is : effect (state_of core) command.call ≡ all_liquidated (state_of core) liquidator vs
   pub victims : AreVictims (state_of core) liquidator vs
 

@@ -17,7 +17,7 @@ use Rattle.liq_core.specs.Core.{Core, StandsFor, state_of}
 use Rattle.liq_core.specs.Sound.{IsSound, IsKeptRow, core_of}
 use Rattle.liq_rule_step.specs.Image.{image}
 use Rattle.liq_rule_step.specs.Step.{Allowed, after, noted, ruling}
-use Rattle.liq_rule_step.specs.Verbs.{rotates}
+use Rattle.liq_types.specs.Verbs.{is_rotate}
 use Rattle.liq_rule_step.proofs.SoundRules.{noted_sound}
 use Rattle.liq_rule_sound.specs.SoundState.{IsSoundState}
 use Rattle.liq_rule_sound.proofs.SoundStart.{started_with}
@@ -51,7 +51,7 @@ module _ (p : Inside) (c : Command) (done : Done) (clients : WithRoom Client) (n
         order = sound.order;
       }
 
-  pub noted_stands : (old : Core) → core_of p ≡ old → rotates c.call ≡ false → (s : State) → StandsFor old s
+  pub noted_stands : (old : Core) → core_of p ≡ old → is_rotate c.call ≡ false → (s : State) → StandsFor old s
       → StandsFor (core_of (record p { records = p.records + 1; clients = clients })) (noted s c done)
   noted_stands old view stays s h =
       let row : Client = record { last = c.number; kept = done } in

@@ -26,7 +26,7 @@ use Rattle.liq_core_limits.specs.Generations.{next_generation}
 use Rattle.liq_rule_step.specs.Image.{image}
 use Rattle.liq_rule_step.specs.Rules.{effect, done_of}
 use Rattle.liq_rule_step.specs.Step.{Allowed, after, noted, room_rules, ruling}
-use Rattle.liq_rule_step.specs.Verbs.{rotates}
+use Rattle.liq_types.specs.Verbs.{is_rotate}
 use Rattle.liq_rule_step.proofs.Allowed.{allowed_number}
 use Rattle.liq_rule_sound.proofs.SoundStart.{started_with}
 use Rattle.liq_rule_sound.proofs.SoundStep.{after_sound}
@@ -38,7 +38,7 @@ use Rattle.liq_core.proofs.Noting.{kept_rows, made_sound, made_stands}
 use Rattle.liq_core.proofs.SoundCores.{core_facts, image_back, sound_stands}
 
 -- a call that is no rotation
-pub stays_so : (call : Call) → (call ≡ Rotate → ⊥) → rotates call ≡ false
+pub stays_so : (call : Call) → (call ≡ Rotate → ⊥) → is_rotate call ≡ false
 stays_so Rotate other = absurd (other refl)
 stays_so _ other = refl
 
@@ -56,7 +56,7 @@ module _ (s : State) (c : Command) (is : c.call ≡ Rotate) where
   turned_image = ap (λ (t : State). image (noted t c (done_of s c.call))) (ap (effect s) is)
 
   pub turned_records : (after s c).records ≡ 0
-  turned_records = ap (λ b. cond b 0 ((effect s c.call).records + 1)) (ap rotates is)
+  turned_records = ap (λ b. cond b 0 ((effect s c.call).records + 1)) (ap is_rotate is)
 
 -- of the state that begins with a core's image
 pub turned_core : (core : Core) → IsSoundImage core.image core.records → (c : Command) → c.call ≡ Rotate
@@ -152,9 +152,9 @@ rotation_rules : (s : State) (c : Command) → c.call ≡ Rotate → first_refus
     ≡ first_refusal (limits (s.generation + 1) (checkpoint_length (image (after s c))))
 rotation_rules s c is =
     ap (λ b. first_refusal (cond b (limits (s.generation + 1) (checkpoint_length (image (after s c))))
-    ((nat_le RECORDS_MOST s.records, JournalFull RECORDS_MOST) ∷ []))) (ap rotates is)
+    ((nat_le RECORDS_MOST s.records, JournalFull RECORDS_MOST) ∷ []))) (ap is_rotate is)
 
-pub other_rules : (s : State) (c : Command) → rotates c.call ≡ false → first_refusal (room_rules s c)
+pub other_rules : (s : State) (c : Command) → is_rotate c.call ≡ false → first_refusal (room_rules s c)
     ≡ first_refusal ((nat_le RECORDS_MOST s.records, JournalFull RECORDS_MOST) ∷ [])
 other_rules s c stays =
     ap (λ b. first_refusal (cond b (limits (s.generation + 1) (checkpoint_length (image (after s c))))

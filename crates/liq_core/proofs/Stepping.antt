@@ -25,7 +25,8 @@ use Rattle.liq_redemption.specs.Last.{last_entry}
 use Rattle.liq_redemption.specs.Redemption.{RedeemTerms, redeeming_terms, visited}
 use Rattle.liq_rule_step.specs.ListChanges.{stands}
 use Rattle.liq_rule_step.specs.Rules.{effect, call_changes}
-use Rattle.liq_rule_step.specs.Verbs.{accounts, rotates}
+use Rattle.liq_types.specs.Verbs.{is_rotate}
+use Rattle.liq_rule_step.specs.Verbs.{accounts}
 use Rattle.liq_rule_step.proofs.AlikeFollowed.{told, stands-image}
 use Rattle.liq_rule_step.proofs.Ascending.{Ordered, effect-ascends}
 use Rattle.liq_rule_step.proofs.Following.{troves-ascend}
@@ -137,7 +138,7 @@ planned_puts core sound call moved list hint old new made is h =
 -- it has the move's hint words, is no rotation, and names just the accounts whose wallets are written
 pub record Makes (moved : Move) (call : Call) : Type 0 where
   pub words : words_of call ≡ words_in moved
-  pub stays : rotates call ≡ false
+  pub stays : is_rotate call ≡ false
   pub names : accounts call ≡ (room_to_move moved).wallets
 
 pub move_makes : (s : State) (call : Call) (moved : Move) → IsMove s call moved → Makes moved call

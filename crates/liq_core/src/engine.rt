@@ -15,7 +15,7 @@ ghost use Rattle.liq_core.specs.Sound.{IsKeptRow};
 ghost use Rattle.liq_core.specs.Effects.{IsMadeBy, IsMove, room_to_move, words_in};
 ghost use Rattle.liq_core.specs.Steps.{entry_put, last_put, used_hint, words_of};
 ghost use Rattle.liq_core.specs.Turn.{Forecasts, IsRuled};
-ghost use Rattle.liq_rule_step.specs.Verbs.{rotates};
+ghost use Rattle.liq_types.specs.Verbs.{is_rotate};
 ghost use Rattle.liq_rule_step.specs.Step.{rules, first_refusal, noted, step};
 
 use crate::effects::{Effect, Move};
@@ -391,7 +391,7 @@ impl Protocol {
 
     /// Counts a command that is no rotation, and keeps its reply under its number.
     fn note(&mut self, command: &Command, done: Done)
-        requires stays { rotates command.now.call ≡ false }
+        requires stays { is_rotate command.now.call ≡ false }
         requires row { Contains self.old.room.clients command.now.client }
         requires number { 0 < command.now.number }
         requires few { self.old.records < RECORDS_MOST }

@@ -12,7 +12,7 @@ ghost use Rattle.liq_rule_step.specs.Liquidation.{all_liquidated, offset_events,
 ghost use Rattle.liq_rule_step.specs.Rules.{done_of, effect};
 ghost use Rattle.liq_rule_step.specs.Step.{Allowed, after, ruling};
 ghost use Rattle.liq_core.specs.Turn.{Forecasts, IsRuled};
-ghost use Rattle.liq_rule_step.specs.Verbs.{rotates};
+ghost use Rattle.liq_types.specs.Verbs.{is_rotate};
 ghost use Rattle.liq_core_lowest.specs.Lowest.{AreLowest, IsNoPlan};
 ghost use Rattle.liq_core_lowest.specs.Victims.{AreVictims, course_of};
 
@@ -195,7 +195,7 @@ impl Protocol {
     )
         requires allowed { ruling (state_of self.old) command.now ≡ Allowed }
         requires done { done ≡ done_of (state_of self.old) command.now.call }
-        requires stays { rotates command.now.call ≡ false }
+        requires stays { is_rotate command.now.call ≡ false }
         requires effect { effect (state_of self.old) command.now.call
             ≡ all_liquidated (state_of self.old) liquidator victims.now }
         requires victims { AreVictims (state_of self.old) liquidator victims.now }

@@ -7,7 +7,7 @@ use Rattle.liq_types.specs.State.{State}
 use Rattle.liq_core.specs.Core.{Core, StandsFor}
 use Rattle.liq_core.specs.Plan.{Plan, IsPlan}
 use Rattle.liq_rule_step.specs.Step.{Allowed, after, after_ruling, effect, ruling, step}
-use Rattle.liq_rule_step.specs.Verbs.{rotates}
+use Rattle.liq_types.specs.Verbs.{is_rotate}
 use Rattle.liq_rule_step.proofs.Allowed.{effect-records}
 use Rattle.liq_rule_step.proofs.Generations.{effect-generation}
 
@@ -25,18 +25,18 @@ stepped done s c plan is stands =
 
 -- ---- what a command leaves that is no rotation: one record more, of the same generation
 
-pub after-records : (s : State) (c : Command) → rotates c.call ≡ false → (after s c).records ≡ s.records + 1
+pub after-records : (s : State) (c : Command) → is_rotate c.call ≡ false → (after s c).records ≡ s.records + 1
 after-records s c stays =
     ap (λ (b : Bool). cond b 0 ((effect s c.call).records + 1)) stays
     ∙ ap (λ n. n + 1) (effect-records s c.call)
 
 -- the counters of a core that makes the command's step
-pub counts_on : (old new : Core) (s : State) (c : Command) → rotates c.call ≡ false → StandsFor old s
+pub counts_on : (old new : Core) (s : State) (c : Command) → is_rotate c.call ≡ false → StandsFor old s
     → StandsFor new (after s c) → new.records ≡ old.records + 1
 counts_on old new s c stays before stands = stands.records ∙ after-records s c stays
     ∙ ap (λ n. n + 1) (sym before.records)
 
-pub generation_stays : (old new : Core) (s : State) (c : Command) → rotates c.call ≡ false → StandsFor old s
+pub generation_stays : (old new : Core) (s : State) (c : Command) → is_rotate c.call ≡ false → StandsFor old s
     → StandsFor new (after s c) → new.image.generation ≡ old.image.generation
 generation_stays old new s c stays before stands =
     ap (λ (i : Image). i.generation) stands.image ∙ effect-generation s c.call stays

@@ -8,10 +8,10 @@ use Rattle.liq_types.specs.declared.requests.Call.TheVariants.{Rotate}
 use Rattle.liq_types.specs.declared.requests.Command.{Command}
 use Rattle.liq_types.specs.State.{State}
 use Rattle.liq_rule_step.specs.Step.{after}
-use Rattle.liq_rule_step.specs.Verbs.{rotates}
+use Rattle.liq_types.specs.Verbs.{is_rotate}
 use Rattle.liq_rule_step.proofs.Generations.{effect-generation, effect-limit}
 use Rattle.liq_journal.specs.Crash.{is_odd}
-use Rattle.liq_journal.specs.Written.{Open, Written, found_on, is_rotate}
+use Rattle.liq_journal.specs.Written.{Open, Written, found_on}
 use Rattle.liq_journal.proofs.Heading.{has_generation}
 use Rattle.liq_journal.proofs.Parity.{parity_of}
 use Rattle.liq_disk_pair.specs.Replay.{outcome, replay}
@@ -20,11 +20,6 @@ use Rattle.liq_disk_pair.proofs.Replaying.{first_accepted, leads_from, replay_no
 
 abbrev pub HaveNoRotation : List Command → Type 0
 HaveNoRotation commands = All (λ (c : Command). is_rotate c.call ≡ false) commands
-
--- a verb that a record holds is none by the rules
-pub never_rotates : (call : Call) → is_rotate call ≡ false → rotates call ≡ false
-never_rotates Rotate is = is
-never_rotates _ is = refl
 
 -- what each other command leaves, a replay leaves
 module _ (number : State → ℕ)
@@ -39,10 +34,10 @@ module _ (number : State → ℕ)
       replay_stays (index + 1) (after s c) end cs others first.rest ∙ stays s c here
 
 pub after_generation : (s : State) (c : Command) → is_rotate c.call ≡ false → (after s c).generation ≡ s.generation
-after_generation s c none = effect-generation s c.call (never_rotates c.call none)
+after_generation s c none = effect-generation s c.call none
 
 after_limit : (s : State) (c : Command) → is_rotate c.call ≡ false → (after s c).limit ≡ s.limit
-after_limit s c none = effect-limit s c.call (never_rotates c.call none)
+after_limit s c none = effect-limit s c.call none
 
 pub outcome_generation : (w : Written) (end : State) → HaveNoRotation w.commands → outcome w ≡ Ok end
     → end.generation ≡ w.generation

@@ -6,7 +6,7 @@ use Rattle.liq_types.specs.declared.requests.Command.{Command}
 use Rattle.liq_types.specs.State.{State}
 use Rattle.liq_rule_step.specs.Step.{after, ruling}
 use Rattle.liq_wire.specs.Fields.{heard}
-use Rattle.liq_journal.specs.Written.{is_rotate}
+use Rattle.liq_types.specs.Verbs.{is_rotate}
 
 abbrev pub heard_command : Command → Command
 heard_command c = record { client = c.client; number = c.number; call = heard c.call }

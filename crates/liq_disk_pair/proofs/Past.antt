@@ -17,7 +17,8 @@ use Rattle.liq_rule_step.proofs.Runs.{run_accepted}
 use Rattle.liq_journal.specs.Crash.{IsClosed, beginning}
 use Rattle.liq_journal.specs.declared.damage.Damage.{Damage}
 use Rattle.liq_journal.specs.Opened.{OpenLeaves}
-use Rattle.liq_journal.specs.Written.{Absent, Damaged, Open, Written, found_on, is_rotate}
+use Rattle.liq_types.specs.Verbs.{is_rotate}
+use Rattle.liq_journal.specs.Written.{Absent, Damaged, Open, Written, found_on}
 use Rattle.liq_outside.specs.Disk.{overwritten}
 use Rattle.liq_disk_pair.specs.declared.side.Side.{Side}
 use Rattle.liq_disk_pair.specs.declared.side.Side.TheVariants.{Left, Right}

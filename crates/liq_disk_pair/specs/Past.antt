@@ -9,7 +9,8 @@ use Rattle.liq_rule_step.specs.Step.{Allowed, accepted, after, ruling, run}
 use Rattle.liq_outside.specs.At.{DiskAt}
 use Rattle.liq_outside.specs.Disk.{LeftSince}
 use Rattle.liq_journal.specs.Crash.{SettleLeaves}
-use Rattle.liq_journal.specs.Written.{Absent, Open, Written, found_on, is_rotate}
+use Rattle.liq_types.specs.Verbs.{is_rotate}
+use Rattle.liq_journal.specs.Written.{Absent, Open, Written, found_on}
 use Rattle.liq_disk_pair.specs.declared.side.Side.{Side}
 use Rattle.liq_disk_pair.specs.Kept.{IsKept}
 use Rattle.liq_disk_pair.specs.Pair.{StandFor}

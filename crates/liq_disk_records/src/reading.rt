@@ -3,7 +3,8 @@ ghost use Rattle.std.specs.Prelude.{◌≡◌, ◌≤◌, ◌-◌, Some, List, �
 ghost use Rattle.liq_journal.specs.Bodies.{IsJournalOf};
 ghost use Rattle.liq_outside.specs.Disk.{Looked};
 ghost use Rattle.liq_journal.specs.Parts.{IsPartOf};
-ghost use Rattle.liq_journal.specs.Written.{Written, is_rotate};
+ghost use Rattle.liq_types.specs.Verbs.{is_rotate};
+ghost use Rattle.liq_journal.specs.Written.{Written};
 ghost use Rattle.liq_disk_records.specs.Reading.{CountsReading, IsReadable, IsRecordNumber};
 
 use crate::answers::AcceptedFault;

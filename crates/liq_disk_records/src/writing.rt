@@ -4,7 +4,8 @@ ghost use Rattle.liq_outside.specs.Disk.{IsLater, LeavesOnly, LeftNow, Only};
 ghost use Rattle.liq_journal.specs.Called.{Called};
 ghost use Rattle.liq_journal.specs.Crash.{BeforeOrAfter, Stands, is_odd};
 ghost use Rattle.liq_journal.specs.Settled.{IsSettled};
-ghost use Rattle.liq_journal.specs.Written.{Written, and_then, is_rotate};
+ghost use Rattle.liq_types.specs.Verbs.{is_rotate};
+ghost use Rattle.liq_journal.specs.Written.{Written, and_then};
 ghost use Rattle.liq_disk_records.specs.Bodies.{read_back};
 
 use liq_journal::{DiskFault, Journal};

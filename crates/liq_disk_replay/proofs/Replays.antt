@@ -18,7 +18,7 @@ use Rattle.liq_rule_step.specs.Verbs.{unhinted_call}
 use Rattle.liq_core.specs.Core.{Core, StandsFor}
 use Rattle.liq_journal.specs.declared.damage.Damage.{Damage}
 use Rattle.liq_journal.specs.declared.damage.What.TheVariants as what
-use Rattle.liq_journal.specs.Written.{is_rotate}
+use Rattle.liq_types.specs.Verbs.{is_rotate}
 use Rattle.liq_disk_pair.specs.Replay.{replay, replayed}
 use Rattle.liq_disk_pair.proofs.Generations.{HaveNoRotation}
 use Rattle.liq_disk_pair.proofs.Replaying.{first_accepted, replay_more, replay_none, replay_then}

@@ -6,11 +6,11 @@ use Rattle.liq_types.specs.declared.requests.Command.{Command}
 use Rattle.liq_types.specs.declared.requests.Request.TheVariants.{Do}
 use Rattle.liq_types.specs.State.{State}
 use Rattle.liq_rule_step.specs.Step.{Ruling, Refused, Repeated, Allowed, ruling, after, after_ruling, run, accepted, is_allowed}
-use Rattle.liq_rule_step.specs.Verbs.{rotates}
+use Rattle.liq_types.specs.Verbs.{is_rotate}
 use Rattle.liq_rule_step.proofs.Allowed.{allowed_few}
 use Rattle.liq_core_hinted.proofs.Steps.{after-records}
 use Rattle.liq_disk_pair.specs.Replay.{replay, replayed}
-use Rattle.liq_disk_pair.proofs.Generations.{HaveNoRotation, never_rotates}
+use Rattle.liq_disk_pair.proofs.Generations.{HaveNoRotation}
 
 -- ---- a replay is a run
 
@@ -49,8 +49,8 @@ module _ (end : State) where
   replay_few [] index s none few h = omega arith
   replay_few (c ∷ cs) index s none few h = by (ruling s c) refl h (λ less k. replay_few cs (index + 1) (after s c)
       (λ i d lt. none (suc i) d (omega arith)) less k) where
-        stays : rotates c.call ≡ false
-        stays = never_rotates c.call (none zero c (omega arith))
+        stays : is_rotate c.call ≡ false
+        stays = (none zero c (omega arith))
 
         counted : (after s c).records ≡ s.records + 1
         counted = after-records s c stays

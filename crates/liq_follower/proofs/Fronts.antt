@@ -13,11 +13,11 @@ use Rattle.liq_rule_step.specs.Step.{Allowed, after, ruling}
 use Rattle.liq_rule_step.proofs.Allowed.{allowed_few}
 use Rattle.liq_journal.specs.declared.damage.Damage.{Damage}
 use Rattle.liq_journal.specs.Records.{begins_whole}
-use Rattle.liq_journal.specs.Written.{Open, Written, and_then, end_of, found_on, is_rotate, record_on}
+use Rattle.liq_types.specs.Verbs.{is_rotate}
+use Rattle.liq_journal.specs.Written.{Open, Written, and_then, end_of, found_on, record_on}
 use Rattle.liq_journal.proofs.Bodies.{found_no_rotation}
 use Rattle.liq_disk_pair.specs.Pair.{Faulty, Holding, standing}
 use Rattle.liq_core_hinted.proofs.Steps.{after-records}
-use Rattle.liq_disk_pair.proofs.Generations.{never_rotates}
 use Rattle.liq_disk_pair.proofs.Replaying.{outcome_then}
 use Rattle.liq_disk_pair.proofs.Standings.{standing_damaged, standing_faulty, standing_open}
 use Rattle.liq_follower.specs.Fed.{AreDamagedAt, EndsWhole, IsNoRecord, IsRecordOf, LeadTo, begun_limit, fed, has_header, is_turned}
@@ -106,9 +106,9 @@ module _ (front : List ℕ) (s : State) (e : EndsWhole front s) where
         let open_more = found_next c read in
         let stays : is_rotate c.call ≡ false = (All-pop (λ (d : Command). is_rotate d.call ≡ false) (w.commands ++ c
         ∷ []) w.commands (Some c) refl (found_no_rotation true (front ++ record_is) (and_then w c) open_more)).1 in
-        let more = after-records s c (never_rotates c.call stays) in
+        let more = after-records s c stays in
         let commands = length-append w.commands (c ∷ []) in
-        let room : s.records < 1000000 = allowed_few s c allowed (never_rotates c.call stays) in
+        let room : s.records < 1000000 = allowed_few s c allowed stays in
         record {
           written = and_then w c;
           found = open_more;

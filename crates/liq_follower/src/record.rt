@@ -3,7 +3,7 @@ ghost use Rattle.std.specs.Prelude.{◌≡◌, false, take, drop, IfSome};
 ghost use Rattle.std.specs.Str.{bytes_eq};
 ghost use Rattle.liq_types.specs.State.{State};
 ghost use Rattle.liq_core.specs.Core.{StandsFor};
-ghost use Rattle.liq_journal.specs.Written.{is_rotate};
+ghost use Rattle.liq_types.specs.Verbs.{is_rotate};
 ghost use Rattle.liq_disk_header.specs.RecordDigest.{record_digest};
 ghost use Rattle.liq_disk_replay.specs.Making.{Replays};
 ghost use Rattle.liq_follower.specs.Judging.{IsSpelled, IsTaken, IsTested};

@@ -19,7 +19,8 @@ use Rattle.liq_journal.specs.Settled.{JournalOn}
 use Rattle.liq_journal.specs.Tested.{IsBodyRead, IsFaultRead}
 use Rattle.liq_journal.specs.Looked.{IsRead}
 use Rattle.liq_disk_header.specs.Layout.{piece}
-use Rattle.liq_journal.specs.Written.{Written, Open, record_on, command_from, is_rotate, found_on, found_records, most_records, start_of}
+use Rattle.liq_types.specs.Verbs.{is_rotate}
+use Rattle.liq_journal.specs.Written.{Written, Open, record_on, command_from, found_on, found_records, most_records, start_of}
 use Rattle.liq_disk_header.specs.RecordDigest.{record_digest}
 use Rattle.liq_journal.proofs.Reading.{records_whole, records_none, records_zero, whole_long}
 use Rattle.liq_journal.proofs.Heading.{is_open, of_records, record_open}

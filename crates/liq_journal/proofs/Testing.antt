@@ -13,7 +13,8 @@ use Rattle.liq_journal.specs.Tested.{IsTested, IsFaultOf}
 use Rattle.liq_journal.specs.Records.{begins_whole}
 use Rattle.liq_journal.specs.Looked.{IsRead}
 use Rattle.liq_disk_header.specs.Layout.{piece}
-use Rattle.liq_journal.specs.Written.{record_on, command_from, is_rotate}
+use Rattle.liq_types.specs.Verbs.{is_rotate}
+use Rattle.liq_journal.specs.Written.{record_on, command_from}
 use Rattle.liq_disk_header.specs.RecordDigest.{record_digest}
 use Rattle.liq_journal.proofs.Reading.{is_whole, piece_alike, byte_alike}
 use Rattle.liq_journal.proofs.Told.{if_some}

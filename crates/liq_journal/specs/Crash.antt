@@ -7,7 +7,8 @@ use Rattle.liq_types.specs.declared.amounts.TheConstants.{LIM}
 use Rattle.liq_types.specs.declared.requests.Command.{Command}
 use Rattle.liq_wire.specs.Fields.{command_of}
 use Rattle.liq_disk_header.specs.Layout.{Layout, header_size, header_of, least_header}
-use Rattle.liq_journal.specs.Written.{is_rotate, Written, Open, found_on, opened}
+use Rattle.liq_types.specs.Verbs.{is_rotate}
+use Rattle.liq_journal.specs.Written.{Written, Open, found_on, opened}
 use Rattle.liq_journal.specs.Written.{EndsWith, and_then, end_of}
 pub use Rattle.liq_disk_header.specs.Header.{is_odd}
 

@@ -3,6 +3,7 @@ use Rattle.std.specs.Prelude.{◌≡◌, ℕ, ◌+◌, ◌*◌, ◌<◌, Option,
 use Rattle.std.specs.Prelude.{List, [], ◌∷◌, ◌++◌, length, take, drop, get_or}
 use Rattle.std.specs.Prelude.{Bool, true, false, not, nat_lt, if◌then◌else◌}
 use Rattle.std.specs.Str.{bytes_eq}
+use Rattle.liq_types.specs.Verbs.{is_rotate}
 use Rattle.liq_types.specs.declared.requests.Command.{Command}
 use Rattle.liq_types.specs.declared.requests.Call.{Call}
 use Rattle.liq_types.specs.declared.requests.Call.TheVariants.{Rotate}
@@ -40,10 +41,6 @@ last_tests layout bytes =
 -- what an open disk's header has to be
 abbrev pub header_tests : Layout → Bool → List ℕ → List (Bool × What)
 header_tests layout odd bytes = forms_then (place_tests layout odd bytes) (last_tests layout bytes)
-
-abbrev pub is_rotate : Call → Bool
-is_rotate Rotate = true
-is_rotate _ = false
 
 -- a record's command: no rotation, which no record holds
 abbrev pub unless_rotate : ℕ → Command → Result Command What

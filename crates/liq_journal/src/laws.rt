@@ -10,7 +10,8 @@ ghost use Rattle.liq_journal.specs.declared.answers.Look.TheVariants as Look;
 ghost use Rattle.liq_journal.specs.declared.answers.LookFault.TheVariants.{Damaged};
 ghost use Rattle.liq_journal.specs.Look.{look_on};
 ghost use Rattle.liq_journal.specs.Written as Found;
-ghost use Rattle.liq_journal.specs.Written.{Open, Written, end_of, found_on, is_rotate, start_of};
+ghost use Rattle.liq_types.specs.Verbs.{is_rotate};
+ghost use Rattle.liq_journal.specs.Written.{Open, Written, end_of, found_on, start_of};
 ghost use Rattle.liq_journal.specs.Written.{found_records, most_records};
 
 /// A front of whole records that other bytes have too is read there too, and then what stands

@@ -40,12 +40,12 @@ use Rattle.liq_rule_step.specs.Image.{image}
 use Rattle.liq_rule_step.specs.Rules.{rules, effect}
 use Rattle.liq_rule_sound.specs.SoundState.{IsSoundState, IsSetSince, AreSetSince, AmountsWithin, SnapshotWithin, WordsWithin, TroveIsCovered, DepositIsCovered, PoolIsWhole}
 use Rattle.liq_rule_step.specs.Step.{Ruling, Refused, Repeated, Allowed, ruling, after_ruling, accounts, after, run}
-use Rattle.liq_rule_step.specs.Verbs.{rotates}
+use Rattle.liq_types.specs.Verbs.{is_rotate}
 use Rattle.liq_rule_sound.proofs.SoundFacts.{Finds}
 use Rattle.liq_rule_sound.proofs.SoundLiquidate.{served_limit}
 use Rattle.liq_rule_sound.proofs.SoundPool.{FinishedStands, DepositStands, sum_in}
 use Rattle.liq_rule_sound.proofs.SoundStart.{opening_sound}
-use Rattle.liq_rule_sound.proofs.SoundStep.{allowed_has, effect_leaves, finds, after_sound, run_sound, is_rotate}
+use Rattle.liq_rule_sound.proofs.SoundStep.{allowed_has, effect_leaves, finds, after_sound, run_sound, rotate_of}
 use Rattle.liq_rule_sound.proofs.SoundTests.{sound_facts}
 
 -- ---- rows within their sum
@@ -268,9 +268,9 @@ pub record Keeps (s t : State) : Type 0 where
   pub snap : s.snap_coll ≤ LIM → t.snap_coll ≤ LIM
   pub marks : AreSetSince s.troves → AreSetSince t.troves
 
-effect_keeps : (s : State) → Finds s → (call : Call) (b : Bool) → rotates call ≡ b
+effect_keeps : (s : State) → Finds s → (call : Call) (b : Bool) → is_rotate call ≡ b
     → AllByRecursion (λ a. a < ACCOUNTS) (accounts call) → first_refusal (rules s call) ≡ None → Keeps s (effect s call)
-effect_keeps s f call true e k h = subst (λ (c : Call). Keeps s (effect s c)) (sym (is_rotate call e))
+effect_keeps s f call true e k h = subst (λ (c : Call). Keeps s (effect s c)) (sym (rotate_of call e))
     (record { snap = λ n. n; marks = λ n. n })
 effect_keeps s f call false e k h = let left = effect_leaves s f call e k h
     in record { snap = left.rest.snap; marks = left.rest.marks }
@@ -278,7 +278,7 @@ effect_keeps s f call false e k h = let left = effect_leaves s f call e k h
 after_keeps : (s : State) → IsSoundState s → (c : Command) → ruling s c ≡ Allowed → Keeps s (after s c)
 after_keeps s h c allowed =
     let a = allowed_has s c allowed in
-    let k = effect_keeps s (finds s (sound_facts s h)) c.call (rotates c.call) refl a.accounts a.rules in
+    let k = effect_keeps s (finds s (sound_facts s h)) c.call (is_rotate c.call) refl a.accounts a.rules in
     record { snap = k.snap; marks = k.marks }
 
 pub run_keeps : (requests : List Request) (s : State) → IsSoundState s → Keeps s (run s requests).0

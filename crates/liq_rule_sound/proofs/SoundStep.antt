@@ -28,7 +28,8 @@ use Rattle.liq_rule_step.specs.Liquidation.{one_values}
 use Rattle.liq_rule_step.specs.Rules.{rules, effect, values, done_of, six}
 use Rattle.liq_rule_sound.specs.SoundState.{IsSoundState}
 use Rattle.liq_rule_step.specs.Step.{Ruling, Refused, Repeated, Allowed, unless_refused, ruling, after_ruling, accounts, in_range, is_repeated, room_rules, tests, after, step, run}
-use Rattle.liq_rule_step.specs.Verbs.{kind, rotates}
+use Rattle.liq_types.specs.Verbs.{is_rotate}
+use Rattle.liq_rule_step.specs.Verbs.{kind}
 use Rattle.liq_rule_step.proofs.Allowed.{allowed_number, allowed_rules}
 use Rattle.liq_rule_sound.proofs.SoundBorrow.{open_leaves, adjust_leaves, close_leaves, gain_allows, gain_leaves}
 use Rattle.liq_rule_sound.proofs.SoundCalls.{price_leaves, advance_leaves, fund_leaves, take_leaves, send_leaves, claim_leaves, provide_leaves, withdraw_leaves}
@@ -44,7 +45,7 @@ use Rattle.std.proofs.lemmas.Bool.{ltb-false}
 wide : (few : ℕ) (s t : State) → few ≤ PLACES_A_RECORD → Leaves few s t → Leaves PLACES_A_RECORD s t
 wide few s t k h = leaves_more few PLACES_A_RECORD s t k h
 
-pub effect_leaves : (s : State) → Finds s → (call : Call) → rotates call ≡ false
+pub effect_leaves : (s : State) → Finds s → (call : Call) → is_rotate call ≡ false
     → AllByRecursion (λ a. a < ACCOUNTS) (accounts call) → first_refusal (rules s call) ≡ None
     → Leaves PLACES_A_RECORD s (effect s call)
 effect_leaves s f (Price price) r k h = wide 0 s _ (omega arith) (price_leaves s f price h)
@@ -241,9 +242,9 @@ pub finds : (s : State) → SoundFacts s → Finds s
 finds s h = record { stands = h.stands; balanced = h.balanced; limited = h.limited; ranges = h.ranges }
 
 -- the journal begins anew
-pub is_rotate : (call : Call) → rotates call ≡ true → call ≡ Rotate
-is_rotate Rotate h = refl
-is_rotate _ h = cc
+pub rotate_of : (call : Call) → is_rotate call ≡ true → call ≡ Rotate
+rotate_of Rotate h = refl
+rotate_of _ h = cc
 
 rotated : (s : State) → SoundFacts s → s.generation + 1 ≤ GENERATIONS_MOST
     → Finds (record s { generation = s.generation + 1; limit = LIM })
@@ -293,13 +294,13 @@ room_as s c b = cond b (where_above (s.generation + 1) GENERATIONS_MOST AmountLi
     ∷ where_above (checkpoint_length (image (after s c))) CHECKPOINT_BYTES_MOST AmountLimit ∷ [])
     ((nat_le RECORDS_MOST s.records, JournalFull RECORDS_MOST) ∷ [])
 
-after_by : (s : State) → SoundFacts s → (c : Command) → IsAllowed s c → (b : Bool) → rotates c.call ≡ b
+after_by : (s : State) → SoundFacts s → (c : Command) → IsAllowed s c → (b : Bool) → is_rotate c.call ≡ b
     → AllByRecursion (λ (rule : Rule). rule.0 ≡ false) (room_as s c b) → SoundFacts (noted_as s c b c.call)
 after_by s h c a true e room =
     let generation = ltb-false GENERATIONS_MOST (s.generation + 1) room.0 in
     let first = h.ranges.first_generation in
     let next : State = record s { generation = s.generation + 1; limit = LIM } in
-    subst (λ (call : Call). SoundFacts (noted_as s c true call)) (sym (is_rotate c.call e))
+    subst (λ (call : Call). SoundFacts (noted_as s c true call)) (sym (rotate_of c.call e))
     (noted_facts s next c 0 (rotated s h generation) a.client a.number (omega arith) (omega (
       arith,
       h.scale,
@@ -322,7 +323,7 @@ after_by s h c a false e room =
 pub after_sound : (s : State) → IsSoundState s → (c : Command) → ruling s c ≡ Allowed → IsSoundState (after s c)
 after_sound s h c allowed =
     let a = allowed_has s c allowed in
-    facts_sound (after s c) (after_by s (sound_facts s h) c a (rotates c.call) refl a.room)
+    facts_sound (after s c) (after_by s (sound_facts s h) c a (is_rotate c.call) refl a.room)
 
 -- ---- the step, and whole runs
 

@@ -38,7 +38,7 @@ use Rattle.liq_rule_step.specs.Pool.{no_deposit, trove_under}
 use Rattle.liq_rule_step.specs.Row.{not_zero}
 use Rattle.liq_rule_step.specs.Rules.{rules}
 use Rattle.liq_rule_step.specs.Step.{Ruling, Refused, Repeated, Allowed, in_range, in_turn, records_after, noted, after, room_rules, tests, unless_refused, ruling, after_ruling, step, run, accounts, is_allowed, newly_accepted, accepted}
-use Rattle.liq_rule_step.specs.Verbs.{rotates}
+use Rattle.liq_types.specs.Verbs.{is_rotate}
 use Rattle.liq_types.specs.WellFormed.{IsWellFormed}
 use Rattle.liq_types.proofs.MapRows.{at-map}
 use Rattle.liq_rule_step.proofs.AlikeReads.{Alike, wallet_alike, client_alike, surplus_alike, market_alike, entire_alike, exists_alike, last_alike, balance_alike, gain_alike, no_deposit_alike, count_alike}
@@ -126,7 +126,7 @@ rules_alike h Rotate = refl
 -- ---- what a command leaves
 
 records_alike : {s t : State} → Alike s t → (call : Call) → records_after s call ≡ records_after t call
-records_alike h call = ap (λ n. if rotates call then 0 else n + 1) h.records
+records_alike h call = ap (λ n. if is_rotate call then 0 else n + 1) h.records
 
 noted_alike : {s t : State} → Alike s t → (c : Command) (d e : Done) → d ≡ e → Alike (noted s c d) (noted t c e)
 noted_alike {s} {t} h c d e same =
@@ -148,7 +148,7 @@ after_alike h c = noted_alike (effect_alike h c.call) c _ _ (done_alike h c.call
 
 room_by : Command → ℕ → ℕ → ℕ → List Rule
 room_by c generation bytes records =
-    if rotates c.call
+    if is_rotate c.call
     then where_above (generation + 1) GENERATIONS_MOST AmountLimit ∷ where_above bytes CHECKPOINT_BYTES_MOST
     AmountLimit ∷ []
     else (nat_le RECORDS_MOST records, JournalFull RECORDS_MOST) ∷ []

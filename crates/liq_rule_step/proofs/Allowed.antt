@@ -29,7 +29,7 @@ use Rattle.liq_redemption.specs.Redemption.{redeeming_terms, visited, closed_by,
 use Rattle.liq_rule_step.specs.Borrowing.{with_fee}
 use Rattle.liq_rule_step.specs.Liquidation.{listed, all_liquidated}
 use Rattle.liq_rule_step.specs.Step.{Ruling, Repeated, Allowed, unless_refused, ruling, rules, accounts, in_range, in_turn, is_repeated, after, tests, room_rules, effect}
-use Rattle.liq_rule_step.specs.Verbs.{rotates}
+use Rattle.liq_types.specs.Verbs.{is_rotate}
 
 unless_allowed : (o : Option Refusal) (r : Ruling) → unless_refused o r ≡ Allowed → (o ≡ None) × (r ≡ Allowed)
 unless_allowed None r h = (refl, h)
@@ -79,7 +79,7 @@ allowed_rules s c h =
     (none_first (in_turn s c) (later_tests s c) (passes s c h)).1)
 
 -- a command that is no rotation has room in the journal
-pub allowed_few : (s : State) (c : Command) → ruling s c ≡ Allowed → rotates c.call ≡ false → s.records < RECORDS_MOST
+pub allowed_few : (s : State) (c : Command) → ruling s c ≡ Allowed → is_rotate c.call ≡ false → s.records < RECORDS_MOST
 allowed_few s c h stays =
     let last = none_after (map in_range (accounts c.call) ++ rules s c.call) (room_rules s c) (none_first (in_turn s c)
     (later_tests s c) (passes s c h)).1 in

@@ -21,7 +21,7 @@ use Rattle.liq_redemption.specs.Redemption.{redeeming_terms, visited, closed_by,
 use Rattle.liq_rule_step.specs.Borrowing.{with_fee}
 use Rattle.liq_rule_step.specs.Liquidation.{listed, all_liquidated}
 use Rattle.liq_rule_step.specs.Step.{effect}
-use Rattle.liq_rule_step.specs.Verbs.{rotates}
+use Rattle.liq_types.specs.Verbs.{is_rotate}
 
 -- generation and limit
 abbrev kept : State → ℕ × ℕ
@@ -55,7 +55,7 @@ all-kept : (vs : List Victim) (s : State) (liquidator : ℕ) → kept (all_liqui
 all-kept [] s liquidator = refl
 all-kept (v ∷ vs) s liquidator = all-kept vs (liquidated s liquidator v) liquidator ∙ liquidated-kept s liquidator v
 
-effect-kept : (s : State) (call : Call) → rotates call ≡ false → kept (effect s call) ≡ kept s
+effect-kept : (s : State) (call : Call) → is_rotate call ≡ false → kept (effect s call) ≡ kept s
 effect-kept s (Price price) h = refl
 effect-kept s (Advance minutes) h = refl
 effect-kept s (Fund account coll) h = refl
@@ -81,9 +81,9 @@ effect-kept s (Claim account) h = refl
 effect-kept s Rotate h = cc
 
 -- the effect of every call but a rotation leaves the generation
-pub effect-generation : (s : State) (call : Call) → rotates call ≡ false → (effect s call).generation ≡ s.generation
+pub effect-generation : (s : State) (call : Call) → is_rotate call ≡ false → (effect s call).generation ≡ s.generation
 effect-generation s call h = ap (λ (pair : ℕ × ℕ). pair.0) (effect-kept s call h)
 
 -- a call that does not rotate leaves the limit
-pub effect-limit : (s : State) (call : Call) → rotates call ≡ false → (effect s call).limit ≡ s.limit
+pub effect-limit : (s : State) (call : Call) → is_rotate call ≡ false → (effect s call).limit ≡ s.limit
 effect-limit s call h = ap (λ (pair : ℕ × ℕ). pair.1) (effect-kept s call h)

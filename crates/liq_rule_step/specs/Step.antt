@@ -17,7 +17,7 @@ pub use Rattle.liq_types.specs.Rules.{first_refusal}
 use Rattle.liq_types.specs.State.{State, client_of}
 use Rattle.liq_types.specs.Tables.{put}
 pub use Rattle.liq_rule_step.specs.Verbs.{accounts}
-use Rattle.liq_rule_step.specs.Verbs.{rotates}
+use Rattle.liq_types.specs.Verbs.{is_rotate}
 pub use Rattle.liq_rule_step.specs.Rules.{rules, effect, done_of}
 pub use Rattle.liq_rule_step.specs.Queries.{answer, next_number}
 use Rattle.liq_rule_step.specs.Image.{image}
@@ -42,7 +42,7 @@ in_turn s c = (
 -- ---- what a command leaves
 
 abbrev pub records_after : State → Call → ℕ
-records_after s call = if rotates call then 0 else s.records + 1
+records_after s call = if is_rotate call then 0 else s.records + 1
 
 -- the command is counted, and its reply is kept under its number
 abbrev pub noted : State → Command → Done → State
@@ -62,7 +62,7 @@ after s c = noted (effect s c.call) c (done_of s c.call)
 -- checkpoint of limited length.
 abbrev pub room_rules : State → Command → List Rule
 room_rules s c =
-    if rotates c.call
+    if is_rotate c.call
     then where_above (s.generation + 1) GENERATIONS_MOST AmountLimit
     ∷ where_above (checkpoint_length (image (after s c))) CHECKPOINT_BYTES_MOST AmountLimit
     ∷ []

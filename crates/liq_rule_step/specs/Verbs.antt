@@ -68,11 +68,6 @@ liquidates (Liquidate liquidator account) = true
 liquidates (LiquidateLowest liquidator count) = true
 liquidates _ = false
 
--- whether the verb begins a new generation of the journal
-abbrev pub rotates : Call → Bool
-rotates Rotate = true
-rotates _ = false
-
 -- whether more than a bounded number of troves may be planned for, as a list
 abbrev pub plans_list : Call → Bool
 plans_list (LiquidateLowest liquidator count) = true

@@ -16,7 +16,8 @@ use Rattle.liq_rule_step.specs.Step.{Allowed, after, after_ruling, ruling, step}
 use Rattle.liq_rule_step.specs.Verbs.{unhinted}
 use Rattle.liq_journal.specs.Crash.{BeforeOrAfter, Stands, is_odd}
 use Rattle.liq_journal.specs.Settled.{IsSettled, JournalOn}
-use Rattle.liq_journal.specs.Written.{Open, Written, and_then, found_on, is_rotate, start_of}
+use Rattle.liq_types.specs.Verbs.{is_rotate}
+use Rattle.liq_journal.specs.Written.{Open, Written, and_then, found_on, start_of}
 use Rattle.liq_disk_pair.specs.declared.side.Side.{Side}
 use Rattle.liq_disk_pair.specs.Kept.{IsKept}
 use Rattle.liq_disk_pair.specs.Sides.{has_odd, on}

@@ -18,7 +18,8 @@ use Rattle.liq_core.specs.Core.{Core, StandsFor}
 use Rattle.liq_rule_step.specs.Step.{Allowed, Ruling, is_allowed, ruling}
 use Rattle.liq_journal.specs.Crash.{BeforeOrAfter, CreateLeaves, Stands}
 use Rattle.liq_journal.specs.Settled.{IsSettled, JournalOn}
-use Rattle.liq_journal.specs.Written.{Open, Written, found_on, is_rotate, start_of}
+use Rattle.liq_types.specs.Verbs.{is_rotate}
+use Rattle.liq_journal.specs.Written.{Open, Written, found_on, start_of}
 use Rattle.liq_disk_pair.specs.declared.side.Side.{Side}
 use Rattle.liq_disk_pair.specs.declared.side.Side.TheVariants.{Left, Right}
 use Rattle.liq_disk_pair.specs.Kept.{IsKept}

@@ -11,7 +11,7 @@ use Rattle.liq_types.specs.Rules.{Rule, where_above}
 use Rattle.liq_types.specs.State.{State}
 use Rattle.liq_rule_step.specs.Image.{image}
 use Rattle.liq_rule_step.specs.Step.{Allowed, after, ruling}
-use Rattle.liq_rule_step.specs.Verbs.{rotates}
+use Rattle.liq_types.specs.Verbs.{is_rotate}
 use Rattle.liq_rule_sound.proofs.SoundStep.{allowed_has}
 use Rattle.liq_journal.specs.Written.{is_size}
 
@@ -31,7 +31,7 @@ rotation_fits s c allowed is =
     (if b then where_above (s.generation + 1) GENERATIONS_MOST AmountLimit ∷ where_above length_is CHECKPOINT_BYTES_MOST
     AmountLimit ∷ []
     else (nat_le RECORDS_MOST s.records, JournalFull RECORDS_MOST) ∷ []))
-    (ap rotates is) (allowed_has s c allowed).room in
+    (ap is_rotate is) (allowed_has s c allowed).room in
     record {
       generation = at_most GENERATIONS_MOST (s.generation + 1) room.0;
       bytes = at_most CHECKPOINT_BYTES_MOST length_is room.1.0;

@@ -21,7 +21,8 @@ use Rattle.liq_rule_step.proofs.AlikeReplies.{accepted_alike}
 use Rattle.liq_rule_step.proofs.Runs.{run_state}
 use Rattle.liq_journal.specs.Crash.{BeforeOrAfter, CreateLeaves, is_odd}
 use Rattle.liq_journal.specs.Opened.{OpenLeaves}
-use Rattle.liq_journal.specs.Written.{Absent, Open, Written, found_on, is_rotate}
+use Rattle.liq_types.specs.Verbs.{is_rotate}
+use Rattle.liq_journal.specs.Written.{Absent, Open, Written, found_on}
 use Rattle.liq_disk_pair.specs.declared.side.Side.{Side}
 use Rattle.liq_disk_pair.specs.declared.side.Side.TheVariants.{Left, Right}
 use Rattle.liq_disk_pair.specs.Kept.{IsKept, IsSettledFor}

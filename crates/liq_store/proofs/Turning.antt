@@ -19,7 +19,8 @@ use Rattle.liq_rule_step.specs.Image.{image}
 use Rattle.liq_rule_step.specs.Step.{after, is_allowed, step}
 use Rattle.liq_journal.specs.Crash.{CrashOfCreate, CreateLeaves, Stands, beginning, is_odd}
 use Rattle.liq_journal.specs.Settled.{IsSettled, JournalOn}
-use Rattle.liq_journal.specs.Written.{Written, is_rotate, start_of}
+use Rattle.liq_types.specs.Verbs.{is_rotate}
+use Rattle.liq_journal.specs.Written.{Written, start_of}
 use Rattle.liq_disk_pair.specs.declared.side.Side.{Side}
 use Rattle.liq_disk_pair.specs.declared.side.Side.TheVariants.{Left, Right}
 use Rattle.liq_disk_pair.specs.Kept.{IsKept, IsRotationOf, IsSettledFor}

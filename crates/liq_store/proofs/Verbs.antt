@@ -3,7 +3,7 @@ use Rattle.std.proofs.Common.{◌≡◌, ℕ, List, false, Ok, subst}
 use Rattle.liq_types.specs.declared.requests.Command.{Command}
 use Rattle.liq_wire.specs.Fields.{command_of}
 use Rattle.liq_journal.specs.Crash.{IsBodyOf}
-use Rattle.liq_journal.specs.Written.{is_rotate}
+use Rattle.liq_types.specs.Verbs.{is_rotate}
 
 -- a body's command is no rotation
 pub body_stays : (body : List ℕ) (of read : Command) → IsBodyOf body of → command_of body ≡ Ok read

@@ -13,7 +13,7 @@ use Rattle.liq_core.specs.Steps.{last_put, words_of}
 use Rattle.liq_core_hinted.specs.Hints.{IsExact}
 use Rattle.liq_rule_step.specs.Step.{Refused, Repeated, ruling}
 use Rattle.liq_rule_step.specs.Verbs.{unhinted}
-use Rattle.liq_journal.specs.Written.{is_rotate}
+use Rattle.liq_types.specs.Verbs.{is_rotate}
 use Rattle.liq_rule_step.specs.Memory.{TakesMemory}
 use Rattle.liq_store.specs.declared.preparing.Prepared.{Prepared}
 use Rattle.liq_store.specs.declared.preparing.Prepared.TheVariants.{Ready, Again, No, NoMemory}

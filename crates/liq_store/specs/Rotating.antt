@@ -10,7 +10,8 @@ use Rattle.liq_rule_step.specs.Image.{image}
 use Rattle.liq_rule_step.specs.Step.{after, is_allowed, ruling}
 use Rattle.liq_checkpoint.specs.Spelling.{spelling}
 use Rattle.liq_journal.specs.Crash.{beginning}
-use Rattle.liq_journal.specs.Written.{Written, is_rotate, start_of}
+use Rattle.liq_types.specs.Verbs.{is_rotate}
+use Rattle.liq_journal.specs.Written.{Written, start_of}
 use Rattle.liq_disk_pair.specs.declared.side.Side.{Side}
 use Rattle.liq_disk_pair.specs.Sides.{other}
 

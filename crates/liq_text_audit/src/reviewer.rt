@@ -9,7 +9,7 @@ ghost use Rattle.liq_types.specs.State.{State, opening_with};
 ghost use Rattle.liq_audit.specs.Auditable.{IsAuditable, EnclosesShare, limit_passed};
 ghost use Rattle.liq_core.specs.Core.{StandsFor};
 ghost use Rattle.liq_rule_step.specs.Events.{events};
-ghost use Rattle.liq_journal.specs.Written.{is_rotate};
+ghost use Rattle.liq_types.specs.Verbs.{is_rotate};
 ghost use Rattle.liq_disk_pair.specs.Replay.{replay};
 ghost use Rattle.liq_text_audit.specs.Engine.{Pays, rows_of};
 ghost use Rattle.liq_text_audit.specs.Paid.{paid_table};

@@ -7,7 +7,7 @@ ghost use Rattle.liq_types.specs.declared.requests.Command.{Command};
 ghost use Rattle.liq_types.specs.Image.{IsLimit};
 ghost use Rattle.liq_types.specs.PlainLedger.{over_accounts};
 ghost use Rattle.liq_types.specs.State.{State, opening_with};
-ghost use Rattle.liq_journal.specs.Written.{is_rotate};
+ghost use Rattle.liq_types.specs.Verbs.{is_rotate};
 ghost use Rattle.liq_disk_pair.specs.Replay.{replay};
 ghost use Rattle.liq_rewards.specs.Issued.{issued};
 ghost use Rattle.liq_rewards.specs.Timed.{events_of, unshared_at, AreInOrder};

@@ -6,7 +6,7 @@ ghost use Rattle.liq_types.specs.Image.{IsLimit};
 ghost use Rattle.liq_types.specs.State.{opening_with};
 ghost use Rattle.liq_fees.specs.declared.changes.TheConstants.{CHANGES_MOST};
 ghost use Rattle.liq_journal.specs.declared.damage.Damage.{Damage};
-ghost use Rattle.liq_journal.specs.Written.{is_rotate};
+ghost use Rattle.liq_types.specs.Verbs.{is_rotate};
 ghost use Rattle.liq_disk_pair.specs.Replay.{replay};
 ghost use Rattle.liq_text_staking.specs.Staked.{staked_text};
 

@@ -16,3 +16,4 @@ pub mod Tables
 pub mod Totals
 pub mod Views
 pub mod WellFormed
+pub mod Verbs

@@ -6,7 +6,7 @@ ghost use Rattle.liq_types.specs.declared.requests.Command.{Command};
 ghost use Rattle.liq_types.specs.Image.{IsLimit};
 ghost use Rattle.liq_types.specs.State.{State, opening_with};
 ghost use Rattle.liq_journal.specs.declared.damage.Damage.{Damage};
-ghost use Rattle.liq_journal.specs.Written.{is_rotate};
+ghost use Rattle.liq_types.specs.Verbs.{is_rotate};
 ghost use Rattle.liq_disk_pair.specs.Replay.{replay};
 ghost use Rattle.liq_word_exit.specs.Causes.{WriteCause};
 ghost use Rattle.liq_word_state.specs.declared.telling.Text.TheVariants as which;

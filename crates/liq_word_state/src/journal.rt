@@ -3,7 +3,8 @@
 ghost use Rattle.std.specs.Prelude.{◌≡◌, ◌≢◌, ◌≤◌, ◌⊎◌, All, List, ℕ, Some, None, Ok, Err, IfOk, IfErr, IsSome, false};
 ghost use Rattle.liq_types.specs.declared.requests.Command.{Command};
 ghost use Rattle.liq_types.specs.Image.{IsLimit};
-ghost use Rattle.liq_journal.specs.Written.{Open, Written, found_on, is_rotate};
+ghost use Rattle.liq_types.specs.Verbs.{is_rotate};
+ghost use Rattle.liq_journal.specs.Written.{Open, Written, found_on};
 ghost use Rattle.liq_disk_pair.specs.declared.side.Side.{Side};
 ghost use Rattle.liq_disk_pair.specs.Sides.{has_odd};
 ghost use Rattle.liq_store.specs.Stored.{taken_disk};

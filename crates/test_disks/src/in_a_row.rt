@@ -3,7 +3,7 @@ ghost use Rattle.std.specs.Prelude.{◌≡◌, ◌∷◌, [], Some, false, true,
 ghost use Rattle.liq_types.specs.declared.amounts.TheConstants.{LIM};
 ghost use Rattle.liq_wire.specs.Fields.{HasHints};
 ghost use Rattle.liq_journal.specs.Crash.{Stands};
-ghost use Rattle.liq_journal.specs.Written.{is_rotate};
+ghost use Rattle.liq_types.specs.Verbs.{is_rotate};
 
 use crate::checks::shows;
 use crate::disks::{TWO_RECORDS, disk};

@@ -2,7 +2,7 @@ use Rattle.std.proofs.Common.{◌≡◌, ◌∙◌, List, ℕ, Ok, false}
 use Rattle.liq_types.specs.declared.requests.Command.{Command}
 use Rattle.liq_wire.specs.Fields.{command_of, heard}
 use Rattle.liq_journal.specs.Crash.{IsBodyOf}
-use Rattle.liq_journal.specs.Written.{is_rotate}
+use Rattle.liq_types.specs.Verbs.{is_rotate}
 use Rattle.liq_disk_pair.proofs.Hints.{heard_rotate}
 use Rattle.liq_disk_records.specs.Bodies.{read_back}
 use Rattle.liq_disk_records.proofs.writing.write_record.Goals as goal

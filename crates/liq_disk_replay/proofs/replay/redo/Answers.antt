@@ -7,7 +7,6 @@ use Rattle.liq_rule_step.specs.Step.{after}
 use Rattle.liq_core.specs.Core.{Core, StandsFor, state_of}
 use Rattle.liq_core.proofs.SameContents.{stands_after}
 use Rattle.liq_core_hinted.proofs.Steps.{counts_on, generation_stays, planned_allowed}
-use Rattle.liq_disk_pair.proofs.Generations.{never_rotates}
 use Rattle.liq_disk_replay.specs.declared.fault.ReplayFault.{ReplayFault}
 use Rattle.liq_disk_replay.specs.Making.{IsUnmade}
 use Rattle.liq_disk_replay.specs.Retold.{HasCome}
@@ -75,14 +74,14 @@ returns-clause-counted g c stays =
     let s = state_of c.args.protocol.now in
     let stands = subst (λ (p : Core). StandsFor p (state_of p)) c.protocol.ensures c.protocols_stand.ensures in
     counts_on c.args.protocol.now c.reserve_and_apply.new.self s c.args.command.now
-    (never_rotates c.args.command.now.call stays) stands (returns-clause-replayed g c s stands).1
+    stays stands (returns-clause-replayed g c s stands).1
 
 pub returns-clause-generation : goal.returns-clause-generation
 returns-clause-generation g c stays =
     let s = state_of c.args.protocol.now in
     let stands = subst (λ (p : Core). StandsFor p (state_of p)) c.protocol.ensures c.protocols_stand.ensures in
     generation_stays c.args.protocol.now c.reserve_and_apply.new.self s c.args.command.now
-    (never_rotates c.args.command.now.call stays) stands (returns-clause-replayed g c s stands).1
+    stays stands (returns-clause-replayed g c s stands).1
 
 pub returns-clause-few : goal.returns-clause-few
 returns-clause-few g c =

@@ -2,7 +2,6 @@ use Rattle.std.proofs.Common.{◌≡◌, ◌∙◌, arith, inl, subst, sym}
 use Rattle.liq_core.specs.Core.{Core, StandsFor, state_of}
 use Rattle.liq_rule_step.proofs.Allowed.{allowed_few}
 use Rattle.liq_core_hinted.proofs.Steps.{planned_allowed}
-use Rattle.liq_disk_pair.proofs.Generations.{never_rotates}
 use Rattle.liq_store.proofs.preparing.prepare.Goals as goal
 
 stands_too : (told core : Core) → told ≡ core → StandsFor told (state_of told) → StandsFor core (state_of core)
@@ -18,7 +17,7 @@ returns-in-Ok-reserve-clause-ready c =
       λ stays.
           let allowed = sym (c.unhinted.ensures.ruling s)
           ∙ planned_allowed s c.unhinted.result c.in-Ok-New.planned is in
-          let few = allowed_few s c.args.command.now allowed (never_rotates c.args.command.now.call stays) in
+          let few = allowed_few s c.args.command.now allowed stays in
           omega (arith, few, c.reserve.ensures.same.records),
     )
 

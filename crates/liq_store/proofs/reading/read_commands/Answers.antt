@@ -3,7 +3,7 @@ use Rattle.std.proofs.lemmas.List.Elements.{All-push}
 use Rattle.std.specs.List.{All}
 use Rattle.liq_types.specs.declared.requests.Command.{Command}
 use Rattle.liq_journal.specs.Settled.{JournalOn}
-use Rattle.liq_journal.specs.Written.{is_rotate}
+use Rattle.liq_types.specs.Verbs.{is_rotate}
 use Rattle.liq_journal.proofs.Looks.{looked_on}
 use Rattle.liq_disk_records.specs.Reading.{CountsFault}
 use Rattle.liq_store.specs.Answering.{IsUnreadable}

@@ -3,7 +3,8 @@ use Rattle.std.specs.List.{All}
 use Rattle.liq_types.specs.declared.requests.Command.{Command}
 use Rattle.liq_journal.specs.Bodies.{IsJournalOf}
 use Rattle.liq_outside.specs.Disk.{Looked}
-use Rattle.liq_journal.specs.Written.{Written, is_rotate}
+use Rattle.liq_types.specs.Verbs.{is_rotate}
+use Rattle.liq_journal.specs.Written.{Written}
 use Rattle.liq_store.proofs.reading.read_commands.Given as goal
 
 abbrev pub invariant-loop-done : goal.invariant-loop-done

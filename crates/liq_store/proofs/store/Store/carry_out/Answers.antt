@@ -17,7 +17,6 @@ use Rattle.liq_journal.proofs.Testing.{not_rotate}
 use Rattle.liq_disk_pair.specs.declared.side.Side.{Side}
 use Rattle.liq_disk_pair.specs.Kept.{IsRotationOf}
 use Rattle.liq_disk_pair.specs.Sides.{on, other}
-use Rattle.liq_disk_pair.proofs.Generations.{never_rotates}
 use Rattle.liq_store.specs.Calling.{WritesOn}
 use Rattle.liq_store.specs.Causes.{OneRose, counts_of}
 use Rattle.liq_store.specs.Keeping.{IsInOrder}
@@ -314,7 +313,7 @@ invariant_of-self-2 g c =
     (c.make-done-2.ensures.state t (stands_after c.self.inside.protocol c.prepare.new.protocol t
     c.prepare.ensures.same so))) in
     let step = steps s stands in
-    let stays = never_rotates c.in-Do.command.call (not_rotate c.in-Do.command.call c.in_default.not-Rotate) in
+    let stays = (not_rotate c.in-Do.command.call c.in_default.not-Rotate) in
     let counted = counts_on c.self.inside.protocol c.make-done-2.new.protocol s c.in-Do.command stays stands step in
     record {
       order = subst (λ (o : Option ℕ). IsInOrder g.D.Disk.at (stored c.self.inside.side c.write_record.new.taken

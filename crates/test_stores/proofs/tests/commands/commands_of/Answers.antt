@@ -2,7 +2,7 @@ use Rattle.std.proofs.Common.{◌≡◌, List, sym, subst}
 use Rattle.std.specs.Prelude.{All, false}
 use Rattle.std.proofs.lemmas.List.Elements.{All-push}
 use Rattle.liq_types.specs.declared.requests.Command.{Command}
-use Rattle.liq_journal.specs.Written.{is_rotate}
+use Rattle.liq_types.specs.Verbs.{is_rotate}
 use Rattle.test_stores.proofs.tests.commands.commands_of.Goals as goal
 
 IsKept : Command → Type 0
