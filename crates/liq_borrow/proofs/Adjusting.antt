@@ -5,36 +5,12 @@ use Rattle.liq_types.specs.declared.figures.Market.{Market}
 use Rattle.liq_types.specs.declared.figures.Wallet.{Wallet}
 use Rattle.liq_types.specs.declared.replies.Refusal.{Refusal}
 use Rattle.liq_types.specs.Rules.{Rule, first_refusal, outcome}
+use Rattle.liq_types.proofs.Refused.{refused, refused_before, passed}
 use Rattle.liq_types.proofs.Tests.{made_by}
 use Rattle.liq_borrow.specs.declared.change.Change.{Change}
 use Rattle.liq_borrow.specs.declared.change.Plan.{Plan}
 use Rattle.liq_borrow.specs.Adjusting.{asked_rules, held_rules, left_with, ratio_rules}
 use Rattle.liq_borrow.specs.Borrowing.{adjust_plan, fee_now, rate_borrowed}
-
--- ---- a group, and the rules behind it
-
-refused : {X Y : Type 0} (o : Option Refusal) (x : X) (y : Y) (e : Refusal) → outcome o x ≡ Err e → outcome o y ≡ Err e
-refused None x y e h = cc
-refused (Some refusal) x y e h = cc
-
-refused_before : {X Y : Type 0} (rules rest : List Rule) (x : X) (y : Y) (e : Refusal) → outcome (first_refusal rules) x
-    ≡ Err e → outcome (first_refusal (rules ++ rest)) y ≡ Err e
-refused_before [] rest x y e h = cc
-refused_before {X} {Y} (rule ∷ rules) rest x y e h = by rule.0 h (refused_before rules rest x y e) where
-  by : (b : Bool) → outcome (cond b (Some rule.1) (first_refusal rules)) x ≡ Err e
-      → (outcome (first_refusal rules) x ≡ Err e → outcome (first_refusal (rules ++ rest)) y ≡ Err e)
-      → outcome (cond b (Some rule.1) (first_refusal (rules ++ rest))) y ≡ Err e
-  by true k later = refused (Some rule.1) x y e k
-  by false k later = later k
-
-passed : (rules rest : List Rule) → first_refusal rules ≡ None → first_refusal (rules ++ rest) ≡ first_refusal rest
-passed [] rest h = refl
-passed (rule ∷ rules) rest h = by rule.0 h (passed rules rest) where
-  by : (b : Bool) → cond b (Some rule.1) (first_refusal rules) ≡ None → (first_refusal rules ≡ None
-      → first_refusal (rules ++ rest) ≡ first_refusal rest) → cond b (Some rule.1) (first_refusal (rules ++ rest))
-      ≡ first_refusal rest
-  by true k later = cc
-  by false k later = later k
 
 -- ---- a change of a trove that had so much, for this fee
 

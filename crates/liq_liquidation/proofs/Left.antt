@@ -1,8 +1,9 @@
 -- The parts of a state after a liquidation: what the call that makes it makes of each.
-use Rattle.std.proofs.Common.{◌≡◌, ℕ, Bool, true, false, cond, length, refl, ap, ◌∙◌, Some, None, Option}
+use Rattle.std.proofs.Common.{◌≡◌, ℕ, ◌+◌, ◌-◌, Bool, true, false, cond, length, refl, ap, ◌∙◌, Some, None, Option}
 use Rattle.std.specs.Prelude.{◌==◌, Ok}
 use Rattle.liq_types.specs.declared.figures.Trove.{Trove}
-use Rattle.liq_types.specs.Payments.{surplus_added}
+use Rattle.liq_types.specs.declared.amounts.TheConstants.{RESERVE}
+use Rattle.liq_types.specs.Payments.{surplus_added, surplus_added_in, credited_in}
 use Rattle.liq_types.specs.Product.{finished_sums}
 use Rattle.liq_types.specs.State.{State, TroveEntry}
 use Rattle.liq_types.specs.Tables.{Table, at, without}
@@ -51,43 +52,26 @@ module _ (s : State) (v : Victim) (liquidator : ℕ) where
   sums_by None false = offset-finishes s v.one.offset_debt v.one.offset_coll
   sums_by (Some t) false = offset-finishes (left (Some t)) v.one.offset_debt v.one.offset_coll
 
+  -- the parts beside the troves and the pool, one by one
+  beside_parts : (x : State) → x.wallets ≡ credited_in s.wallets liquidator v.one.gas RESERVE
+      → x.reserve ≡ s.reserve - RESERVE → x.surplus ≡ s.surplus + v.one.surplus
+      → x.surplus_rows ≡ surplus_added_in s.surplus_rows v.account v.one.surplus → x.fee_coll ≡ s.fee_coll
+      → x.fee_lusd ≡ s.fee_lusd → x.deposits ≡ s.deposits → AreLeft s x liquidator v
+  beside_parts x wallets reserve surplus surplus_rows fee_coll fee_lusd deposits = record {
+    wallets = wallets;
+    reserve = reserve;
+    surplus = surplus;
+    surplus_rows = surplus_rows;
+    fee_coll = fee_coll;
+    fee_lusd = fee_lusd;
+    deposits = deposits;
+  }
+
   beside_by : (o : Option TroveEntry) (b : Bool) → AreLeft s (after o b) liquidator v
-  beside_by None true = record {
-    wallets = refl;
-    reserve = refl;
-    surplus = refl;
-    surplus_rows = refl;
-    fee_coll = refl;
-    fee_lusd = refl;
-    deposits = refl;
-  }
-  beside_by None false = record {
-    wallets = refl;
-    reserve = refl;
-    surplus = refl;
-    surplus_rows = refl;
-    fee_coll = refl;
-    fee_lusd = refl;
-    deposits = refl;
-  }
-  beside_by (Some t) true = record {
-    wallets = refl;
-    reserve = refl;
-    surplus = refl;
-    surplus_rows = refl;
-    fee_coll = refl;
-    fee_lusd = refl;
-    deposits = refl;
-  }
-  beside_by (Some t) false = record {
-    wallets = refl;
-    reserve = refl;
-    surplus = refl;
-    surplus_rows = refl;
-    fee_coll = refl;
-    fee_lusd = refl;
-    deposits = refl;
-  }
+  beside_by None true = beside_parts (after None true) refl refl refl refl refl refl refl
+  beside_by None false = beside_parts (after None false) refl refl refl refl refl refl refl
+  beside_by (Some t) true = beside_parts (after (Some t) true) refl refl refl refl refl refl refl
+  beside_by (Some t) false = beside_parts (after (Some t) false) refl refl refl refl refl refl refl
 
   pub left_beside : AreLeft s (liquidated s liquidator v) liquidator v
   left_beside = beside_by (at s.troves v.account) (v.one.offset_debt == 0)

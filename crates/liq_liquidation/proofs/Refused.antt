@@ -7,36 +7,12 @@ use Rattle.liq_types.specs.declared.figures.Trove.{Trove}
 use Rattle.liq_types.specs.declared.replies.Refusal.{Refusal}
 use Rattle.liq_types.specs.declared.replies.Refusal.TheVariants.{LastTrove}
 use Rattle.liq_types.specs.Rules.{Rule, first_refusal, outcome}
+use Rattle.liq_types.proofs.Refused.{refused, refused_before, passed}
 use Rattle.liq_types.proofs.Tests.{made_by}
 use Rattle.liq_troves.specs.declared.sums.Sums.{Sums}
 use Rattle.liq_troves.specs.Rows.{entire_by, spread_rules, sum_after, sum_limit}
 use Rattle.liq_liquidation.specs.declared.one.One.{One}
 use Rattle.liq_liquidation.specs.One.{treatment, treated, treated_rules, treated_of, one_by, one_of, without_stake}
-
--- ---- a group, and the rules behind it
-
-refused : {X Y : Type 0} (o : Option Refusal) (x : X) (y : Y) (e : Refusal) → outcome o x ≡ Err e → outcome o y ≡ Err e
-refused None x y e h = cc
-refused (Some refusal) x y e h = cc
-
-refused_before : {X Y : Type 0} (rules rest : List Rule) (x : X) (y : Y) (e : Refusal) → outcome (first_refusal rules) x
-    ≡ Err e → outcome (first_refusal (rules ++ rest)) y ≡ Err e
-refused_before [] rest x y e h = cc
-refused_before {X} {Y} (rule ∷ rules) rest x y e h = by rule.0 h (refused_before rules rest x y e) where
-  by : (b : Bool) → outcome (cond b (Some rule.1) (first_refusal rules)) x ≡ Err e
-      → (outcome (first_refusal rules) x ≡ Err e → outcome (first_refusal (rules ++ rest)) y ≡ Err e)
-      → outcome (cond b (Some rule.1) (first_refusal (rules ++ rest))) y ≡ Err e
-  by true k later = refused (Some rule.1) x y e k
-  by false k later = later k
-
-passed : (rules rest : List Rule) → first_refusal rules ≡ None → first_refusal (rules ++ rest) ≡ first_refusal rest
-passed [] rest h = refl
-passed (rule ∷ rules) rest h = by rule.0 h (passed rules rest) where
-  by : (b : Bool) → cond b (Some rule.1) (first_refusal rules) ≡ None → (first_refusal rules ≡ None
-      → first_refusal (rules ++ rest) ≡ first_refusal rest) → cond b (Some rule.1) (first_refusal (rules ++ rest))
-      ≡ first_refusal rest
-  by true k later = cc
-  by false k later = later k
 
 -- ---- a trove of several, which has these entire amounts
 

@@ -245,14 +245,14 @@ plan_is s count h = by (last_trove s) refl where
   by_row account last None there = absurd (last_has_row (trove_rows s) account last there)
   by_row account last (Some t) there = made account (one_by (market_of s) (sums_words s) t (pool_total s))
       (refused_first t) (nat_le (trove_count s) 1) refl where
-        refused_first : (t : Trove) → nat_le (trove_count s) 1 ≡ true → one_by (market_of s) (sums_words s) t (pool_total s)
-            ≡ Err (LastTrove (trove_count s))
+        refused_first : (t : Trove) → nat_le (trove_count s) 1 ≡ true
+            → one_by (market_of s) (sums_words s) t (pool_total s) ≡ Err (LastTrove (trove_count s))
         refused_first t is =
             let own = entire_by (sums_words s) t in
             let rest = first_refusal (rest_of (one_rules (market_of s) (without_stake (sums_words s) t) own.0 own.1
             (pool_total s))) in
-            ap (λ b. outcome (cond b (Some (LastTrove (trove_count s))) rest) (treated (treatment (market_of s) own.0 own.1)
-            s.price own.0 own.1 (pool_total s))) is
+            ap (λ b. outcome (cond b (Some (LastTrove (trove_count s))) rest)
+            (treated (treatment (market_of s) own.0 own.1) s.price own.0 own.1 (pool_total s))) is
 
   by : (o : Option ℕ) → last_trove s ≡ o
       → outcome (first_refusal (last_trove_stays (market_of s) ∷ first_of_lowest s o)) (lowest s count)

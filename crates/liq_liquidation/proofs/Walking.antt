@@ -207,7 +207,8 @@ module _ (start : Moment) (list : List Ranked) (count taken : ℕ) (figures : Fi
       ≡ next_at (record { figures = figures; troves = w.troves })
   next_told = by (last_account w.front) refl ∙ ap (λ (l : List Ranked). victim_from figures w.troves (last_account l))
       (sym w.ordered) where
-        by : (o : Option ℕ) → last_account w.front ≡ o → victim_from figures start.troves o ≡ victim_from figures w.troves o
+        by : (o : Option ℕ) → last_account w.front ≡ o
+            → victim_from figures start.troves o ≡ victim_from figures w.troves o
         by None is = refl
         by (Some account) is =
             let e = ends_with w.front account is in
@@ -215,8 +216,9 @@ module _ (start : Moment) (list : List Ranked) (count taken : ℕ) (figures : Fi
             ∙ append_assoc e.front (e.entry ∷ []) w.back in
             let absent = subst (λ a. IsAbsent a w.back) e.same (distinct_back e.front w.back e.entry
             (subst AreDistinct behind d)) in
-            ap (λ (o : Option Trove). with_account account (one_in figures.market figures.sums figures.pool_total account
-            o)) (sym (w.same account absent))
+            ap (λ (o : Option Trove).
+            with_account account (one_in figures.market figures.sums figures.pool_total account o))
+            (sym (w.same account absent))
 
   -- the entry before the one that was reached
   pub before_is : (last : ℕ) (e : Ranked) (es : List Ranked) → w.back ≡ e ∷ es → e.1 ≡ last

@@ -42,7 +42,7 @@ pub record IsVisit (p : Parts) (price : ℕ) (v : Visit) : Type 0 where
   pub listed : IsSome (key_in p.order v.account)
   pub claim : surplus_in p.surplus v.account ≤ p.pools.surplus
 
--- each of these is a visit on the parts, and no account comes twice
+-- each visit is of its account's trove, and no account is visited twice
 abbrev pub AreVisits : Parts → ℕ → List Visit → Type 0
 AreVisits p price [] = Unit {0}
 AreVisits p price (v ∷ vs) = IsVisit p price v × AllByRecursion (λ (w : Visit). IsOther v.account w.account) vs
@@ -303,22 +303,22 @@ module _ (price : ℕ) (price_some : 1 ≤ price) where
   pub all_fit : (vs : List Visit) (p : Parts) (troves wanted : ℕ) → Stands p → AreVisits p price vs
       → AllFit p (cuts price troves wanted vs)
   all_fit [] p troves wanted stands h = none_fit p
-  all_fit (v ∷ vs) p troves wanted stands h = by (wanted == 0) (stops_before v (cut_of price v wanted) troves) refl
-      (λ q s g. all_fit vs q (troves_after (cut_of price v wanted) troves) (wanted - (cut_of price v wanted).lot) s
-      g) where
-        by : (done stops : Bool) → stops_before v (cut_of price v wanted) troves ≡ stops → ((q : Parts) → Stands q
-            → AreVisits q price vs
-            → AllFit q (cuts price (troves_after (cut_of price v wanted) troves) (wanted - (cut_of price v wanted).lot) vs))
-            → AllFit p (cond done [] (cond stops [] (cut_of price v wanted
-            ∷ cuts price (troves_after (cut_of price v wanted) troves) (wanted - (cut_of price v wanted).lot) vs)))
+  all_fit (v ∷ vs) p troves wanted stands h = by (wanted == 0) (stops_before v cut troves) refl
+      (λ q s g. all_fit vs q (troves_after cut troves) (wanted - cut.lot) s g) where
+        cut : Cut
+        cut = cut_of price v wanted
+
+        further : List Cut
+        further = cuts price (troves_after cut troves) (wanted - cut.lot) vs
+
+        by : (done stops : Bool) → stops_before v cut troves ≡ stops → ((q : Parts) → Stands q
+            → AreVisits q price vs → AllFit q further) → AllFit p (cond done [] (cond stops [] (cut ∷ further)))
         by true stops e later = none_fit p
         by false true e later = none_fit p
         by false false e later =
             let after = after_cut p stands price price_some v h.0 wanted troves e in
-            one_more p (cut_of price v wanted) (cuts price (troves_after (cut_of price v wanted) troves)
-            (wanted - (cut_of price v wanted).lot) vs) (fits p stands price price_some v h.0 wanted troves e) after
-            (later (cut_parts p (cut_of price v wanted)) after.stands (visits_kept p (cut_parts p (cut_of price v wanted))
-            price (cut_of price v wanted) after vs h.1 h.2))
+            one_more p cut further (fits p stands price price_some v h.0 wanted troves e) after
+            (later (cut_parts p cut) after.stands (visits_kept p (cut_parts p cut) price cut after vs h.1 h.2))
 
 -- ---- the visits of sound parts
 

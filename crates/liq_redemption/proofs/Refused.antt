@@ -7,35 +7,11 @@ use Rattle.liq_types.specs.declared.figures.Wallet.{Wallet}
 use Rattle.liq_types.specs.declared.replies.Refusal.{Refusal}
 use Rattle.liq_types.specs.declared.replies.Refusal.TheVariants.{NothingRedeemed, FeeEatsAll}
 use Rattle.liq_types.specs.Rules.{Rule, first_refusal, outcome}
+use Rattle.liq_types.proofs.Refused.{refused_before, passed}
 use Rattle.liq_types.proofs.Tests.{made_by}
 use Rattle.liq_rate.specs.Bound.{fee_over}
 use Rattle.liq_redemption.specs.declared.cut.Cut.{Cut}
 use Rattle.liq_redemption.specs.Redemption.{Visit, RedeemTerms, asking_rules, taking_rules, redeem_plan, redeeming_terms, terms_of, cuts, redeemed, first_net}
-
--- ---- a group, and the rules behind it
-
-refused : {X Y : Type 0} (o : Option Refusal) (x : X) (y : Y) (e : Refusal) → outcome o x ≡ Err e → outcome o y ≡ Err e
-refused None x y e h = cc
-refused (Some refusal) x y e h = cc
-
-refused_before : {X Y : Type 0} (rules rest : List Rule) (x : X) (y : Y) (e : Refusal) → outcome (first_refusal rules) x
-    ≡ Err e → outcome (first_refusal (rules ++ rest)) y ≡ Err e
-refused_before [] rest x y e h = cc
-refused_before {X} {Y} (rule ∷ rules) rest x y e h = by rule.0 h (refused_before rules rest x y e) where
-  by : (b : Bool) → outcome (cond b (Some rule.1) (first_refusal rules)) x ≡ Err e
-      → (outcome (first_refusal rules) x ≡ Err e → outcome (first_refusal (rules ++ rest)) y ≡ Err e)
-      → outcome (cond b (Some rule.1) (first_refusal (rules ++ rest))) y ≡ Err e
-  by true k later = refused (Some rule.1) x y e k
-  by false k later = later k
-
-passed : (rules rest : List Rule) → first_refusal rules ≡ None → first_refusal (rules ++ rest) ≡ first_refusal rest
-passed [] rest h = refl
-passed (rule ∷ rules) rest h = by rule.0 h (passed rules rest) where
-  by : (b : Bool) → cond b (Some rule.1) (first_refusal rules) ≡ None → (first_refusal rules ≡ None
-      → first_refusal (rules ++ rest) ≡ first_refusal rest) → cond b (Some rule.1) (first_refusal (rules ++ rest))
-      ≡ first_refusal rest
-  by true k later = cc
-  by false k later = later k
 
 -- the net debt is told where nothing is redeemed
 taking_alike : (terms : RedeemTerms) (net other amount bound : ℕ) → (terms.redeemed ≡ 0 → net ≡ other)

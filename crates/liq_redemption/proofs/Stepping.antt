@@ -51,7 +51,8 @@ close_but_last price (v ∷ vs) troves wanted = by (cut_of price v wanted) (all_
     (wanted - cut.lot)) where
       by : (cut : Cut) → (cut.full ≡ false → wanted - cut.lot ≡ 0) → (done stops : Bool)
           → ((cut : Cut) → CloseButLast (cuts price (troves_after cut troves) (wanted - cut.lot) vs))
-          → CloseButLast (cond done [] (cond stops [] (cut ∷ cuts price (troves_after cut troves) (wanted - cut.lot) vs)))
+          → CloseButLast (cond done []
+          (cond stops [] (cut ∷ cuts price (troves_after cut troves) (wanted - cut.lot) vs)))
       by cut taken true stops later = tt
       by cut taken false true later = tt
       by cut taken false false later =

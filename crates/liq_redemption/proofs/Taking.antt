@@ -48,20 +48,23 @@ draw_within price lot = div-mul-le_self (lot * 1000000000) price
 
 pub drawn_within : (price troves wanted : ℕ) (vs : List Visit) → IsDrawnWithin price (cuts price troves wanted vs)
 drawn_within price troves wanted [] = omega arith
-drawn_within price troves wanted (v ∷ vs) = by (wanted == 0) (stops_before v (cut_of price v wanted) troves)
-    (drawn_within price (troves_after (cut_of price v wanted) troves) (wanted - (cut_of price v wanted).lot) vs) where
-      by : (done stops : Bool) → IsDrawnWithin price (cuts price (troves_after (cut_of price v wanted) troves)
-          (wanted - (cut_of price v wanted).lot) vs)
-          → IsDrawnWithin price (cond done [] (cond stops [] (cut_of price v wanted
-          ∷ cuts price (troves_after (cut_of price v wanted) troves) (wanted - (cut_of price v wanted).lot) vs)))
+drawn_within price troves wanted (v ∷ vs) = by (wanted == 0) (stops_before v cut troves)
+    (drawn_within price (troves_after cut troves) (wanted - cut.lot) vs) where
+      cut : Cut
+      cut = cut_of price v wanted
+
+      further : List Cut
+      further = cuts price (troves_after cut troves) (wanted - cut.lot) vs
+
+      by : (done stops : Bool) → IsDrawnWithin price further
+          → IsDrawnWithin price (cond done [] (cond stops [] (cut ∷ further)))
       by true stops later = omega arith
       by false true later = omega arith
       by false false later =
-          let list = cuts price (troves_after (cut_of price v wanted) troves) (wanted - (cut_of price v wanted).lot) vs in
-          let lots = sum_by-cons (λ (x : Cut). x.lot) (cut_of price v wanted) list in
-          let draws = sum_by-cons (λ (x : Cut). x.draw) (cut_of price v wanted) list in
-          let one = draw_within price (cut_of price v wanted).lot in
-          let all = ap (λ n. n * price) draws ∙ add-mul (cut_of price v wanted).draw (drawn list) price in
+          let lots = sum_by-cons (λ (x : Cut). x.lot) cut further in
+          let draws = sum_by-cons (λ (x : Cut). x.draw) cut further in
+          let one = draw_within price cut.lot in
+          let all = ap (λ n. n * price) draws ∙ add-mul cut.draw (drawn further) price in
           omega (arith, lots, all, one, later)
 
 -- ---- one account further
@@ -96,18 +99,19 @@ cuts_done price w on ahead e = ap (λ b. all_cuts price w (ahead_where b ahead))
 pub redeemed_within : (price : ℕ) (vs : List Visit) (troves wanted : ℕ) → redeemed (cuts price troves wanted vs)
     ≤ wanted
 redeemed_within price [] troves wanted = omega arith
-redeemed_within price (v ∷ vs) troves wanted = by (wanted == 0) (stops_before v (cut_of price v wanted) troves)
-    (redeemed_within price vs (troves_after (cut_of price v wanted) troves)
-    (wanted - (cut_of price v wanted).lot)) where
-      by : (done stops : Bool)
-          → redeemed (cuts price (troves_after (cut_of price v wanted) troves) (wanted - (cut_of price v wanted).lot) vs)
-          ≤ wanted - (cut_of price v wanted).lot
-          → redeemed (cond done [] (cond stops [] (cut_of price v wanted
-          ∷ cuts price (troves_after (cut_of price v wanted) troves) (wanted - (cut_of price v wanted).lot) vs))) ≤ wanted
+redeemed_within price (v ∷ vs) troves wanted = by (wanted == 0) (stops_before v cut troves)
+    (redeemed_within price vs (troves_after cut troves) (wanted - cut.lot)) where
+      cut : Cut
+      cut = cut_of price v wanted
+
+      further : List Cut
+      further = cuts price (troves_after cut troves) (wanted - cut.lot) vs
+
+      by : (done stops : Bool) → redeemed further ≤ wanted - cut.lot
+          → redeemed (cond done [] (cond stops [] (cut ∷ further))) ≤ wanted
       by true stops later = omega arith
       by false true later = omega arith
       by false false later =
-          let lots = sum_by-cons (λ (x : Cut). x.lot) (cut_of price v wanted)
-          (cuts price (troves_after (cut_of price v wanted) troves) (wanted - (cut_of price v wanted).lot) vs) in
-          let part : (cut_of price v wanted).lot ≤ wanted = omega arith in
+          let lots = sum_by-cons (λ (x : Cut). x.lot) cut further in
+          let part : cut.lot ≤ wanted = omega arith in
           omega (arith, lots, later, part)

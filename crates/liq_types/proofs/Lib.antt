@@ -7,6 +7,7 @@ pub mod MapRows
 pub mod Places
 pub mod Ranges
 pub mod RankedLists
+pub mod Refused
 pub mod Rounding
 pub mod SameRows
 pub mod Sums

@@ -55,7 +55,8 @@ module _ {K X : Type 0} {R : K → K → Ordering} (o : IsTotalOrder R) where
   found-put_other [] key x q h = ap (λ b. cond b (Some x) None) (apart_turned o key q h)
   found-put_other (e ∷ es) key x q h = by (R key e.0) refl (found-put_other es key x q h) where
     by : (c : Ordering) → R key e.0 ≡ c → found (insert_entry R es key x) q ≡ found es q
-        → found (match_ordering c ((key, x) ∷ e ∷ es) ((e.0, x) ∷ es) (e ∷ insert_entry R es key x)) q ≡ found (e ∷ es) q
+        → found (match_ordering c ((key, x) ∷ e ∷ es) ((e.0, x) ∷ es) (e ∷ insert_entry R es key x)) q
+        ≡ found (e ∷ es) q
     by Less is k = ap (λ b. cond b (Some x) (found (e ∷ es) q)) (apart_turned o key q h)
     by Equal is k =
         ap (λ b. cond b (Some x) (found es q)) (away o key e.0 q is h)

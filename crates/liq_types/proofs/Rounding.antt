@@ -237,7 +237,8 @@ gain_near p x h total coll high =
     let first : coll * p * h ≤ (x * total + total) * h = mul-le-mul_right h high in
     omega arith
 
--- all is 10^27, power * h is all, c the weight
+-- An amount of at most c powers, times the least product n and the reach h, is at most c whole products (p0 * all).
+-- all is 10^27; after j changes of scale the power is 10^(9 * j), and h is what is left of all.
 pub weight_covers : (a c n p0 power h all : ℕ) → power * h ≡ all → n ≤ p0 → a ≤ c * power → n * a * h ≤ c * (p0 * all)
 weight_covers a c n p0 power h all split least up =
     let first : a * (n * h) ≤ c * power * (n * h) = mul-le-mul_right (n * h) up in

@@ -27,34 +27,27 @@ pub record TakesAll (w : ScaledProduct) (o : PoolOffset) : Type 0 where
   pub scale : (after_offset w o).scale ≡ 0
   pub epoch : (after_offset w o).epoch ≡ w.epoch + 1
 
+-- the words after an offset, by whether it takes all
+abbrev words_if : Bool → ScaledProduct → PoolOffset → ScaledProduct
+words_if all w o = cond all (record opening_words { epoch = w.epoch + 1 })
+    (record { p = product_after w.p o (rise_of w.p o); scale = w.scale + rise_of w.p o; epoch = w.epoch })
+
 pub leaves_part : (w : ScaledProduct) (o : PoolOffset) → o.debt ≤ o.total → (o.debt == o.total) ≡ false → LeavesPart w o
 leaves_part w o within e =
-    let part : ScaledProduct = record {
-      p = product_after w.p o (rise_of w.p o);
-      scale = w.scale + rise_of w.p o;
-      epoch = w.epoch;
-    } in
-    let none : ScaledProduct = record opening_words { epoch = w.epoch + 1 } in
     record {
       less = grind (arith, nat_tests, e, within);
-      p = ap (λ b. (cond b none part).p) e;
-      scale = ap (λ b. (cond b none part).scale) e;
-      epoch = ap (λ b. (cond b none part).epoch) e;
+      p = ap (λ b. (words_if b w o).p) e;
+      scale = ap (λ b. (words_if b w o).scale) e;
+      epoch = ap (λ b. (words_if b w o).epoch) e;
     }
 
 pub takes_all : (w : ScaledProduct) (o : PoolOffset) → (o.debt == o.total) ≡ true → TakesAll w o
 takes_all w o e =
-    let part : ScaledProduct = record {
-      p = product_after w.p o (rise_of w.p o);
-      scale = w.scale + rise_of w.p o;
-      epoch = w.epoch;
-    } in
-    let none : ScaledProduct = record opening_words { epoch = w.epoch + 1 } in
     record {
       all = grind (arith, nat_tests, e);
-      p = ap (λ b. (cond b none part).p) e;
-      scale = ap (λ b. (cond b none part).scale) e;
-      epoch = ap (λ b. (cond b none part).epoch) e;
+      p = ap (λ b. (words_if b w o).p) e;
+      scale = ap (λ b. (words_if b w o).scale) e;
+      epoch = ap (λ b. (words_if b w o).epoch) e;
     }
 
 -- ---- one offset

@@ -127,8 +127,8 @@ module _ {X : Type 0} where
   put_without (e ∷ es) key y s = by (sorted_head nat_cmp e.0 (keys_of es) s) (put_without es key y
       (sorted_tail nat_cmp e.0 (keys_of es) s)) (nat_cmp key e.0) refl where
         by : Below e.0 es → put (without es key) key y ≡ put es key y → (o : Ordering) → nat_cmp key e.0 ≡ o
-            → put (cond (is_eq o) es (e ∷ without es key)) key y ≡ match_ordering o ((key, y) ∷ e ∷ es) ((e.0, y) ∷ es) (e
-            ∷ put es key y)
+            → put (cond (is_eq o) es (e ∷ without es key)) key y
+            ≡ match_ordering o ((key, y) ∷ e ∷ es) ((e.0, y) ∷ es) (e ∷ put es key y)
         by head later Less l =
             ap (λ o. match_ordering o ((key, y) ∷ e ∷ without es key) ((e.0, y) ∷ without es key) (e
             ∷ put (without es key) key y)) l
@@ -136,8 +136,10 @@ module _ {X : Type 0} where
         by head later Equal q =
             let same : key ≡ e.0 = exact_unsigned key e.0 q in
             subst (λ k. put es k y ≡ (e.0, y) ∷ es) (sym same) (put_below e.0 y es head)
-        by head later Greater g = ap (λ o. match_ordering o ((key, y) ∷ e ∷ without es key) ((e.0, y) ∷ without es key) (e
-            ∷ put (without es key) key y)) g ∙ ap (λ (t : Table X). e ∷ t) later
+        by head later Greater g =
+            ap (λ o. match_ordering o ((key, y) ∷ e ∷ without es key) ((e.0, y) ∷ without es key) (e
+            ∷ put (without es key) key y)) g
+            ∙ ap (λ (t : Table X). e ∷ t) later
 
   without_twice : (table : Table X) (key : ℕ) → IsStrictlySortedBy nat_cmp (keys_of table)
       → without (without table key) key ≡ without table key

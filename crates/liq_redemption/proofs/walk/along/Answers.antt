@@ -21,29 +21,25 @@ returns-then-walk-eq0-clause-cuts c =
 
 pub returns-then-not-branch-clause-cuts : goal.returns-then-not-branch-clause-cuts
 returns-then-not-branch-clause-cuts c =
-    let accounts = from_last c.args.order.now.entries in
-    let next = ahead_of accounts (before_in c.args.order.now.entries c.in-Some.account) in
     let is = step_on c.args.order.now.entries c.loop-next.next c.in-Some.account c.requires.distinct c.in-Some.is
     c.loop-next.invariant.next in
-    let on = c.in_ok-pass.field-0 in
-    let ahead = visits c.args.price c.args.troves.now.sums c.args.troves.now.table.rows next in
-    let all = cuts_step c.args.price c.args.troves.now.sums c.args.troves.now.table.rows c.in-Some.account
-    (ahead_of accounts c.loop-next.next) next is c.loop-next.walk c.pass.new.self on (c.in_ok-pass.ensures.cuts ahead)
-    _ c.loop-next.invariant.cuts in
-    sym (cuts_done c.args.price c.pass.new.self on ahead c.if-not-branch.true) ∙ all
+    let ahead = visits c.args.price c.args.troves.now.sums c.args.troves.now.table.rows
+    (ahead_of (from_last c.args.order.now.entries) (before_in c.args.order.now.entries c.in-Some.account)) in
+    sym (cuts_done c.args.price c.pass.new.self c.in_ok-pass.field-0 ahead c.if-not-branch.true)
+    ∙ cuts_step c.args.price c.args.troves.now.sums c.args.troves.now.table.rows c.in-Some.account _ _ is
+    c.loop-next.walk c.pass.new.self c.in_ok-pass.field-0 (c.in_ok-pass.ensures.cuts ahead) _
+    c.loop-next.invariant.cuts
 
 pub returns-then-not-branch-clause-first : goal.returns-then-not-branch-clause-first
 returns-then-not-branch-clause-first c nothing =
-    let accounts = from_last c.args.order.now.entries in
-    let next = ahead_of accounts (before_in c.args.order.now.entries c.in-Some.account) in
     let is = step_on c.args.order.now.entries c.loop-next.next c.in-Some.account c.requires.distinct c.in-Some.is
     c.loop-next.invariant.next in
-    let on = c.in_ok-pass.field-0 in
-    let ahead = visits c.args.price c.args.troves.now.sums c.args.troves.now.table.rows next in
-    let first = first_step c.args.price c.args.troves.now.sums c.args.troves.now.table.rows c.in-Some.account
-    (ahead_of accounts c.loop-next.next) next is c.loop-next.walk c.pass.new.self on
-    (c.in_ok-pass.ensures.first ahead) _ c.loop-next.invariant.first in
-    sym (ap (λ b. first_net_of c.pass.new.self (ahead_where b ahead)) c.if-not-branch.true) ∙ first
+    let ahead = visits c.args.price c.args.troves.now.sums c.args.troves.now.table.rows
+    (ahead_of (from_last c.args.order.now.entries) (before_in c.args.order.now.entries c.in-Some.account)) in
+    sym (ap (λ b. first_net_of c.pass.new.self (ahead_where b ahead)) c.if-not-branch.true)
+    ∙ first_step c.args.price c.args.troves.now.sums c.args.troves.now.table.rows c.in-Some.account _ _ is
+    c.loop-next.walk c.pass.new.self c.in_ok-pass.field-0 (c.in_ok-pass.ensures.first ahead) _
+    c.loop-next.invariant.first
 
 pub loop-next-smaller : goal.loop-next-smaller
 loop-next-smaller c =
