@@ -77,383 +77,98 @@ fits f is =
 at_most : (n : ℕ) → (nat_lt n 1 || nat_lt 16 n) ≡ false → n ≤ 16
 at_most n is = grind (arith, nat_tests)
 
-module _ (gap : List ℕ) (client number account other amount amount_2 amount_3 amount_4 amount_5 before after : ℕ)
-    (rest : List ℕ) where
+-- a field that is 0 where its kind has no word for it
+unless : (lacks : Bool) (n : ℕ) → (lacks ≡ true → n ≡ 0) → cond lacks 0 n ≡ n
+unless true n none = sym (none refl)
+unless false n none = refl
+
+hint_unless : (lacks : Bool) (n : ℕ) → (lacks ≡ true → n ≡ 0) → cond lacks 0 (hint_word (hint_of n)) ≡ n
+hint_unless true n none = sym (none refl)
+hint_unless false n none = word_back n
+
+module _ (f : Fields) where
   abbrev of_kind : ℕ → Fields
-  of_kind kind = record {
-    kind = kind;
-    gap = gap;
-    client = client;
-    number = number;
-    account = account;
-    other = other;
-    amount = amount;
-    amount_2 = amount_2;
-    amount_3 = amount_3;
-    amount_4 = amount_4;
-    amount_5 = amount_5;
-    before =
-        before;
-    after = after;
-    rest = rest;
-  }
+  of_kind kind = record f { kind = kind }
 
-  record IsBack (f : Fields) : Type 0 where
-    fields : fields_of (command_in f) ≡ f
-    hints : HasHints (call_in f)
+  -- the fields of a kind, with 0 for each word that it lacks
+  abbrev cleared : ℕ → Fields
+  cleared kind =
+      let shape = shape_of kind in
+      record {
+        kind = kind;
+        gap = replicate 3 0;
+        client = f.client;
+        number = f.number;
+        account = cond (nat_lt shape.accounts 1) 0 f.account;
+        other = cond (nat_lt shape.accounts 2) 0 f.other;
+        amount = cond (nat_lt shape.amounts 1) 0 f.amount;
+        amount_2 = cond (nat_lt shape.amounts 2) 0 f.amount_2;
+        amount_3 = cond (nat_lt shape.amounts 3) 0 f.amount_3;
+        amount_4 = cond (nat_lt shape.amounts 4) 0 f.amount_4;
+        amount_5 = cond (nat_lt shape.amounts 5) 0 f.amount_5;
+        before = cond (nat_lt shape.hints 1) 0 (hint_word (hint_of f.before));
+        after = cond (nat_lt shape.hints 2) 0 (hint_word (hint_of f.after));
+        rest = replicate 24 0;
+      }
 
-  kinds : (kind : ℕ) → before < 4294967296 → after < 4294967296 → Fits (of_kind kind) → IsBack (of_kind kind)
+  -- fields that fit have 0 there
+  fitting : (kind : ℕ) → Fits (of_kind kind) → cleared kind ≡ of_kind kind
+  fitting kind z =
+      let shape = shape_of kind in
+      λ i. record {
+        kind = kind;
+        gap = sym z.gap i;
+        client = f.client;
+        number = f.number;
+        account = unless (nat_lt shape.accounts 1) f.account z.account i;
+        other = unless (nat_lt shape.accounts 2) f.other z.other i;
+        amount = unless (nat_lt shape.amounts 1) f.amount z.amount i;
+        amount_2 = unless (nat_lt shape.amounts 2) f.amount_2 z.amount_2 i;
+        amount_3 = unless (nat_lt shape.amounts 3) f.amount_3 z.amount_3 i;
+        amount_4 = unless (nat_lt shape.amounts 4) f.amount_4 z.amount_4 i;
+        amount_5 = unless (nat_lt shape.amounts 5) f.amount_5 z.amount_5 i;
+        before = hint_unless (nat_lt shape.hints 1) f.before z.before i;
+        after = hint_unless (nat_lt shape.hints 2) f.after z.after i;
+        rest = sym z.rest i;
+      }
+
+  record IsBack (g : Fields) : Type 0 where
+    fields : fields_of (command_in g) ≡ g
+    hints : HasHints (call_in g)
+
+  are_hints : f.before < 4294967296 → f.after < 4294967296 → AreHints (hints_of f.before f.after)
+  are_hints small small_2 = (hint_small f.before small, hint_small f.after small_2)
+
+  kinds : (kind : ℕ) → f.before < 4294967296 → f.after < 4294967296 → Fits (of_kind kind) → IsBack (of_kind kind)
   unfolding command_in
   kinds zero small small_2 z = absurd (cc (z.kind))
-  kinds (suc zero) small small_2 z = record {
-    fields = λ i. record {
-      kind = 1;
-      gap = sym z.gap i;
-      client = client;
-      number = number;
-      account = sym (z.account refl) i;
-      other = sym (z.other refl) i;
-      amount = amount;
-      amount_2 =
-          sym (z.amount_2 refl) i;
-      amount_3 = sym (z.amount_3 refl) i;
-      amount_4 = sym (z.amount_4 refl) i;
-      amount_5 =
-          sym (z.amount_5 refl) i;
-      before = sym (z.before refl) i;
-      after = sym (z.after refl) i;
-      rest = sym z.rest i;
-    };
-    hints = tt;
-  }
-  kinds (suc (suc zero)) small small_2 z = record {
-    fields = λ i. record {
-      kind = 2;
-      gap = sym z.gap i;
-      client = client;
-      number = number;
-      account = sym (z.account refl) i;
-      other = sym (z.other refl) i;
-      amount = amount;
-      amount_2 =
-          sym (z.amount_2 refl) i;
-      amount_3 = sym (z.amount_3 refl) i;
-      amount_4 = sym (z.amount_4 refl) i;
-      amount_5 =
-          sym (z.amount_5 refl) i;
-      before = sym (z.before refl) i;
-      after = sym (z.after refl) i;
-      rest = sym z.rest i;
-    };
-    hints = tt;
-  }
-  kinds (suc (suc (suc zero))) small small_2 z = record {
-    fields = λ i. record {
-      kind = 3;
-      gap = sym z.gap i;
-      client = client;
-      number = number;
-      account = account;
-      other = sym (z.other refl) i;
-      amount = amount;
-      amount_2 =
-          sym (z.amount_2 refl) i;
-      amount_3 = sym (z.amount_3 refl) i;
-      amount_4 = sym (z.amount_4 refl) i;
-      amount_5 =
-          sym (z.amount_5 refl) i;
-      before = sym (z.before refl) i;
-      after = sym (z.after refl) i;
-      rest = sym z.rest i;
-    };
-    hints = tt;
-  }
-  kinds (suc (suc (suc (suc zero)))) small small_2 z = record {
-    fields = λ i. record {
-      kind = 4;
-      gap = sym z.gap i;
-      client = client;
-      number = number;
-      account = account;
-      other = sym (z.other refl) i;
-      amount = amount;
-      amount_2 =
-          sym (z.amount_2 refl) i;
-      amount_3 = sym (z.amount_3 refl) i;
-      amount_4 = sym (z.amount_4 refl) i;
-      amount_5 =
-          sym (z.amount_5 refl) i;
-      before = sym (z.before refl) i;
-      after = sym (z.after refl) i;
-      rest = sym z.rest i;
-    };
-    hints = tt;
-  }
-  kinds (suc (suc (suc (suc (suc zero))))) small small_2 z =
-      record {
-        fields = λ i. record {
-          kind = 5;
-          gap = sym z.gap i;
-          client = client;
-          number = number;
-          account = account;
-          other = other;
-          amount = amount;
-          amount_2 = sym (z.amount_2 refl) i;
-          amount_3 = sym (z.amount_3 refl) i;
-          amount_4 =
-              sym (z.amount_4 refl) i;
-          amount_5 = sym (z.amount_5 refl) i;
-          before = sym (z.before refl) i;
-          after =
-              sym (z.after refl) i;
-          rest = sym z.rest i;
-        };
-        hints = tt;
-      }
+  kinds (suc zero) small small_2 z = record { fields = fitting 1 z; hints = tt }
+  kinds (suc (suc zero)) small small_2 z = record { fields = fitting 2 z; hints = tt }
+  kinds (suc (suc (suc zero))) small small_2 z = record { fields = fitting 3 z; hints = tt }
+  kinds (suc (suc (suc (suc zero)))) small small_2 z = record { fields = fitting 4 z; hints = tt }
+  kinds (suc (suc (suc (suc (suc zero))))) small small_2 z = record { fields = fitting 5 z; hints = tt }
   kinds (suc (suc (suc (suc (suc (suc zero)))))) small small_2 z =
-      record {
-        fields = λ i. record {
-          kind = 6;
-          gap = sym z.gap i;
-          client = client;
-          number = number;
-          account = account;
-          other = sym (z.other refl) i;
-          amount = amount;
-          amount_2 = amount_2;
-          amount_3 = amount_3;
-          amount_4 =
-              sym (z.amount_4 refl) i;
-          amount_5 = sym (z.amount_5 refl) i;
-          before = word_back before i;
-          after =
-              word_back after i;
-          rest = sym z.rest i;
-        };
-        hints = (hint_small before small, hint_small after small_2);
-      }
+      record { fields = fitting 6 z; hints = are_hints small small_2 }
   kinds (suc (suc (suc (suc (suc (suc (suc zero))))))) small small_2 z =
-      record {
-        fields = λ i. record {
-          kind = 7;
-          gap = sym z.gap i;
-          client = client;
-          number = number;
-          account = account;
-          other = sym (z.other refl) i;
-          amount = amount;
-          amount_2 = amount_2;
-          amount_3 = amount_3;
-          amount_4 = amount_4;
-          amount_5 = amount_5;
-          before = word_back before i;
-          after = word_back after i;
-          rest = sym z.rest i;
-        };
-        hints = (hint_small before small, hint_small after small_2);
-      }
+      record { fields = fitting 7 z; hints = are_hints small small_2 }
   kinds (suc (suc (suc (suc (suc (suc (suc (suc zero)))))))) small small_2 z =
-      record {
-        fields = λ i. record {
-          kind = 8;
-          gap = sym z.gap i;
-          client = client;
-          number = number;
-          account = account;
-          other = sym (z.other refl) i;
-          amount = sym (z.amount refl) i;
-          amount_2 = sym (z.amount_2 refl) i;
-          amount_3 =
-              sym (z.amount_3 refl) i;
-          amount_4 = sym (z.amount_4 refl) i;
-          amount_5 = sym (z.amount_5 refl) i;
-          before =
-              sym (z.before refl) i;
-          after = sym (z.after refl) i;
-          rest = sym z.rest i;
-        };
-        hints = tt;
-      }
+      record { fields = fitting 8 z; hints = tt }
   kinds (suc (suc (suc (suc (suc (suc (suc (suc (suc zero))))))))) small small_2 z =
-      record {
-        fields = λ i. record {
-          kind = 9;
-          gap = sym z.gap i;
-          client = client;
-          number = number;
-          account = account;
-          other = sym (z.other refl) i;
-          amount = amount;
-          amount_2 = sym (z.amount_2 refl) i;
-          amount_3 =
-              sym (z.amount_3 refl) i;
-          amount_4 = sym (z.amount_4 refl) i;
-          amount_5 = sym (z.amount_5 refl) i;
-          before =
-              sym (z.before refl) i;
-          after = sym (z.after refl) i;
-          rest = sym z.rest i;
-        };
-        hints = tt;
-      }
+      record { fields = fitting 9 z; hints = tt }
   kinds (suc (suc (suc (suc (suc (suc (suc (suc (suc (suc zero)))))))))) small small_2 z =
-      record {
-        fields = λ i. record {
-          kind = 10;
-          gap = sym z.gap i;
-          client = client;
-          number = number;
-          account = account;
-          other = sym (z.other refl) i;
-          amount = amount;
-          amount_2 = sym (z.amount_2 refl) i;
-          amount_3 =
-              sym (z.amount_3 refl) i;
-          amount_4 = sym (z.amount_4 refl) i;
-          amount_5 = sym (z.amount_5 refl) i;
-          before =
-              sym (z.before refl) i;
-          after = sym (z.after refl) i;
-          rest = sym z.rest i;
-        };
-        hints = tt;
-      }
+      record { fields = fitting 10 z; hints = tt }
   kinds (suc (suc (suc (suc (suc (suc (suc (suc (suc (suc (suc zero))))))))))) small small_2 z =
-      record {
-        fields = λ i. record {
-          kind = 11;
-          gap = sym z.gap i;
-          client = client;
-          number = number;
-          account = account;
-          other = sym (z.other refl) i;
-          amount = sym (z.amount refl) i;
-          amount_2 = sym (z.amount_2 refl) i;
-          amount_3 =
-              sym (z.amount_3 refl) i;
-          amount_4 = sym (z.amount_4 refl) i;
-          amount_5 = sym (z.amount_5 refl) i;
-          before =
-              word_back before i;
-          after = word_back after i;
-          rest = sym z.rest i;
-        };
-        hints = (
-          hint_small before small,
-          hint_small after small_2,
-        );
-      }
+      record { fields = fitting 11 z; hints = are_hints small small_2 }
   kinds (suc (suc (suc (suc (suc (suc (suc (suc (suc (suc (suc (suc zero)))))))))))) small small_2 z =
-      record {
-        fields = λ i. record {
-          kind = 12;
-          gap = sym z.gap i;
-          client = client;
-          number = number;
-          account = account;
-          other = other;
-          amount = sym (z.amount refl) i;
-          amount_2 = sym (z.amount_2 refl) i;
-          amount_3 =
-              sym (z.amount_3 refl) i;
-          amount_4 = sym (z.amount_4 refl) i;
-          amount_5 = sym (z.amount_5 refl) i;
-          before =
-              sym (z.before refl) i;
-          after = sym (z.after refl) i;
-          rest = sym z.rest i;
-        };
-        hints = tt;
-      }
+      record { fields = fitting 12 z; hints = tt }
   kinds (suc (suc (suc (suc (suc (suc (suc (suc (suc (suc (suc (suc (suc zero))))))))))))) small small_2 z =
-      record {
-        fields = λ i. record {
-          kind = 13;
-          gap = sym z.gap i;
-          client = client;
-          number = number;
-          account = account;
-          other = sym (z.other refl) i;
-          amount = amount;
-          amount_2 = sym (z.amount_2 refl) i;
-          amount_3 =
-              sym (z.amount_3 refl) i;
-          amount_4 = sym (z.amount_4 refl) i;
-          amount_5 = sym (z.amount_5 refl) i;
-          before =
-              sym (z.before refl) i;
-          after = sym (z.after refl) i;
-          rest = sym z.rest i;
-        };
-        hints = tt;
-      }
+      record { fields = fitting 13 z; hints = tt }
   kinds (suc (suc (suc (suc (suc (suc (suc (suc (suc (suc (suc (suc (suc (suc zero)))))))))))))) small small_2 z =
-      record {
-        fields = λ i. record {
-          kind = 14;
-          gap = sym z.gap i;
-          client = client;
-          number = number;
-          account = account;
-          other = sym (z.other refl) i;
-          amount = amount;
-          amount_2 = amount_2;
-          amount_3 = sym (z.amount_3 refl) i;
-          amount_4 =
-              sym (z.amount_4 refl) i;
-          amount_5 = sym (z.amount_5 refl) i;
-          before = word_back before i;
-          after =
-              word_back after i;
-          rest = sym z.rest i;
-        };
-        hints = (hint_small before small, hint_small after small_2);
-      }
+      record { fields = fitting 14 z; hints = are_hints small small_2 }
   kinds (suc (suc (suc (suc (suc (suc (suc (suc (suc (suc (suc (suc (suc (suc (suc zero))))))))))))))) small small_2 z =
-      record {
-        fields = λ i. record {
-          kind = 15;
-          gap = sym z.gap i;
-          client = client;
-          number = number;
-          account = account;
-          other = sym (z.other refl) i;
-          amount = sym (z.amount refl) i;
-          amount_2 = sym (z.amount_2 refl) i;
-          amount_3 =
-              sym (z.amount_3 refl) i;
-          amount_4 = sym (z.amount_4 refl) i;
-          amount_5 = sym (z.amount_5 refl) i;
-          before =
-              sym (z.before refl) i;
-          after = sym (z.after refl) i;
-          rest = sym z.rest i;
-        };
-        hints = tt;
-      }
+      record { fields = fitting 15 z; hints = tt }
   kinds (suc (suc (suc (suc (suc (suc (suc (suc (suc (suc (suc (suc (suc (suc (suc (suc zero)))))))))))))))) small
-      small_2 z = record {
-        fields = λ i. record {
-          kind = 16;
-          gap = sym z.gap i;
-          client = client;
-          number = number;
-          account = sym (z.account refl) i;
-          other = sym (z.other refl) i;
-          amount = sym (z.amount refl) i;
-          amount_2 =
-              sym (z.amount_2 refl) i;
-          amount_3 = sym (z.amount_3 refl) i;
-          amount_4 = sym (z.amount_4 refl) i;
-          amount_5 =
-              sym (z.amount_5 refl) i;
-          before = sym (z.before refl) i;
-          after = sym (z.after refl) i;
-          rest = sym z.rest i;
-        };
-        hints = tt;
-      }
+      small_2 z = record { fields = fitting 16 z; hints = tt }
   kinds (suc (suc (suc (suc (suc (suc (suc (suc (suc (suc (suc (suc (suc (suc (suc (suc (suc kind))))))))))))))))) small
       small_2 z = let low =
       at_most (suc (suc (suc (suc (suc (suc (suc (suc (suc (suc (suc (suc (suc (suc (suc (suc (suc kind)))))))))))))))))
@@ -462,14 +177,14 @@ module _ (gap : List ℕ) (client number account other amount amount_2 amount_3 
 -- The fields that fit a command are its fields.
 pub read_back : (f : Fields) → f.before < 4294967296 → f.after < 4294967296 → misfit f ≡ None
     → (fields_of (command_in f) ≡ f) × HasHints (call_in f)
-read_back f small small_2 is =
-    let back = kinds f.gap f.client f.number f.account f.other f.amount f.amount_2 f.amount_3 f.amount_4 f.amount_5
-    f.before f.after f.rest f.kind small small_2 (fits f is) in
-    (back.fields, back.hints)
+read_back f small small_2 is = let back = kinds f f.kind small small_2 (fits f is) in (back.fields, back.hints)
+
+abbrev numbered : ℕ → ℕ → Call → Command
+numbered client number call = record { client = client; number = number; call = call }
 
 -- A command's fields fit one.
 pub no_misfit : (client number : ℕ) (call : Call)
-    → misfit (fields_of (record { client = client; number = number; call = call })) ≡ None
+    → misfit (fields_of (numbered client number call)) ≡ None
 unfolding misfit
 no_misfit client number (Price price) = refl
 no_misfit client number (Advance minutes) = refl
@@ -489,35 +204,16 @@ no_misfit client number (Claim account) = refl
 no_misfit client number Rotate = refl
 
 hinted_back : (client number : ℕ) (hints : HintWords) (call : HintWords → Call) → AreHints hints
-    → ◌≡◌ {A = Command} (record {
-      client = client;
-      number = number;
-      call = call (hints_of (hint_word hints.prev) (hint_word hints.next));
-    }) (record {
-      client = client;
-      number =
-          number;
-      call = call hints;
-    })
+    → numbered client number (call (hints_of (hint_word hints.prev) (hint_word hints.next)))
+    ≡ numbered client number (call hints)
 hinted_back client number hints call are =
-    ap (λ (p : Option ℕ). record {
-      client = client;
-      number = number;
-      call = call (record { prev = p; next = hint_of (hint_word hints.next) });
-    }) (hint_back hints.prev are.0)
-    ∙ ap (λ (n : Option ℕ). record {
-      client = client;
-      number = number;
-      call = call (record { prev = hints.prev; next = n });
-    }) (hint_back hints.next are.1)
+    ap (λ p. numbered client number (call (record { prev = p; next = hint_of (hint_word hints.next) })))
+    (hint_back hints.prev are.0)
+    ∙ ap (λ n. numbered client number (call (record { prev = hints.prev; next = n }))) (hint_back hints.next are.1)
 
 -- The bytes of a command are read as that command.
 pub written_back : (client number : ℕ) (call : Call) → HasHints call
-    → command_in (fields_of (record { client = client; number = number; call = call })) ≡ record {
-      client = client;
-      number = number;
-      call = call;
-    }
+    → command_in (fields_of (numbered client number call)) ≡ numbered client number call
 unfolding command_in
 written_back client number (Price price) has = refl
 written_back client number (Advance minutes) has = refl
@@ -542,11 +238,7 @@ written_back client number Rotate has = refl
 
 -- any command is read back so
 pub heard_back : (client number : ℕ) (call : Call)
-    → command_in (fields_of (record { client = client; number = number; call = call })) ≡ record {
-      client = client;
-      number = number;
-      call = heard call;
-    }
+    → command_in (fields_of (numbered client number call)) ≡ numbered client number (heard call)
 unfolding command_in
 heard_back client number (Price price) = refl
 heard_back client number (Advance minutes) = refl
