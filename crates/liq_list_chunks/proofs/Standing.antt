@@ -135,13 +135,20 @@ first_back [] more x some is left_over = absurd (some refl)
 first_back (r ∷ rs) more x some is left_over =
     ap (λ (y : Ranked). y ∷ more) is ∙ ap (λ (l : List Ranked). r ∷ l) left_over
 
--- ---- the place of an entry in a list, which is the one that was seen
+-- ---- the place of an entry in a list that was seen twice
 
-pub place_of : (seen list : List Ranked) (e : Ranked) (at : ℕ) → seen ≡ list → IsPlace seen e at → IsPlace list e at
-place_of seen list e at is place = subst (λ (l : List Ranked). IsPlace l e at) is place
+-- the entry's place, and whether the entry stands there
+pub record IsSeen (list : List Ranked) (e : Ranked) (at : ℕ) (there : Bool) : Type 0 where
+  pub place : IsPlace list e at
+  pub within : there ≡ true → at < length list
+  pub same : (d : Ranked) → at < length list → is_eq (rank_order e (get_or list at d)) ≡ there
 
-pub is_there : (seen list : List Ranked) (e : Ranked) (at : ℕ) (b : Bool) → seen ≡ list
-    → ((d : Ranked) → at < length seen → is_eq (rank_order e (get_or seen at d)) ≡ b) → (d : Ranked) → at < length list
-    → is_eq (rank_order e (get_or list at d)) ≡ b
-is_there seen list e at b is h =
-    subst (λ (l : List Ranked). (d : Ranked) → at < length l → is_eq (rank_order e (get_or l at d)) ≡ b) is h
+pub is_seen : (list : List Ranked) (e : Ranked) (at : ℕ) (there : Bool) (once twice : List Ranked) → once ≡ list
+    → twice ≡ list → IsPlace once e at → (there ≡ true → at < length twice)
+    → ((d : Ranked) → at < length twice → is_eq (rank_order e (get_or twice at d)) ≡ there) → IsSeen list e at there
+is_seen list e at there once twice once_is twice_is place within same = record {
+  place = subst (λ (l : List Ranked). IsPlace l e at) once_is place;
+  within = λ is. subst (λ (l : List Ranked). at < length l) twice_is (within is);
+  same = subst (λ (l : List Ranked). (d : Ranked) → at < length l → is_eq (rank_order e (get_or l at d)) ≡ there)
+      twice_is same;
+}

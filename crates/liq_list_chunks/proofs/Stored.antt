@@ -1,12 +1,13 @@
 -- Chunks as vectors have them: what is read of one, and what the lists are once one is cut in two or taken out, or two
 -- are made one.
-use Rattle.std.proofs.Common.{◌≡◌, ℕ, ◌<◌, ◌+◌, suc, zero, List, [], ◌∷◌, ◌++◌, length, get_or, set, take, drop, refl, sym, ap, ◌∙◌, arith, map}
+use Rattle.std.proofs.Common.{◌≡◌, ℕ, ◌<◌, ◌+◌, suc, zero, List, [], ◌∷◌, ◌++◌, length, get_or, set, take, drop, refl, sym, ap, ◌∙◌, arith, map, subst}
 use Rattle.std.proofs.lemmas.List.{take-append-drop, get_or-map, get_or_read, length-map, map-set, drop_more, set-get_or}
 use Rattle.std.proofs.lemmas.List.Edits.{get_or-insert_below, get_or-remove_below}
 use Rattle.std.specs.Prelude.{insert, remove, Vec}
-use Rattle.liq_types.specs.Ranked.{Ranked}
-use Rattle.liq_list_chunks.specs.Chunks.{joined}
-use Rattle.liq_list_chunks.proofs.Around.{cut, together}
+use Rattle.liq_types.specs.Ranked.{Ranked, IsAscending}
+use Rattle.liq_list_chunks.specs.Chunks.{joined, BelongsTo}
+use Rattle.liq_list_chunks.specs.Entries.{with_entry, without_entry}
+use Rattle.liq_list_chunks.proofs.Around.{chunk_ascending, chunk_entered, chunk_kept, chunk_left, cut, together}
 
 module _ {Z : Type 0} where
   abbrev pub items_of : Vec Ranked Z → List Ranked
@@ -23,6 +24,45 @@ module _ {Z : Type 0} where
   read_chunk fs rests i e f r h k is was =
       ap (λ (g : Ranked). g ∷ r.items) (get_or_read fs i f h is e)
       ∙ ap (λ (l : List Ranked). get_or fs i e ∷ l) (read_rest rests i r (omega arith) was)
+
+  -- the chunk to which an entry belongs, as it is read: f and behind it r
+  module _ (fs : List Ranked) (rests : List (Vec Ranked Z)) (i : ℕ) (e f : Ranked) (r : Vec Ranked Z)
+      (belongs : BelongsTo fs e i) (len : length fs ≡ length rests) (ascending : IsAscending (joined fs
+      (map items_of rests))) (f_is : f ≡ get_or fs i f) (r_is : r ≡ get_or rests i r) where
+    lens : length fs ≡ length (map items_of rests)
+    lens = len ∙ sym (length-map rests items_of)
+
+    was : f ∷ r.items ≡ get_or fs i e ∷ get_or (map items_of rests) i []
+    was = read_chunk fs rests i e f r belongs.within len f_is r_is
+
+    pub read_ascending : IsAscending (f ∷ r.items)
+    read_ascending =
+        subst IsAscending (sym was) (chunk_ascending fs (map items_of rests) i e belongs.within lens ascending)
+
+    -- what it is then, g and behind it q, and what the entries are
+    module _ (g : Ranked) (q : Vec Ranked Z) where
+      put : joined (set fs i g) (map items_of (set rests i q))
+          ≡ joined (set fs i g) (set (map items_of rests) i q.items)
+      put = ap (λ (l : List (List Ranked)). joined (set fs i g) l) (map-set items_of rests i q)
+
+      pub entered_stored : g ∷ q.items ≡ with_entry (f ∷ r.items) e
+          → joined (set fs i g) (map items_of (set rests i q)) ≡ with_entry (joined fs (map items_of rests)) e
+      entered_stored is =
+          put
+          ∙ chunk_entered fs (map items_of rests) i e belongs.within lens ascending e belongs.low belongs.high g q.items
+          (is ∙ ap (λ (l : List Ranked). with_entry l e) was)
+
+      pub kept_stored : g ∷ q.items ≡ f ∷ r.items
+          → joined (set fs i g) (map items_of (set rests i q)) ≡ joined fs (map items_of rests)
+      kept_stored is =
+          put ∙ chunk_kept fs (map items_of rests) i e belongs.within lens ascending g q.items (is ∙ was)
+
+      pub left_stored : g ∷ q.items ≡ without_entry (f ∷ r.items) e
+          → joined (set fs i g) (map items_of (set rests i q)) ≡ without_entry (joined fs (map items_of rests)) e
+      left_stored is =
+          put
+          ∙ chunk_left fs (map items_of rests) i e belongs.within lens ascending e belongs.low belongs.high g q.items
+          (is ∙ ap (λ (l : List Ranked). without_entry l e) was)
 
   map_insert : (rests : List (Vec Ranked Z)) (j : ℕ) (r : Vec Ranked Z) → map items_of (insert rests j r)
       ≡ insert (map items_of rests) j r.items

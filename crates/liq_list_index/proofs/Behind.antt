@@ -122,14 +122,15 @@ module _ (below shorts above : List Ranked) (p : AreParted below shorts above) (
       ∙ sym (shorts_entered below shorts above p e is) ∙ entered
 
   pub short_parted : (new : List Ranked) → IsBetween e → new ≡ shorts ++ e ∷ [] → AreParted below new above
-  short_parted new is was = subst (λ (l : List Ranked). AreParted below l above) (sym (was ∙ sym short_entered)) (record {
-    below_ascend = p.below_ascend;
-    shorts_ascend = entered_ascending shorts e p.shorts_ascend;
-    above_ascend = p.above_ascend;
-    all_below = p.all_below;
-    all_short = all_entered IsBetween shorts e p.all_short is;
-    all_above = p.all_above;
-  })
+  short_parted new is was = subst (λ (l : List Ranked). AreParted below l above) (sym (was ∙ sym short_entered))
+      (record {
+        below_ascend = p.below_ascend;
+        shorts_ascend = entered_ascending shorts e p.shorts_ascend;
+        above_ascend = p.above_ascend;
+        all_below = p.all_below;
+        all_short = all_entered IsBetween shorts e p.all_short is;
+        all_above = p.all_above;
+      })
 
   pub above_added : (new : List Ranked) → IsAbove e → new ≡ with_entry above e
       → below ++ (shorts ++ new) ≡ (below ++ (shorts ++ above)) ++ e ∷ []

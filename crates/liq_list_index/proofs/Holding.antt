@@ -61,7 +61,8 @@ begun_again key next other will list settled same h =
       ascending = h.ascending;
       held = λ e is. h.held e (ap (λ k. is_key k e.0) (sym (same e.1)) ∙ is);
       only = λ e is. or_first (is_key (other e.1) e.0) (is_key (will e.1) e.0) (ap (λ k. is_key k e.0) (same e.1)
-          ∙ or_same (is_key (key e.1) e.0) (is_key (next e.1) e.0) (ap (λ k. is_key k e.0) (settled e.1)) (h.only e is));
+          ∙ or_same (is_key (key e.1) e.0) (is_key (next e.1) e.0) (ap (λ k. is_key k e.0) (settled e.1))
+          (h.only e is));
     }
 
 -- an entry comes in that an account will have

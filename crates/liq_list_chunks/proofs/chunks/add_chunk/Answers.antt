@@ -16,5 +16,6 @@ returns-clause-added c =
     ap (λ (l : List Ranked). joined l (map items_of c.push-2.new.self.items)) c.in-Ok.ensures.items
     ∙ ap (λ (l : List (Vec Ranked Global)). joined (firsts ++ first ∷ []) (map items_of l)) c.in-Ok-push.ensures.items
     ∙ joined_more first kept firsts rests c.requires.len
-    ∙ ap (λ (l : List Ranked). joined firsts (map items_of rests) ++ (first ∷ l)) (c.in_ok-extend_from_slice.ensures.items
+    ∙ ap (λ (l : List Ranked). joined firsts (map items_of rests) ++ (first ∷ l))
+    (c.in_ok-extend_from_slice.ensures.items
     ∙ ap (λ (l : List Ranked). l ++ c.args.rest.now) c.in_ok-kept.ensures.items)

@@ -1,4 +1,4 @@
-use Rattle.std.proofs.Common.{◌≡◌, ◌≤◌, ℕ, ◌-◌, take, map, get_or, subst, sym, ◌+◌, ◌<◌, List, [], length, arith, ap, ◌∙◌}
+use Rattle.std.proofs.Common.{◌≡◌, ◌≤◌, ℕ, take, drop, map, get_or, subst, sym, ◌+◌, ◌<◌, List, [], length, arith, ap, ◌∙◌}
 use Rattle.std.specs.Prelude.{insert, Vec}
 use Rattle.std.specs.Ordering.{is_lt}
 use Rattle.std.proofs.lemmas.List.Edits.{get_or-insert_above, get_or-insert_below, length-insert}
@@ -38,43 +38,39 @@ returns-clause-same c =
     (c.in-Ok-insert.ensures.items ∙ ap (λ (l : List Ranked). insert l (i + 1) first) c.try_reserve.ensures.items)
     c.in-Ok.ensures.items c.index_mut.ensures.value c.truncate.ensures.items
 
+-- each half of a chunk has room for one more
+front_room : (seen half : List Ranked) → half ≡ take 31 seen → length half < 63
+front_room seen half is = omega (arith, ap length is, length-take 31 seen)
+
+second_room : (chunk second : List Ranked) → length chunk ≤ 63 → second ≡ drop 32 chunk → length second < 63
+second_room chunk second short is = omega (arith, ap length is, length-drop 32 chunk, short)
+
 pub returns-clause-short : goal.returns-clause-short
 returns-clause-short c =
     let rests = c.args.rests.now.items in
     let i = c.args.chunk in
     let chunk = c.index-rest.result.now in
     let second = c.in_ok-second.second in
-    let seen = c.index_mut.result.now in
     let whole = short_read rests i chunk c.requires.short (omega (arith, c.requires.belongs.within, c.requires.len))
     c.index-rest.ensures in
-    let behind : length second.items ≡ length chunk.items - 32 =
-    ap (λ (l : List Ranked). length l) c.in_ok-second.ensures ∙ length-drop 32 chunk.items in
-    let front : length c.truncate.new.self.items ≡ length (take 31 seen.items) =
-    ap (λ (l : List Ranked). length l) c.truncate.ensures.items in
+    let behind = second_room chunk.items second.items whole c.in_ok-second.ensures in
+    let front = front_room c.index_mut.result.now.items c.truncate.new.self.items c.truncate.ensures.items in
     short_set c.insert.new.self.items i c.truncate.new.self
     (subst AreShort (ap (λ (l : List (Vec Ranked Global)). map items_of l) (sym c.in-Ok.ensures.items))
-    (short_insert rests (i + 1) second c.requires.short (omega (arith, behind, whole))))
-    (omega (arith, front, length-take 31 seen.items))
+    (short_insert rests (i + 1) second c.requires.short (omega (arith, behind))))
+    (omega (arith, front))
 
 pub returns-clause-room : goal.returns-clause-room
 returns-clause-room c at d low high =
     let rests = c.args.rests.now.items in
-    let i = c.args.chunk in
     let chunk = c.index-rest.result.now in
     let second = c.in_ok-second.second in
-    let seen = c.index_mut.result.now in
-    let whole = short_read rests i chunk c.requires.short (omega (arith, c.requires.belongs.within, c.requires.len))
-    c.index-rest.ensures in
-    let behind : length second.items ≡ length chunk.items - 32 =
-    ap (λ (l : List Ranked). length l) c.in_ok-second.ensures ∙ length-drop 32 chunk.items in
-    let front : length c.truncate.new.self.items ≡ length (take 31 seen.items) =
-    ap (λ (l : List Ranked). length l) c.truncate.ensures.items in
-    both_have_room rests c.insert.new.self.items i at second c.truncate.new.self d (omega (
-      arith,
-      c.requires.belongs.within,
-      c.requires.len,
-    )) c.in-Ok.ensures.items
-    (omega (arith, front, length-take 31 seen.items)) (omega (arith, behind, whole)) low high
+    let inside : c.args.chunk < length rests = omega (arith, c.requires.belongs.within, c.requires.len) in
+    let whole = short_read rests c.args.chunk chunk c.requires.short inside c.index-rest.ensures in
+    both_have_room rests c.insert.new.self.items c.args.chunk at second c.truncate.new.self d inside
+    c.in-Ok.ensures.items
+    (front_room c.index_mut.result.now.items c.truncate.new.self.items c.truncate.ensures.items)
+    (second_room chunk.items second.items whole c.in_ok-second.ensures) low high
 
 -- an entry of the chunk belongs to it or to the one that comes behind it
 either : (fs : List Ranked) (i : ℕ) (f e : Ranked) → BelongsTo fs e i → BelongsToEither (insert fs (i + 1) f) e i

@@ -1,16 +1,15 @@
-use Rattle.std.proofs.Common.{◌≡◌, arith, true, List, [], ◌∷◌, map, set, sym, ap, subst, ◌∙◌}
+use Rattle.std.proofs.Common.{◌≡◌, arith, true, List, [], ◌∷◌, map, sym, ap, subst, ◌∙◌}
 use Rattle.std.proofs.lemmas.Bool.{eqb-true}
-use Rattle.std.proofs.lemmas.List.{length-map, map-set, nil_from_length}
+use Rattle.std.proofs.lemmas.List.{length-map, nil_from_length}
 use Rattle.std.specs.Ordering.{is_eq}
 use Rattle.std.specs.Global.{Global}
 use Rattle.std.specs.Prelude.{Vec, remove}
-use Rattle.liq_types.specs.Ranked.{Ranked, IsAscending, rank_order}
-use Rattle.liq_list_chunks.specs.Chunks.{joined, lists}
+use Rattle.liq_types.specs.Ranked.{Ranked, rank_order}
+use Rattle.liq_list_chunks.specs.Chunks.{AreShort, joined, lists}
 use Rattle.liq_list_chunks.specs.Entries.{without_entry}
-use Rattle.liq_list_chunks.proofs.Around.{chunk_ascending, chunk_gone, chunk_left}
+use Rattle.liq_list_chunks.proofs.Around.{chunk_gone}
 use Rattle.liq_list_chunks.proofs.Lists.{left_first}
-use Rattle.liq_list_chunks.proofs.Stored.{items_of, map_remove, read_chunk}
-use Rattle.liq_list_chunks.specs.Chunks.{AreShort}
+use Rattle.liq_list_chunks.proofs.Stored.{items_of, left_stored, map_remove, read_ascending, read_chunk}
 use Rattle.liq_list_chunks.proofs.Short.{short_read, short_remove, short_set}
 use Rattle.liq_list_chunks.proofs.chunks.take_out.Goals as goal
 
@@ -37,26 +36,16 @@ returns-then-is_same-clause-left c =
 
 pub take_out_of_chunk-requires-clause-ascending : goal.take_out_of_chunk-requires-clause-ascending
 take_out_of_chunk-requires-clause-ascending c =
-    let fs = c.args.firsts.now.items in
-    let rs = c.args.rests.now.items in
-    subst IsAscending (sym (read_chunk fs rs c.args.chunk c.args.entry c.index_mut.result.now c.index_mut-2.result.now
-    c.requires.belongs.within c.requires.len c.index_mut.ensures.value c.index_mut-2.ensures.value))
-    (chunk_ascending fs (lists c.args.rests.now) c.args.chunk c.args.entry c.requires.belongs.within (c.requires.len
-    ∙ sym (length-map rs items_of)) c.requires.ascending)
+    read_ascending c.args.firsts.now.items c.args.rests.now.items c.args.chunk c.args.entry c.index_mut.result.now
+    c.index_mut-2.result.now c.requires.belongs c.requires.len c.requires.ascending c.index_mut.ensures.value
+    c.index_mut-2.ensures.value
 
 pub returns-clause-left : goal.returns-clause-left
 returns-clause-left c =
-    let fs = c.args.firsts.now.items in
-    let rs = c.args.rests.now.items in
-    let i = c.args.chunk in
-    let e = c.args.entry in
-    let was = read_chunk fs rs i e c.index_mut.result.now c.index_mut-2.result.now c.requires.belongs.within
-    c.requires.len c.index_mut.ensures.value c.index_mut-2.ensures.value in
-    let new = c.take_out_of_chunk.new in
-    ap (λ (l : List (List Ranked)). joined (set fs i new.first) l) (map-set items_of rs i new.rest)
-    ∙ chunk_left fs (lists c.args.rests.now) i e c.requires.belongs.within (c.requires.len
-    ∙ sym (length-map rs items_of)) c.requires.ascending e c.requires.belongs.low c.requires.belongs.high new.first
-    new.rest.items (c.take_out_of_chunk.ensures.left ∙ ap (λ (l : List Ranked). without_entry l e) was)
+    left_stored c.args.firsts.now.items c.args.rests.now.items c.args.chunk c.args.entry c.index_mut.result.now
+    c.index_mut-2.result.now c.requires.belongs c.requires.len c.requires.ascending c.index_mut.ensures.value
+    c.index_mut-2.ensures.value c.take_out_of_chunk.new.first c.take_out_of_chunk.new.rest
+    c.take_out_of_chunk.ensures.left
 
 pub returns-then-is_same-clause-short : goal.returns-then-is_same-clause-short
 returns-then-is_same-clause-short c =
