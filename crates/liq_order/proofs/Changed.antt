@@ -108,7 +108,8 @@ node_put f (x ∷ xs) back at account h = by ((f x).account == account) ((f at).
           → node_of f (xs ++ at ∷ back) account ≡ cond t (Some at) (node_of f (xs ++ back) account)
           → cond s (Some x) (node_of f (xs ++ at ∷ back) account)
           ≡ cond t (Some at) (cond s (Some x) (node_of f (xs ++ back) account))
-      by true true is it more = absurd (h.0 (eqb-true (f x).account account is ∙ sym (eqb-true (f at).account account it)))
+      by true true is it more =
+          absurd (h.0 (eqb-true (f x).account account is ∙ sym (eqb-true (f at).account account it)))
       by true false is it more = refl
       by false t is it more = more
 
@@ -351,7 +352,8 @@ put_ring nodes order free place first last r front back whole node prev_is next_
       record {
         linked = framed m g None (front ++ at ∷ back) None (all_of (Alike m g) (front ++ at ∷ back) read) all;
         first_is = first_is ∙ first_met front first (first_or None back) (Some at) (r.first_is
-            ∙ ap (λ l. first_or None l) whole ∙ first_append None front back) ∙ sym (first_append None front (at ∷ back));
+            ∙ ap (λ l. first_or None l) whole ∙ first_append None front back)
+            ∙ sym (first_append None front (at ∷ back));
         last_is = last_is ∙ last_met back last (last_or None front) (Some at) (r.last_is
             ∙ ap (λ l. last_or None l) whole ∙ last_append None front back) ∙ sym (last_append None front (at ∷ back));
         apart = subst AreApart (sym (append_assoc front (at ∷ back) free')) (apart_in front (back ++ free') at
@@ -458,8 +460,8 @@ out_ring nodes order free place first last r account at s place' told nodes' wri
             (all_front (λ (q : NodeNo). q.0 ≢ at.0) back free far.2)) (all_back (λ (q : NodeNo). q.0
             ≢ at.0) back free far.2)) tt);
         within = subst (λ n. AreWithin n ((front ++ back) ++ (free ++ at ∷ []))) (sym (ap (λ l. length l) written
-            ∙ met_length nodes fro to to fro)) (all_both (λ (q : NodeNo). q.0 < length nodes) (front ++ back) (free ++ at
-            ∷ []) (all_both (λ (q : NodeNo). q.0 < length nodes) front back in_front in_back)
+            ∙ met_length nodes fro to to fro)) (all_both (λ (q : NodeNo). q.0 < length nodes) (front ++ back)
+            (free ++ at ∷ []) (all_both (λ (q : NodeNo). q.0 < length nodes) front back in_front in_back)
             (all_both (λ (q : NodeNo). q.0 < length nodes) free (at ∷ []) in_free (in_rest.0, tt)));
         shared = omega (
           arith,
@@ -485,7 +487,9 @@ out_ring nodes order free place first last r account at s place' told nodes' wri
           (subst (λ k. IsAbsent k (entries_at (memory nodes) (s.front ++ s.back))) (eqb-true account a is) gone)) where
             list_is : entries_at (memory nodes) order ≡ entries_at (memory nodes) s.front ++ entry_of (memory nodes at)
                 ∷ entries_at (memory nodes) s.back
-            list_is = ap (λ l. entries_at (memory nodes) l) s.whole ∙ entries_append (memory nodes) s.front (at ∷ s.back)
+            list_is =
+                ap (λ l. entries_at (memory nodes) l) s.whole
+                ∙ entries_append (memory nodes) s.front (at ∷ s.back)
 
             behind : IsAbsent account (entries_at (memory nodes) s.back)
             behind = subst (λ k. IsAbsent k (entries_at (memory nodes) s.back)) s.same

@@ -40,8 +40,8 @@ impl Node {
         }
     }
 
-    /// Whether the node's entry stands nearer the front than this one. Mostly the keys alone say
-    /// it.
+    /// Whether the node's entry stands nearer the front than this one. Where the keys differ they
+    /// decide, and the accounts aren't read.
     pub(crate) fn is_before(&self, entry: (i128, u32)) -> bool
         ensures { result ≡ is_lt (rank_order (entry_of self.now) entry) }
     {
@@ -67,7 +67,7 @@ impl Node {
     }
 }
 
-/// Between which places an entry is put.
+/// The places between which an entry is put: `None` where it comes first or last.
 #[derive(Clone, Copy)]
 pub(crate) struct Gap {
     pub previous: Option<NodeNo>,

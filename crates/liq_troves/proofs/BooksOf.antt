@@ -7,11 +7,11 @@ use Rattle.std.proofs.lemmas.List.{take-append-le}
 use Rattle.std.proofs.lemmas.List.Sums.{sum_by-append}
 use Rattle.liq_types.specs.declared.figures.Trove.{Trove}
 use Rattle.liq_types.specs.State.{State, StakeSums, Mark, AtStart, After, TroveEntry, Redistribution}
-use Rattle.liq_types.specs.Tables.{Table, at, put, without, map_rows}
+use Rattle.liq_types.specs.Tables.{Table, at, without, map_rows}
 use Rattle.liq_types.specs.Totals.{stakes_of}
 use Rattle.liq_types.specs.WellFormed.{IsMoment, TrovesAreMarked}
 use Rattle.liq_types.proofs.MapRows.{at-map, map-put, map-without, map-sum, map-cong}
-use Rattle.liq_troves.specs.Own.{lifted_entry, lifted, placed, stake_for, redistributed, snapped}
+use Rattle.liq_troves.specs.Own.{lifted_entry, lifted, placed, redistributed, snapped}
 use Rattle.liq_troves.specs.Rows.{stakes_in}
 use Rattle.liq_troves.specs.Standing.{Books, books_of, lifted_row, lift, place, spread, snap}
 use Rattle.liq_troves.specs.StakeSums.{sums_at, trove_row, coll_growth, debt_growth}
@@ -42,15 +42,10 @@ pub place_books : (s : State) (account coll debt : ℕ) → books_of (placed s a
     ≡ place (books_of s) account coll debt
 unfolding with_rows
 place_books s account coll debt =
-    let entry : TroveEntry = record {
-      coll = coll;
-      debt = debt;
-      stake = stake_for s coll;
-      mark = After (length s.redistributions);
-    } in
-    let left = books_of (placed s account coll debt) in
-    ap (λ n. record left { sums = record left.sums { stakes = n } }) (stakes_shown s (put s.troves account entry))
-    ∙ ap (with_rows left) (map-put (trove_row s) s.troves account entry)
+    let after = placed s account coll debt in
+    let left = books_of after in
+    ap (λ n. record left { sums = record left.sums { stakes = n } }) (stakes_shown s after.troves)
+    ∙ ap (with_rows left) (map-put (trove_row s) s.troves account _)
 
 -- ---- a redistribution
 

@@ -7,13 +7,9 @@ use Rattle.liq_order.proofs.Chained.{chained_next}
 use Rattle.liq_order.proofs.at_once.nodes_of.Goals as goal
 
 pub push_reserved-requires : goal.push_reserved-requires
-push_reserved-requires c = omega (
-  arith,
-  c.loop-at.invariant.count,
-  c.loop-at.invariant.room,
-  c.loop-at-test.true,
-  c.loop-at.auto.at-end,
-)
+push_reserved-requires c =
+    let l = c.loop-at in
+    omega (arith, l.invariant.count, l.invariant.room, c.loop-at-test.true, l.auto.at-end)
 
 pub loop-at-preserved : goal.loop-at-preserved
 loop-at-preserved c =

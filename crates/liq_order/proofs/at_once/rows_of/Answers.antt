@@ -6,13 +6,9 @@ use Rattle.liq_order.proofs.Chained.{rows_from_next}
 use Rattle.liq_order.proofs.at_once.rows_of.Goals as goal
 
 pub push_reserved-requires : goal.push_reserved-requires
-push_reserved-requires c = omega (
-  arith,
-  c.loop-at.invariant.count,
-  c.loop-at.invariant.room,
-  c.loop-at-test.true,
-  c.loop-at.auto.at-end,
-)
+push_reserved-requires c =
+    let l = c.loop-at in
+    omega (arith, l.invariant.count, l.invariant.room, c.loop-at-test.true, l.auto.at-end)
 
 pub loop-at-preserved : goal.loop-at-preserved
 loop-at-preserved c = record {
