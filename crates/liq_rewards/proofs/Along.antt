@@ -203,9 +203,9 @@ module _ (most : ℕ) (served : most ≤ 10 ^ (9 * RISES_MOST)) (account : ℕ) 
       let before = lawful_first most opening (events_of past) (t.event ∷ []) lawful in
       ap (λ (w : Watch). w.place) (watched-more account t past) ∙ by t.event (watched account (events_of past))
       (place_is past before) (ap place_of ((whole past before).now account)) where
-        either : (b : Bool) (w : Watch) (left : ℕ) (here then : EpochScale) → place_of w.now ≡ here
-            → w.place ≡ then → (cond b (record w { amount = left; place = place_of w.now; own_events = w.own_events + 1 })
-            w).place ≡ cond b here then
+        either : (b : Bool) (w : Watch) (left : ℕ) (here then : EpochScale) → place_of w.now ≡ here → w.place ≡ then
+            → (cond b (record w { amount = left; place = place_of w.now; own_events = w.own_events + 1 }) w).place
+            ≡ cond b here then
         either true w left here then k h = k
         either false w left here then k h = h
 

@@ -31,14 +31,11 @@ use Rattle.liq_rewards.proofs.Small.{served, happens, stands, place_few, due_mos
 
 -- ---- nothing
 
-pub none_kept : (words : PoolWords) → words ≡ record {
-  p = P_OPENING;
-  scale = 0;
-  epoch = 0;
-  sum = 0;
-  total = 0;
-  coll = 0;
-} → (rows : List Earner) → rows ≡ [] → IsKeptOf (record {
+-- the words of a pool in which nothing has happened: the product is whole
+abbrev opening_pool : PoolWords
+opening_pool = record { p = P_OPENING; scale = 0; epoch = 0; sum = 0; total = 0; coll = 0 }
+
+pub none_kept : (words : PoolWords) → words ≡ opening_pool → (rows : List Earner) → rows ≡ [] → IsKeptOf (record {
   minute = 0;
   due = 0;
   unshared = 0;
@@ -52,7 +49,7 @@ none_kept words w rows r =
       minute = 0;
       due = 0;
       unshared = 0;
-      words = record { p = P_OPENING; scale = 0; epoch = 0; sum = 0; total = 0; coll = 0 };
+      words = opening_pool;
       earners = rows;
     }) [])
     (sym r) (record {

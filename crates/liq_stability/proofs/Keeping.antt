@@ -26,7 +26,7 @@ use Rattle.liq_stability.specs.declared.words.PoolWords.{PoolWords}
 use Rattle.liq_types.specs.declared.image.FinishedSum.{FinishedSum}
 use Rattle.liq_stability.specs.Kept.{IsSoundPool, IsDepositOf, finished_rows, is_sound_sum, with_last, sum_at, left_in}
 use Rattle.liq_stability.specs.Position.{deposit_now}
-use Rattle.liq_stability.specs.Words.{words_in, offset_in, sum_with, words_after, finished_by, finished_with}
+use Rattle.liq_stability.specs.Words.{opening_pool, words_in, offset_in, sum_with, words_after, finished_by, finished_with}
 use Rattle.liq_stability.proofs.Finishing.{Finished, AreBefore, put_last, all_last, sorted_last, sum_in, none_in, other_last, same_last}
 use Rattle.liq_stability.proofs.Rising.{range_in, takes_in}
 use Rattle.liq_stability.proofs.Tests.{IsFinished, IsMarked, IsInRange, product_in, product_tested, sum_beside, beside_tested, finished_in, finished_tested, deposit_in, deposit_tested}
@@ -73,7 +73,7 @@ found_sound w table deposits account (Some d) is h = all-at (IsDepositOf w table
 
 -- ---- at the start
 
-pub opening_sound : IsSoundPool (record { p = P_OPENING; scale = 0; epoch = 0; sum = 0; total = 0; coll = 0 }) [] []
+pub opening_sound : IsSoundPool opening_pool [] []
 unfolding IsStrictlySortedBy
 opening_sound = record {
   product = product_tested P_OPENING (record { least = omega arith; most = omega arith });

@@ -4,6 +4,7 @@ pub mod Following
 mod Holding
 mod Keeping
 pub mod LawfulLists
+pub mod LawfulTests
 pub mod Pool
 pub mod PoolPart
 pub mod Promise

@@ -1,6 +1,7 @@
 -- The words of the Stability Pool: what an offset makes of them, and what they are in a state.
 use Rattle.std.specs.Prelude.{ℕ, ◌+◌, ◌-◌, ◌||◌, ◌==◌, List, Option, Some, None, if◌then◌else◌}
 use Rattle.std.specs.BTreeMap.{insert_entry}
+use Rattle.liq_types.specs.declared.amounts.TheConstants.{P_OPENING}
 use Rattle.liq_types.specs.Tables.{EpochScale}
 use Rattle.liq_types.specs.Product.{ScaledProduct, after_offset, prod, sumat, sum_growth, place_of, is_place, place_order}
 use Rattle.liq_types.specs.State.{State, PoolOffset}
@@ -9,6 +10,10 @@ use Rattle.liq_stability.specs.declared.words.PoolWords.{PoolWords}
 use Rattle.liq_types.specs.declared.image.FinishedSum.{FinishedSum}
 
 -- ---- over the words as they are kept
+
+-- those of a pool in which nothing has happened: the product is whole
+abbrev pub opening_pool : PoolWords
+opening_pool = record { p = P_OPENING; scale = 0; epoch = 0; sum = 0; total = 0; coll = 0 }
 
 -- the product, and where it counts
 abbrev pub words_in : PoolWords → ScaledProduct

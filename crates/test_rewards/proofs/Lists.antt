@@ -3,10 +3,9 @@ use Rattle.std.proofs.Common.{List, [], ◌∷◌, refl, arith}
 use Rattle.liq_types.specs.declared.events.PoolEvent.TheVariants.{Own, Offset}
 use Rattle.liq_types.specs.Product.{least_from}
 use Rattle.liq_types.specs.State.{opening}
-use Rattle.liq_stability.specs.Lawful.{IsLawful}
+use Rattle.liq_stability.proofs.LawfulTests.{lawful_tested}
 use Rattle.liq_rewards.specs.Timed.{Timed, timed, events_of}
 use Rattle.liq_rewards.specs.Kept.{MayHappen}
-use Rattle.liq_rewards.proofs.Small.{earlier}
 
 abbrev pub shared_1 : List Timed
 shared_1 = timed 0 (Own 1 1000000000 0 0 1000000000) ∷ []
@@ -17,44 +16,17 @@ shared_2 = timed 0 (Own 2 2000000000 0 0 2000000000) ∷ shared_1
 abbrev pub shared_3 : List Timed
 shared_3 = timed 3 (Offset 1000000000 700000000 3000000000 0) ∷ shared_2
 
-shared_lawful : IsLawful opening (events_of shared_3)
-unfolding least_from
-shared_lawful = (
-  record { total = omega arith; coll = omega arith },
-  record {
-    gain_is = refl;
-    paid_is = omega arith;
-    amount_is = refl;
-  },
-  (
-    record { total = omega arith; coll = omega arith },
-    record {
-      gain_is = refl;
-      paid_is = omega arith;
-      amount_is = refl;
-    },
-    (
-      record { total = omega arith; coll = omega arith },
-      record { some = omega arith; within = omega arith; total_is = refl; coll_is = omega arith; rise_is = refl },
-      record { total = omega arith; coll = omega arith },
-    ),
-  ),
-)
-
 pub shared_may_3 : MayHappen (timed 3 (Offset 1000000000 700000000 3000000000 0)) shared_2
-shared_may_3 = record { lawful = shared_lawful; few = omega arith }
-
-shared_lawful_2 : IsLawful opening (events_of shared_2)
-shared_lawful_2 = earlier (timed 3 (Offset 1000000000 700000000 3000000000 0)) shared_2 shared_lawful
+unfolding least_from
+shared_may_3 = record { lawful = lawful_tested opening (events_of shared_3) refl; few = omega arith }
 
 pub shared_may_2 : MayHappen (timed 0 (Own 2 2000000000 0 0 2000000000)) shared_1
-shared_may_2 = record { lawful = shared_lawful_2; few = omega arith }
-
-shared_lawful_1 : IsLawful opening (events_of shared_1)
-shared_lawful_1 = earlier (timed 0 (Own 2 2000000000 0 0 2000000000)) shared_1 shared_lawful_2
+unfolding least_from
+shared_may_2 = record { lawful = lawful_tested opening (events_of shared_2) refl; few = omega arith }
 
 pub shared_may_1 : MayHappen (timed 0 (Own 1 1000000000 0 0 1000000000)) []
-shared_may_1 = record { lawful = shared_lawful_1; few = omega arith }
+unfolding least_from
+shared_may_1 = record { lawful = lawful_tested opening (events_of shared_1) refl; few = omega arith }
 
 abbrev pub ended_1 : List Timed
 ended_1 = timed 0 (Own 1 4000000000 0 0 4000000000) ∷ []
@@ -65,50 +37,17 @@ ended_2 = timed 2 (Offset 4000000000 0 4000000000 0) ∷ ended_1
 abbrev pub ended_3 : List Timed
 ended_3 = timed 3 (Own 2 1000000000 0 0 1000000000) ∷ ended_2
 
-ended_lawful : IsLawful opening (events_of ended_3)
-unfolding least_from
-ended_lawful = (
-  record { total = omega arith; coll = omega arith },
-  record {
-    gain_is = refl;
-    paid_is = omega arith;
-    amount_is = refl;
-  },
-  (
-    record { total = omega arith; coll = omega arith },
-    record {
-      some = omega arith;
-      within = omega arith;
-      total_is = refl;
-      coll_is = omega arith;
-      rise_is = refl;
-    },
-    (
-      record { total = omega arith; coll = omega arith },
-      record {
-        gain_is = refl;
-        paid_is = omega arith;
-        amount_is = refl;
-      },
-      record { total = omega arith; coll = omega arith },
-    ),
-  ),
-)
-
 pub ended_may_3 : MayHappen (timed 3 (Own 2 1000000000 0 0 1000000000)) ended_2
-ended_may_3 = record { lawful = ended_lawful; few = omega arith }
-
-ended_lawful_2 : IsLawful opening (events_of ended_2)
-ended_lawful_2 = earlier (timed 3 (Own 2 1000000000 0 0 1000000000)) ended_2 ended_lawful
+unfolding least_from
+ended_may_3 = record { lawful = lawful_tested opening (events_of ended_3) refl; few = omega arith }
 
 pub ended_may_2 : MayHappen (timed 2 (Offset 4000000000 0 4000000000 0)) ended_1
-ended_may_2 = record { lawful = ended_lawful_2; few = omega arith }
-
-ended_lawful_1 : IsLawful opening (events_of ended_1)
-ended_lawful_1 = earlier (timed 2 (Offset 4000000000 0 4000000000 0)) ended_1 ended_lawful_2
+unfolding least_from
+ended_may_2 = record { lawful = lawful_tested opening (events_of ended_2) refl; few = omega arith }
 
 pub ended_may_1 : MayHappen (timed 0 (Own 1 4000000000 0 0 4000000000)) []
-ended_may_1 = record { lawful = ended_lawful_1; few = omega arith }
+unfolding least_from
+ended_may_1 = record { lawful = lawful_tested opening (events_of ended_1) refl; few = omega arith }
 
 abbrev pub least_1 : List Timed
 least_1 = timed 0 (Own 1 999999999 0 0 999999999) ∷ []
@@ -116,34 +55,13 @@ least_1 = timed 0 (Own 1 999999999 0 0 999999999) ∷ []
 abbrev pub least_2 : List Timed
 least_2 = timed 1 (Own 1 1 0 0 1000000000) ∷ least_1
 
-least_lawful : IsLawful opening (events_of least_2)
-unfolding least_from
-least_lawful = (
-  record { total = omega arith; coll = omega arith },
-  record {
-    gain_is = refl;
-    paid_is = omega arith;
-    amount_is = refl;
-  },
-  (
-    record { total = omega arith; coll = omega arith },
-    record {
-      gain_is = refl;
-      paid_is = omega arith;
-      amount_is = refl;
-    },
-    record { total = omega arith; coll = omega arith },
-  ),
-)
-
 pub least_may_2 : MayHappen (timed 1 (Own 1 1 0 0 1000000000)) least_1
-least_may_2 = record { lawful = least_lawful; few = omega arith }
-
-least_lawful_1 : IsLawful opening (events_of least_1)
-least_lawful_1 = earlier (timed 1 (Own 1 1 0 0 1000000000)) least_1 least_lawful
+unfolding least_from
+least_may_2 = record { lawful = lawful_tested opening (events_of least_2) refl; few = omega arith }
 
 pub least_may_1 : MayHappen (timed 0 (Own 1 999999999 0 0 999999999)) []
-least_may_1 = record { lawful = least_lawful_1; few = omega arith }
+unfolding least_from
+least_may_1 = record { lawful = lawful_tested opening (events_of least_1) refl; few = omega arith }
 
 abbrev pub risen_1 : List Timed
 risen_1 = timed 0 (Own 1 1000000000000000000 0 0 1000000000000000000) ∷ []
@@ -160,80 +78,25 @@ risen_4 = timed 2 (Offset 999999999999999999 0 1000000000000000000 2) ∷ risen_
 abbrev pub risen_5 : List Timed
 risen_5 = timed 2 (Own 3 999999999999999999 0 0 999999999999999999) ∷ risen_4
 
-risen_lawful : IsLawful opening (events_of risen_5)
-unfolding least_from
-risen_lawful = (
-  record { total = omega arith; coll = omega arith },
-  record {
-    gain_is = refl;
-    paid_is = omega arith;
-    amount_is = refl;
-  },
-  (
-    record { total = omega arith; coll = omega arith },
-    record {
-      some = omega arith;
-      within = omega arith;
-      total_is = refl;
-      coll_is = omega arith;
-      rise_is = refl;
-    },
-    (
-      record { total = omega arith; coll = omega arith },
-      record {
-        gain_is = refl;
-        paid_is = omega arith;
-        amount_is = refl;
-      },
-      (
-        record { total = omega arith; coll = omega arith },
-        record {
-          some = omega arith;
-          within = omega arith;
-          total_is = refl;
-          coll_is = omega arith;
-          rise_is = refl;
-        },
-        (
-          record { total = omega arith; coll = omega arith },
-          record {
-            gain_is = refl;
-            paid_is = omega arith;
-            amount_is = refl;
-          },
-          record { total = omega arith; coll = omega arith },
-        ),
-      ),
-    ),
-  ),
-)
-
 pub risen_may_5 : MayHappen (timed 2 (Own 3 999999999999999999 0 0 999999999999999999)) risen_4
-risen_may_5 = record { lawful = risen_lawful; few = omega arith }
-
-risen_lawful_4 : IsLawful opening (events_of risen_4)
-risen_lawful_4 = earlier (timed 2 (Own 3 999999999999999999 0 0 999999999999999999)) risen_4 risen_lawful
+unfolding least_from
+risen_may_5 = record { lawful = lawful_tested opening (events_of risen_5) refl; few = omega arith }
 
 pub risen_may_4 : MayHappen (timed 2 (Offset 999999999999999999 0 1000000000000000000 2)) risen_3
-risen_may_4 = record { lawful = risen_lawful_4; few = omega arith }
-
-risen_lawful_3 : IsLawful opening (events_of risen_3)
-risen_lawful_3 = earlier (timed 2 (Offset 999999999999999999 0 1000000000000000000 2)) risen_3 risen_lawful_4
+unfolding least_from
+risen_may_4 = record { lawful = lawful_tested opening (events_of risen_4) refl; few = omega arith }
 
 pub risen_may_3 : MayHappen (timed 1 (Own 2 999999999999999999 0 0 999999999999999999)) risen_2
-risen_may_3 = record { lawful = risen_lawful_3; few = omega arith }
-
-risen_lawful_2 : IsLawful opening (events_of risen_2)
-risen_lawful_2 = earlier (timed 1 (Own 2 999999999999999999 0 0 999999999999999999)) risen_2 risen_lawful_3
+unfolding least_from
+risen_may_3 = record { lawful = lawful_tested opening (events_of risen_3) refl; few = omega arith }
 
 pub risen_may_2 : MayHappen (timed 1 (Offset 999999999999999999 0 1000000000000000000 1)) risen_1
-risen_may_2 = record { lawful = risen_lawful_2; few = omega arith }
-
-risen_lawful_1 : IsLawful opening (events_of risen_1)
-risen_lawful_1 = earlier (timed 1 (Offset 999999999999999999 0 1000000000000000000 1)) risen_1 risen_lawful_2
+unfolding least_from
+risen_may_2 = record { lawful = lawful_tested opening (events_of risen_2) refl; few = omega arith }
 
 pub risen_may_1 : MayHappen (timed 0 (Own 1 1000000000000000000 0 0 1000000000000000000)) []
-risen_may_1 = record { lawful = risen_lawful_1; few = omega arith }
+unfolding least_from
+risen_may_1 = record { lawful = lawful_tested opening (events_of risen_1) refl; few = omega arith }
 
 abbrev pub fourth_1 : List Timed
 fourth_1 = timed 0 (Own 1 1000000000000000000 0 0 1000000000000000000) ∷ []
@@ -250,80 +113,25 @@ fourth_4 = timed 0 (Offset 9999999999999999999 0 10000000000000000000 3) ∷ fou
 abbrev pub fourth_5 : List Timed
 fourth_5 = timed 0 (Own 3 1000000000 0 0 1000000000) ∷ fourth_4
 
-fourth_lawful : IsLawful opening (events_of fourth_5)
-unfolding least_from
-fourth_lawful = (
-  record { total = omega arith; coll = omega arith },
-  record {
-    gain_is = refl;
-    paid_is = omega arith;
-    amount_is = refl;
-  },
-  (
-    record { total = omega arith; coll = omega arith },
-    record {
-      some = omega arith;
-      within = omega arith;
-      total_is = refl;
-      coll_is = omega arith;
-      rise_is = refl;
-    },
-    (
-      record { total = omega arith; coll = omega arith },
-      record {
-        gain_is = refl;
-        paid_is = omega arith;
-        amount_is = refl;
-      },
-      (
-        record { total = omega arith; coll = omega arith },
-        record {
-          some = omega arith;
-          within = omega arith;
-          total_is = refl;
-          coll_is = omega arith;
-          rise_is = refl;
-        },
-        (
-          record { total = omega arith; coll = omega arith },
-          record {
-            gain_is = refl;
-            paid_is = omega arith;
-            amount_is = refl;
-          },
-          record { total = omega arith; coll = omega arith },
-        ),
-      ),
-    ),
-  ),
-)
-
 pub fourth_may_5 : MayHappen (timed 0 (Own 3 1000000000 0 0 1000000000)) fourth_4
-fourth_may_5 = record { lawful = fourth_lawful; few = omega arith }
-
-fourth_lawful_4 : IsLawful opening (events_of fourth_4)
-fourth_lawful_4 = earlier (timed 0 (Own 3 1000000000 0 0 1000000000)) fourth_4 fourth_lawful
+unfolding least_from
+fourth_may_5 = record { lawful = lawful_tested opening (events_of fourth_5) refl; few = omega arith }
 
 pub fourth_may_4 : MayHappen (timed 0 (Offset 9999999999999999999 0 10000000000000000000 3)) fourth_3
-fourth_may_4 = record { lawful = fourth_lawful_4; few = omega arith }
-
-fourth_lawful_3 : IsLawful opening (events_of fourth_3)
-fourth_lawful_3 = earlier (timed 0 (Offset 9999999999999999999 0 10000000000000000000 3)) fourth_3 fourth_lawful_4
+unfolding least_from
+fourth_may_4 = record { lawful = lawful_tested opening (events_of fourth_4) refl; few = omega arith }
 
 pub fourth_may_3 : MayHappen (timed 0 (Own 2 9999999999999999999 0 0 9999999999999999999)) fourth_2
-fourth_may_3 = record { lawful = fourth_lawful_3; few = omega arith }
-
-fourth_lawful_2 : IsLawful opening (events_of fourth_2)
-fourth_lawful_2 = earlier (timed 0 (Own 2 9999999999999999999 0 0 9999999999999999999)) fourth_2 fourth_lawful_3
+unfolding least_from
+fourth_may_3 = record { lawful = lawful_tested opening (events_of fourth_3) refl; few = omega arith }
 
 pub fourth_may_2 : MayHappen (timed 0 (Offset 999999999999999999 0 1000000000000000000 1)) fourth_1
-fourth_may_2 = record { lawful = fourth_lawful_2; few = omega arith }
-
-fourth_lawful_1 : IsLawful opening (events_of fourth_1)
-fourth_lawful_1 = earlier (timed 0 (Offset 999999999999999999 0 1000000000000000000 1)) fourth_1 fourth_lawful_2
+unfolding least_from
+fourth_may_2 = record { lawful = lawful_tested opening (events_of fourth_2) refl; few = omega arith }
 
 pub fourth_may_1 : MayHappen (timed 0 (Own 1 1000000000000000000 0 0 1000000000000000000)) []
-fourth_may_1 = record { lawful = fourth_lawful_1; few = omega arith }
+unfolding least_from
+fourth_may_1 = record { lawful = lawful_tested opening (events_of fourth_1) refl; few = omega arith }
 
 abbrev pub taken_1 : List Timed
 taken_1 = timed 0 (Own 1 3000000000 0 0 3000000000) ∷ []
@@ -334,44 +142,14 @@ taken_2 = timed 1 (Own 2 1000000000 0 0 1000000000) ∷ taken_1
 abbrev pub taken_3 : List Timed
 taken_3 = timed 2 (Own 1 0 3000000000 0 0) ∷ taken_2
 
-taken_lawful : IsLawful opening (events_of taken_3)
-unfolding least_from
-taken_lawful = (
-  record { total = omega arith; coll = omega arith },
-  record {
-    gain_is = refl;
-    paid_is = omega arith;
-    amount_is = refl;
-  },
-  (
-    record { total = omega arith; coll = omega arith },
-    record {
-      gain_is = refl;
-      paid_is = omega arith;
-      amount_is = refl;
-    },
-    (
-      record { total = omega arith; coll = omega arith },
-      record { gain_is = refl; paid_is = omega arith; amount_is = refl },
-      record {
-        total = omega arith;
-        coll = omega arith;
-      },
-    ),
-  ),
-)
-
 pub taken_may_3 : MayHappen (timed 2 (Own 1 0 3000000000 0 0)) taken_2
-taken_may_3 = record { lawful = taken_lawful; few = omega arith }
-
-taken_lawful_2 : IsLawful opening (events_of taken_2)
-taken_lawful_2 = earlier (timed 2 (Own 1 0 3000000000 0 0)) taken_2 taken_lawful
+unfolding least_from
+taken_may_3 = record { lawful = lawful_tested opening (events_of taken_3) refl; few = omega arith }
 
 pub taken_may_2 : MayHappen (timed 1 (Own 2 1000000000 0 0 1000000000)) taken_1
-taken_may_2 = record { lawful = taken_lawful_2; few = omega arith }
+unfolding least_from
+taken_may_2 = record { lawful = lawful_tested opening (events_of taken_2) refl; few = omega arith }
 
 pub taken_may_1 : MayHappen (timed 0 (Own 1 3000000000 0 0 3000000000)) []
-taken_may_1 = record {
-  lawful = earlier (timed 1 (Own 2 1000000000 0 0 1000000000)) taken_1 taken_lawful_2;
-  few = omega arith;
-}
+unfolding least_from
+taken_may_1 = record { lawful = lawful_tested opening (events_of taken_1) refl; few = omega arith }

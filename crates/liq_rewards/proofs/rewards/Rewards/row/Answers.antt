@@ -6,12 +6,12 @@ use Rattle.liq_rewards.specs.declared.sharing.Sharing.{Sharing}
 use Rattle.liq_rewards.specs.Earner.{dealt_with, reward_by, allowance_by, IsSmall}
 use Rattle.liq_rewards.specs.Timed.{Timed}
 use Rattle.liq_rewards.specs.Exact.{IsWithinAllowance}
-use Rattle.liq_rewards.specs.Kept.{Kept, earner_in, IsKeptOf, row_by, row_of}
+use Rattle.liq_rewards.specs.Kept.{Kept, IsKeptOf, row_by, row_of}
 use Rattle.liq_rewards.proofs.Along.{within_allowance}
 use Rattle.liq_rewards.proofs.Following.{due_small, product_small, row_before, row_after, row_reward, row_is}
 use Rattle.liq_rewards.proofs.Small.{served}
 use Rattle.liq_types.specs.declared.amounts.TheConstants.{LIM}
-use Rattle.liq_rewards.specs.Rows.{all_now}
+use Rattle.liq_stability.specs.declared.words.PoolWords.{PoolWords}
 use Rattle.liq_rewards.proofs.rewards.Rewards.row.Goals as goal
 
 pub of-sharing-requires-clause-units : goal.of-sharing-requires-clause-units
@@ -27,34 +27,25 @@ pub after_sharing-earner-requires-clause-small : goal.after_sharing-earner-requi
 after_sharing-earner-requires-clause-small c =
     subst IsSmall (sym c.earner.ensures) (row_before _ c.self.invariant c.args.account)
 
+-- the earner that is read: the row's, with what is due
+read_is : (words : PoolWords) {own row read : Earner} {sharing due : Option Sharing} → own ≡ row → sharing ≡ due
+    → read ≡ dealt_with own words sharing → read ≡ dealt_with row words due
+read_is words {own} {row} {read} {sharing} {due} o s r =
+    r ∙ ap (λ (e : Earner). dealt_with e words sharing) o ∙ ap (λ (d : Option Sharing). dealt_with row words d) s
+
 pub reward-requires-clause-small : goal.reward-requires-clause-small
 reward-requires-clause-small c =
-    let own : c.earner.result ≡ earner_in (all_now c.self.inside.words c.self.inside.rows) c.args.account =
-    c.earner.ensures in
-    let is = c.after_sharing-earner.ensures ∙ ap (λ (e : Earner). dealt_with e c.self.inside.words
-    c.of-sharing.result) own
-    ∙ ap (λ (o : Option Sharing). dealt_with (earner_in (all_now c.self.inside.words c.self.inside.rows)
-    c.args.account) c.self.inside.words o) c.of-sharing.ensures.sharing in
+    let is = read_is c.self.inside.words c.earner.ensures c.of-sharing.ensures.sharing c.after_sharing-earner.ensures in
     subst IsSmall (sym is) (row_after _ c.self.invariant c.args.account)
 
 pub reward-requires-clause-within : goal.reward-requires-clause-within
 reward-requires-clause-within c =
-    let own : c.earner.result ≡ earner_in (all_now c.self.inside.words c.self.inside.rows) c.args.account =
-    c.earner.ensures in
-    let is = c.after_sharing-earner.ensures ∙ ap (λ (e : Earner). dealt_with e c.self.inside.words
-    c.of-sharing.result) own
-    ∙ ap (λ (o : Option Sharing). dealt_with (earner_in (all_now c.self.inside.words c.self.inside.rows)
-    c.args.account) c.self.inside.words o) c.of-sharing.ensures.sharing in
+    let is = read_is c.self.inside.words c.earner.ensures c.of-sharing.ensures.sharing c.after_sharing-earner.ensures in
     subst (λ (e : Earner). reward_by e ≤ UNITS_MOST) (sym is) (row_reward _ c.self.invariant c.args.account)
 
 pub allowance-requires : goal.allowance-requires
 allowance-requires c =
-    let own : c.earner.result ≡ earner_in (all_now c.self.inside.words c.self.inside.rows) c.args.account =
-    c.earner.ensures in
-    let is = c.after_sharing-earner.ensures ∙ ap (λ (e : Earner). dealt_with e c.self.inside.words
-    c.of-sharing.result) own
-    ∙ ap (λ (o : Option Sharing). dealt_with (earner_in (all_now c.self.inside.words c.self.inside.rows)
-    c.args.account) c.self.inside.words o) c.of-sharing.ensures.sharing in
+    let is = read_is c.self.inside.words c.earner.ensures c.of-sharing.ensures.sharing c.after_sharing-earner.ensures in
     subst IsSmall (sym is) (row_after _ c.self.invariant c.args.account)
 
 row_told : (account reward allow : ℕ) (e : Earner) → reward ≡ reward_by e → allow ≡ allowance_by e
@@ -65,12 +56,7 @@ told : (c : goal.After-allowance) (past : List Timed) → IsKeptOf c.args.self.n
     record { account = c.args.account; reward = c.reward.result; allow = c.allowance.result }
     in one ≡ row_of c.args.account c.args.self.now.minute past
 told c past h =
-    let own : c.earner.result ≡ earner_in (all_now c.self.inside.words c.self.inside.rows) c.args.account =
-    c.earner.ensures in
-    let is = c.after_sharing-earner.ensures ∙ ap (λ (e : Earner). dealt_with e c.self.inside.words
-    c.of-sharing.result) own
-    ∙ ap (λ (o : Option Sharing). dealt_with (earner_in (all_now c.self.inside.words c.self.inside.rows)
-    c.args.account) c.self.inside.words o) c.of-sharing.ensures.sharing in
+    let is = read_is c.self.inside.words c.earner.ensures c.of-sharing.ensures.sharing c.after_sharing-earner.ensures in
     row_told c.args.account c.reward.result c.allowance.result c.after_sharing-earner.result c.reward.ensures
     c.allowance.ensures
     ∙ ap (λ (e : Earner). row_by c.args.account e) is
