@@ -31,6 +31,19 @@ pub record IsSmall (own : ℕ × ℕ) : Type 0 where
   pub least : 2000000000 ≤ own.1
   pub debt : own.1 ≤ 10 ^ 12
 
+-- the pools of two troves
+abbrev pub opened_pools : Pools
+opened_pools = record {
+  active_coll = 21100000000;
+  active_debt = 8440000000;
+  default_coll = 0;
+  default_debt = 0;
+  reserve = 400000000;
+  surplus = 0;
+  fee_coll = 0;
+  fee_lusd = 40000000;
+}
+
 -- What the call writes beside the troves, before it: nobody has anything but a depositor, and there
 -- is room.
 pub record AreOpened (wallets : WithRoom Wallet) (pools : Pools) (surplus : WithRoom ℕ)
@@ -39,17 +52,7 @@ pub record AreOpened (wallets : WithRoom Wallet) (pools : Pools) (surplus : With
   pub liquidator : HasRoom wallets 3
   pub surplus_is : surplus.rows ≡ []
   pub owner : HasRoom surplus 1
-  pub pools_are : pools ≡ record {
-    active_coll = 21100000000;
-    active_debt = 8440000000;
-    default_coll = 0;
-    default_debt = 0;
-    reserve = 400000000;
-    surplus = 0;
-    fee_coll = 0;
-    fee_lusd =
-        40000000;
-  }
+  pub pools_are : pools ≡ opened_pools
   pub coll : pool.words.coll ≡ 0
   pub scale : pool.words.scale ≡ 0
   pub epoch : pool.words.epoch ≡ 0

@@ -2,6 +2,7 @@
 
 ghost use Rattle.std.specs.Prelude.{◌≡◌, []};
 ghost use Rattle.liq_tables.specs.WithRoom.{HasRoom};
+ghost use Rattle.test_parts.specs.World.{fresh_sums};
 
 use crate::checks::{same, shows};
 use liq_troves::{Sums, Trove, Troves, entire, key};
@@ -115,13 +116,7 @@ const SUMS: Sums = Sums {
 /// The same from its start.
 fn small<R: Abort>(rt: &R, troves: &mut Troves)
     requires rows { troves.old.table.rows ≡ [] }
-    requires sums { troves.old.sums ≡ record {
-      coll = 0;
-      debt = 0;
-      stakes = 0;
-      snap_stakes = 0;
-      snap_coll = 0;
-    } }
+    requires sums { troves.old.sums ≡ fresh_sums 0 }
 {
     room(rt, troves, 1);
     troves.set(1, 8_440_000_000, 4_220_000_000);
@@ -225,13 +220,7 @@ const LEFT_SUMS: Sums = Sums {
 /// The same from its start.
 fn left<R: Abort>(rt: &R, troves: &mut Troves)
     requires rows { troves.old.table.rows ≡ [] }
-    requires sums { troves.old.sums ≡ record {
-      coll = 0;
-      debt = 0;
-      stakes = 0;
-      snap_stakes = 0;
-      snap_coll = 0;
-    } }
+    requires sums { troves.old.sums ≡ fresh_sums 0 }
 {
     room(rt, troves, 1);
     troves.set(1, 10_000_000_000, 4_220_000_000);

@@ -8,38 +8,16 @@ use Rattle.liq_types.specs.Tables.{Table, at}
 use Rattle.liq_types.specs.WellFormed.{Ascends}
 use Rattle.liq_ledger.specs.declared.pools.Pools.{Pools}
 use Rattle.liq_troves.specs.declared.sums.Sums.{Sums}
-use Rattle.liq_troves.specs.Standing.{Books, TroveStands, TrovesStand}
+use Rattle.liq_troves.specs.Standing.{TroveStands, TrovesStand}
 use Rattle.liq_stability.specs.declared.words.PoolWords.{PoolWords}
+use Rattle.liq_trove_moves.specs.Books.{books_with}
 use Rattle.liq_liquidation.specs.One.{one_by, one_in}
-use Rattle.test_parts.specs.World.{fresh, fresh_sums}
+use Rattle.test_parts.specs.World.{fresh, fresh_sums, opened_pools}
 use Rattle.test_parts.specs.declared.plans.world.TheConstants.{FIRST, SECOND}
 use Rattle.test_parts.proofs.plans.liquidated.liquidate.Goals as goal
 
 abbrev two_rows : Table Trove
 two_rows = (1, fresh FIRST) ∷ (2, fresh SECOND) ∷ []
-
-abbrev opened_pools : Pools
-opened_pools = record {
-  active_coll = 21100000000;
-  active_debt = 8440000000;
-  default_coll = 0;
-  default_debt = 0;
-  reserve = 400000000;
-  surplus = 0;
-  fee_coll = 0;
-  fee_lusd = 40000000;
-}
-
-abbrev books : Sums → Table Trove → Pools → Books
-books sums troves pools =
-    record {
-      sums = sums;
-      troves = troves;
-      active_coll = pools.active_coll;
-      active_debt = pools.active_debt;
-      default_coll = pools.default_coll;
-      default_debt = pools.default_debt;
-    }
 
 ascend : Ascends two_rows
 unfolding IsStrictlySortedBy
@@ -54,7 +32,7 @@ stand own some least = record {
   mark_debt = omega arith;
 }
 
-stands : TrovesStand (books (fresh_sums 21100000000) two_rows opened_pools)
+stands : TrovesStand (books_with (fresh_sums 21100000000) two_rows opened_pools)
 stands =
     record {
       ascend = ascend;
@@ -93,9 +71,10 @@ apply_one-requires-clause-planned g c =
     ∙ c.in-Ok.is in
     record {
       stands =
-          subst (λ (p : Pools). TrovesStand (books sums rows p)) (sym c.requires.opened.pools_are)
-          (subst (λ (t : Table Trove). TrovesStand (books sums t opened_pools)) (sym c.requires.fresh.rows_are)
-          (subst (λ (s : Sums). TrovesStand (books s two_rows opened_pools)) (sym c.requires.fresh.sums_are) stands));
+          subst (λ (p : Pools). TrovesStand (books_with sums rows p)) (sym c.requires.opened.pools_are)
+          (subst (λ (t : Table Trove). TrovesStand (books_with sums t opened_pools)) (sym c.requires.fresh.rows_are)
+          (subst (λ (s : Sums). TrovesStand (books_with s two_rows opened_pools)) (sym c.requires.fresh.sums_are)
+          stands));
       market = m;
       price = c.requires.price_least;
       counted = sym (ap (λ (t : Table Trove). length t) c.requires.fresh.rows_are);
