@@ -60,7 +60,8 @@ offset_encloses account e share debt coll total rise pos h =
       gain_lo = gained_below e.gain_lo share.gain e.balance_lo share.den share.bal coll total
           (e.balance_lo * coll / total) (div-mul-le_self (e.balance_lo * coll) total) h.balance_lo h.gain_lo;
       gain_hi = gained_above e.gain_hi share.gain e.balance_hi share.den share.bal coll total
-          (ceiling_of e.balance_hi coll total) (div_ceil_times (e.balance_hi * coll) total pos).0 h.balance_hi h.gain_hi;
+          (ceiling_of e.balance_hi coll total) (div_ceil_times (e.balance_hi * coll) total pos).0
+          h.balance_hi h.gain_hi;
     }
 
 -- ---- an own event

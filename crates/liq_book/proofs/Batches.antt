@@ -93,7 +93,8 @@ views_with base entries batches changes folds h before after b is =
       | inl last ↦ subst (λ (c : Given). (c.number ≤ length entries)
           × (seen_after (before ++ c ∷ []) ≡ view_after base entries c.number)) (sym last.1) (
             omega arith,
-            ap (λ (bs : List Given). seen_after (bs ++ record { changes = changes; number = length entries } ∷ [])) last.0
+            ap (λ (bs : List Given).
+                seen_after (bs ++ record { changes = changes; number = length entries } ∷ [])) last.0
                 ∙ one_more batches (record { changes = changes; number = length entries })
                 ∙ folds
                 ∙ ap (λ (es : List Entry). view_of (state_after base es)) (sym (take_all (length entries) entries

@@ -162,7 +162,8 @@ module _ {D : Type 0} (at : D → DiskAt) where
         let s : State = state_after base entries in
         let none : halt ≡ None = no_halt halt old.stopped b.halt going in
         let step = c.step_is going s b.state in
-        let stands : StandsFor new.core (state_after base (entries ++ e ∷ [])) = rw (state-snoc base entries e) step.0 in
+        let stands : StandsFor new.core (state_after base (entries ++ e ∷ [])) =
+        rw (state-snoc base entries e) step.0 in
         let still : new.stopped ≡ None = c.stops ∙ going in
         subst (λ (h : Option Halt). Booking new (entries ++ e ∷ []) h) (sym none) (record {
           few = omega (arith, length-append entries (e ∷ []), few);

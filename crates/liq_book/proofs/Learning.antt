@@ -109,8 +109,8 @@ learns base session calls request answer.DiskFault old new before b h = (
   (
     h.2.0,
     halted old new _ h.0 h.1 h.2.1
-        ∙ ap (λ (items : List Item). items ++ item.Halt (record { session = session; request = request; faults = h.2.0 })
-        ∷ []) b.1,
+        ∙ ap (λ (items : List Item). items
+        ++ item.Halt (record { session = session; request = request; faults = h.2.0 }) ∷ []) b.1,
   ),
 )
 learns base session calls request (answer.Stopped faults) old new before b h = rw (same_items old new h.0) (

@@ -1,7 +1,7 @@
 //! A protocol whose list is asked with the hint of a guide.
 //!
-//! The guide is the list as sorted entries (`liq_list_index`). While room is reserved for a command it
-//! is ahead of the protocol's list by just that command's changes:
+//! The guide is the list as sorted entries (`liq_list_index`). While room is reserved for a command
+//! it is ahead of the protocol's list by just that command's changes:
 //!
 //! ```text
 //! as the list is -- reserve --> ahead by a command -- apply it --> as the list is

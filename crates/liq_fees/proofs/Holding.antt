@@ -137,8 +137,8 @@ stands asset account (Fee coll lusd ∷ past) =
     let before = stands asset account past in (
       before.0,
       fee_stands (asset coll lusd) (got_of asset account past) (stake_of account past) (sum_of asset past)
-          (mark_of asset account past) (staked_of past) (den_of past) (share_of asset account past) (weight_of account past)
-          (changes_of account past) before.0 (eqb (staked_of past) 0) refl before.1,
+          (mark_of asset account past) (staked_of past) (den_of past) (share_of asset account past)
+          (weight_of account past) (changes_of account past) before.0 (eqb (staked_of past) 0) refl before.1,
     )
 
 -- ---- what is read

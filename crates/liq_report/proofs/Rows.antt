@@ -118,7 +118,8 @@ module _ {X : Type 0} where
             ap (λ b. cond b (e ∷ from key es) (from key es)) (behind key e.0 less)
             ∙ rest
             ∙ ap (λ (after : Table X). (key, x) ∷ after)
-            (sym (ap (λ b. cond b (e ∷ from (key + 1) es) (from (key + 1) es)) (behind (key + 1) e.0 (omega (arith, less)))))
+            (sym (ap (λ b. cond b (e ∷ from (key + 1) es) (from (key + 1) es))
+            (behind (key + 1) e.0 (omega (arith, less)))))
 
         apart : (k : ℕ) → is_eq (nat_cmp key k) ≡ false → k ≤ key → k < key
         apart k h le = grind (arith, nat_tests, h, le)

@@ -100,10 +100,13 @@ keys_put {X} {Y} (e ∷ es) (f ∷ fs) h key x y = by (nat_cmp key f.0) (ap (nat
       by : (o : Ordering) → nat_cmp key e.0 ≡ o → keys_of (put es key x) ≡ keys_of (put fs key y)
           → keys_of (match_ordering (nat_cmp key e.0) ((key, x) ∷ e ∷ es) ((e.0, x) ∷ es) (e ∷ put es key x))
           ≡ keys_of (match_ordering o ((key, y) ∷ f ∷ fs) ((f.0, y) ∷ fs) (f ∷ put fs key y))
-      by Less is more = ap (λ o. keys_of (match_ordering o ((key, x) ∷ e ∷ es) ((e.0, x) ∷ es) (e ∷ put es key x))) is
+      by Less is more =
+          ap (λ o. keys_of (match_ordering o ((key, x) ∷ e ∷ es) ((e.0, x) ∷ es) (e ∷ put es key x))) is
           ∙ ap (λ (ks : List ℕ). key ∷ ks) h
-      by Equal is more = ap (λ o. keys_of (match_ordering o ((key, x) ∷ e ∷ es) ((e.0, x) ∷ es) (e ∷ put es key x))) is ∙ h
-      by Greater is more = ap (λ o. keys_of (match_ordering o ((key, x) ∷ e ∷ es) ((e.0, x) ∷ es) (e ∷ put es key x))) is
+      by Equal is more =
+          ap (λ o. keys_of (match_ordering o ((key, x) ∷ e ∷ es) ((e.0, x) ∷ es) (e ∷ put es key x))) is ∙ h
+      by Greater is more =
+          ap (λ o. keys_of (match_ordering o ((key, x) ∷ e ∷ es) ((e.0, x) ∷ es) (e ∷ put es key x))) is
           ∙ ap (λ (ks : List ℕ). e.0 ∷ ks) more ∙ ap (λ k. k ∷ keys_of (put fs key y)) heads
 
 keys_from : (events : List PoolEvent) (a b : Table ℕ) → keys_of a ≡ keys_of b → keys_of (fold with_gain a events)

@@ -60,8 +60,8 @@ unfolding hits from
 hits_few asker first zero = omega arith
 hits_few asker first (suc count) = by (whose asker first) (sum_by-cons (hit asker) first (from (suc first) count))
     (hits_few asker (suc first) count) where
-      by : (hit asker first ≡ 0) ⊎ ((asker ≡ first) × (hit asker first ≡ 1)) → hits asker (first ∷ from (suc first) count)
-          ≡ hit asker first + hits asker (from (suc first) count)
+      by : (hit asker first ≡ 0) ⊎ ((asker ≡ first) × (hit asker first ≡ 1))
+          → hits asker (first ∷ from (suc first) count) ≡ hit asker first + hits asker (from (suc first) count)
           → hits asker (from (suc first) count) ≤ 1 → hits asker (first ∷ from (suc first) count) ≤ 1
       by (inl other) all later = omega arith
       by (inr same) all later = omega (
