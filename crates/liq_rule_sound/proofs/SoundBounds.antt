@@ -46,7 +46,7 @@ use Rattle.liq_rule_sound.proofs.SoundLiquidate.{served_limit}
 use Rattle.liq_rule_sound.proofs.SoundPool.{FinishedStands, DepositStands, sum_in}
 use Rattle.liq_rule_sound.proofs.SoundStart.{opening_sound}
 use Rattle.liq_rule_sound.proofs.SoundStep.{allowed_has, effect_leaves, finds, after_sound, run_sound, rotate_of}
-use Rattle.liq_rule_sound.proofs.SoundTests.{sound_facts}
+use Rattle.liq_rule_sound.proofs.SoundTests.{SoundFacts, sound_facts}
 
 -- ---- rows within their sum
 
@@ -183,15 +183,22 @@ trove_covered s h account t there =
       reserve = omega (arith, f.balanced.homes.reserve, some);
     }
 
+-- what stands of the row of a deposit
+deposit_stands : (s : State) → SoundFacts s → (account : ℕ) (d : DepositEntry) → at s.deposits account ≡ Some d
+    → DepositStands LIM ((image s).epoch, (image s).scale) (image s).sum (image s).finished (deposit_row s d)
+deposit_stands s f account d there =
+    let i = image s in
+    let row : at i.deposits account ≡ Some (deposit_row s d) = at-map (deposit_row s) s.deposits account
+    ∙ ap (λ (o : Option DepositEntry). option_map (deposit_row s) o) there in
+    all-at (DepositStands LIM (i.epoch, i.scale) i.sum i.finished) i.deposits account (deposit_row s d)
+    f.stands.pool.deposits row
+
 pub deposit_covered : (s : State) → IsSoundState s → (account : ℕ) (d : DepositEntry) → at s.deposits account ≡ Some d
     → DepositIsCovered s d
 deposit_covered s h account d there =
     let f = sound_facts s h in
     let i = image s in
-    let row : at i.deposits account ≡ Some (deposit_row s d) = at-map (deposit_row s) s.deposits account
-    ∙ ap (λ (o : Option DepositEntry). option_map (deposit_row s) o) there in
-    let stands = all-at (DepositStands LIM (i.epoch, i.scale) i.sum i.finished) i.deposits account
-    (deposit_row s d) f.stands.pool.deposits row in
+    let stands = deposit_stands s f account d there in
     let mark = mark_of s d.mark in
     let shown : sum_in (i.epoch, i.scale) i.sum i.finished (mark.epoch, mark.scale)
     ≡ sumat s.start s.offsets (mark.epoch, mark.scale) = sum_shown s.start s.offsets f.stands.formed.0 (
@@ -342,12 +349,7 @@ pub deposit_fits : (s : State) → IsSoundState s → (account : ℕ) (d : Depos
     → (d.amount * (words_of s).p ≤ P_OPENING * LIM) × ((place : EpochScale) → d.amount * sumat s.start s.offsets place
     ≤ OFFSET_MOST * P_OPENING * LIM)
 deposit_fits s h account d there =
-    let f = sound_facts s h in
-    let i = image s in
-    let row : at i.deposits account ≡ Some (deposit_row s d) = at-map (deposit_row s) s.deposits account
-    ∙ ap (λ (o : Option DepositEntry). option_map (deposit_row s) o) there in
-    let stands = all-at (DepositStands LIM (i.epoch, i.scale) i.sum i.finished) i.deposits account
-    (deposit_row s d) f.stands.pool.deposits row in
+    let stands = deposit_stands s (sound_facts s h) account d there in
     let w = words_within s h in (
       product d.amount (words_of s).p P_OPENING stands.amount w.product.most,
       λ place. product d.amount (sumat s.start s.offsets place) (OFFSET_MOST * P_OPENING) stands.amount (w.sums place),
@@ -371,9 +373,10 @@ rise_fits s range limit debt coll some less steps few =
       under : (top : ℕ) → top ≤ P_OPENING → product_after (words_of s).p (offset_now s debt coll) steps ≤ top
           → (words_of s).p * ((pool_total s - debt) * 10 ^ (9 * steps)) < (P_OPENING + 1) * LIM
       under top small low =
-          let below : (words_of s).p * ((pool_total s - debt) * 10 ^ (9 * steps)) < (top + 1) * pool_total s =
-          (div-lt_iff_lt-mul {k = pool_total s} {x = (words_of s).p * ((pool_total s - debt) * 10 ^ (9 * steps))} {y = top
-          + 1} (omega (arith, less))).0 (omega (arith, low)) in
+          let most = (words_of s).p * ((pool_total s - debt) * 10 ^ (9 * steps)) in
+          let below : most < (top + 1) * pool_total s =
+          (div-lt_iff_lt-mul {k = pool_total s} {x = most} {y = top + 1} (omega (arith, less))).0 (omega (arith, low))
+          in
           let first : (top + 1) * pool_total s ≤ (P_OPENING + 1) * pool_total s =
           mul-le-mul_right (pool_total s) (omega (arith, small)) in
           omega (arith, below, first, limit)

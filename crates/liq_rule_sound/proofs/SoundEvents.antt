@@ -250,13 +250,14 @@ lowest_follows (suc n) s f liquidator k = by (next_victim s) (found s (last_trov
           let next = liquidated s liquidator v in
           let first = victim_leaves s f liquidator k v.account v.one (strikes s f v.account v.one (known v refl)) in
           let rest = later v (finds_after s next first) in
-          let same : lowest next n ≡ lowest (struck s v) n = lowest_paid n (struck s v) next.wallets ((struck s v).reserve
-          - RESERVE) in
-          let told = subst (λ (vs : List Victim). Follows next (all_liquidated next liquidator vs) (offset_events next vs))
-          same rest in
+          let same : lowest next n ≡ lowest (struck s v) n =
+          lowest_paid n (struck s v) next.wallets ((struck s v).reserve - RESERVE) in
+          let told =
+          subst (λ (vs : List Victim). Follows next (all_liquidated next liquidator vs) (offset_events next vs)) same
+          rest in
           let list = lowest (struck s v) n in
-          let moved : offset_events next list ≡ offset_events (struck s v) list = offset_paid list (struck s v) next.wallets
-          ((struck s v).reserve - RESERVE) in
+          let moved : offset_events next list ≡ offset_events (struck s v) list =
+          offset_paid list (struck s v) next.wallets ((struck s v).reserve - RESERVE) in
           follows_then s next (all_liquidated next liquidator list) (victim_events s v.one)
           (offset_events (struck s v) list) (victim_follows s f liquidator v (known v refl))
           (subst (λ (es : List PoolEvent). Follows next (all_liquidated next liquidator list) es) moved told)

@@ -125,16 +125,25 @@ surplus_rows table account coll k h =
 
 -- ---- what stands of a state
 
+-- what stands of the rows beside the troves, told of their tables alone
+pub record RowsStand (redistributions : List Redistribution) (held : Table Wallet) (owed : Table ℕ)
+    (deposits : Table DepositEntry) (told : Table Client) : Type 0 where
+  pub spread : HadStakes redistributions
+  pub wallets : WalletRows held
+  pub surplus : SurplusRows owed
+  pub deposit_keys : KeysBelow deposits
+  pub clients : ClientRows told
+
+abbrev pub RowsOf : State → Type 0
+RowsOf s = RowsStand s.redistributions s.wallets s.surplus_rows s.deposits s.clients
+
 pub record Stands (most : ℕ) (s : State) : Type 0 where
   pub formed : IsWellFormed s
   pub troves : TrovesStand (books_of s)
   pub pool : PoolStands most (part_of (image s))
-  pub spread : HadStakes s.redistributions
-  pub wallets : WalletRows s.wallets
-  pub surplus : SurplusRows s.surplus_rows
   pub trove_keys : KeysBelow s.troves
-  pub deposit_keys : KeysBelow s.deposits
-  pub clients : ClientRows s.clients
+  pub rows : RowsOf s
+  pub open rows use *
 
 -- what is conserved, but for what the active pool is of the troves
 pub record Homes (s : State) : Type 0 where
@@ -149,15 +158,19 @@ pub record Balanced (most : ℕ) (s : State) : Type 0 where
   pub coll_limit : s.brought ≤ most
   pub debt_limit : s.active_debt + s.default_debt ≤ most
 
-pub record InRange (s : State) : Type 0 where
-  pub price_least : PRICE_LEAST ≤ s.price
-  pub price_most : s.price ≤ PRICE_MOST
-  pub minute : s.minute ≤ MINUTE_MOST
-  pub fee_minute : s.fee_minute ≤ s.minute
-  pub base : s.base ≤ ONE
-  pub first_generation : 1 ≤ s.generation
-  pub last_generation : s.generation ≤ GENERATIONS_MOST
-  pub limit : IsLimit s.limit
+-- told of the words alone, so that it stands of every state that has them
+pub record AreInRange (price now paid_at rate generation most : ℕ) : Type 0 where
+  pub price_least : PRICE_LEAST ≤ price
+  pub price_most : price ≤ PRICE_MOST
+  pub minute : now ≤ MINUTE_MOST
+  pub fee_minute : paid_at ≤ now
+  pub base : rate ≤ ONE
+  pub first_generation : 1 ≤ generation
+  pub last_generation : generation ≤ GENERATIONS_MOST
+  pub limit : IsLimit most
+
+abbrev pub InRange : State → Type 0
+InRange s = AreInRange s.price s.minute s.fee_minute s.base s.generation s.limit
 
 -- what is inside, by the state's own limit
 pub record Limited (s : State) : Type 0 where
@@ -199,23 +212,6 @@ in_order s h = (
   deposit_table k = subst (λ (keys : List ℕ). IsStrictlySortedBy nat_cmp keys)
       (keys_of-map_values (deposit_row s) s.deposits) k
 
--- a change of words alone: every row stands where it stood
-same_rows : {most : ℕ} (s t : State) → Stands most s → t.redistributions ≡ s.redistributions → t.wallets ≡ s.wallets
-    → t.surplus_rows ≡ s.surplus_rows → t.troves ≡ s.troves → t.deposits ≡ s.deposits → t.clients ≡ s.clients
-    → IsWellFormed t → TrovesStand (books_of t) → PoolStands most (part_of (image t)) → Stands most t
-same_rows s t h spread wallets surplus troves deposits clients formed books pool =
-    record {
-      formed = formed;
-      troves = books;
-      pool = pool;
-      spread = subst (λ (rs : List Redistribution). HadStakes rs) (sym spread) h.spread;
-      wallets = subst (λ (table : Table Wallet). WalletRows table) (sym wallets) h.wallets;
-      surplus = subst (λ (table : Table ℕ). SurplusRows table) (sym surplus) h.surplus;
-      trove_keys = subst (λ (table : Table TroveEntry). KeysBelow table) (sym troves) h.trove_keys;
-      deposit_keys = subst (λ (table : Table DepositEntry). KeysBelow table) (sym deposits) h.deposit_keys;
-      clients = subst (λ (table : Table Client). ClientRows table) (sym clients) h.clients;
-    }
-
 -- ---- payments
 
 -- other wallets, and another surplus of the owners
@@ -227,12 +223,8 @@ rows_stand s wallets total rows w r h =
       formed = h.formed;
       troves = h.troves;
       pool = h.pool;
-      spread = h.spread;
-      wallets = w;
-      surplus = r;
       trove_keys = h.trove_keys;
-      deposit_keys = h.deposit_keys;
-      clients = h.clients;
+      rows = record { spread = h.spread; wallets = w; surplus = r; deposit_keys = h.deposit_keys; clients = h.clients };
     }
 
 module _ {most : ℕ} (s : State) (account : ℕ) (k : account < ACCOUNTS) (h : Stands most s) where
@@ -270,46 +262,21 @@ lifted_keys : (s : State) (account : ℕ) (o : Option TroveEntry) → KeysBelow 
 lifted_keys s account None h = h
 lifted_keys s account (Some t) h = keys_without s.troves account h
 
--- what a trove that leaves does not touch
-pub record Keeps (s t : State) : Type 0 where
-  pub pool : part_of (image t) ≡ part_of (image s)
-  pub redistributions : t.redistributions ≡ s.redistributions
-  pub wallets : t.wallets ≡ s.wallets
-  pub surplus_rows : t.surplus_rows ≡ s.surplus_rows
-  pub deposits : t.deposits ≡ s.deposits
-  pub clients : t.clients ≡ s.clients
-
-lifted_keeps : (s : State) (account : ℕ) (o : Option TroveEntry) → Keeps s (lifted_entry s account o)
-lifted_keeps s account None = record {
-  pool = refl;
-  redistributions = refl;
-  wallets = refl;
-  surplus_rows = refl;
-  deposits = refl;
-  clients = refl;
-}
-lifted_keeps s account (Some t) = record {
-  pool = refl;
-  redistributions = refl;
-  wallets = refl;
-  surplus_rows = refl;
-  deposits = refl;
-  clients = refl;
-}
+-- a trove that leaves touches neither the pool nor other rows
+lifted_keeps : {most : ℕ} (s : State) (account : ℕ) (o : Option TroveEntry) → PoolStands most (part_of (image s))
+    × RowsOf s → PoolStands most (part_of (image (lifted_entry s account o))) × RowsOf (lifted_entry s account o)
+lifted_keeps s account None h = h
+lifted_keeps s account (Some t) h = h
 
 pub lifted_stands : {most : ℕ} (s : State) (account : ℕ) → Stands most s → Stands most (lifted s account)
-lifted_stands {most} s account h =
-    let k = lifted_keeps s account (at s.troves account) in
+lifted_stands s account h =
+    let kept = lifted_keeps s account (at s.troves account) (h.pool, h.rows) in
     record {
       formed = formed-lifted s account h.formed;
       troves = subst TrovesStand (sym (lift_books s account)) (lift_stands (books_of s) account h.troves);
-      pool = subst (PoolStands most) (sym k.pool) h.pool;
-      spread = subst HadStakes (sym k.redistributions) h.spread;
-      wallets = subst WalletRows (sym k.wallets) h.wallets;
-      surplus = subst SurplusRows (sym k.surplus_rows) h.surplus;
+      pool = kept.0;
       trove_keys = lifted_keys s account (at s.troves account) h.trove_keys;
-      deposit_keys = subst KeysBelow (sym k.deposits) h.deposit_keys;
-      clients = subst ClientRows (sym k.clients) h.clients;
+      rows = kept.1;
     }
 
 no_row : (s : State) (account : ℕ) → at s.troves account ≡ None → at (trove_rows s) account ≡ None
@@ -324,12 +291,8 @@ placed_stands s account coll debt k none some enough h =
       troves = subst TrovesStand (sym (place_books s account coll debt)) (place_stands (books_of s) account coll debt
           (no_row s account none) some enough h.troves);
       pool = h.pool;
-      spread = h.spread;
-      wallets = h.wallets;
-      surplus = h.surplus;
       trove_keys = keys_put s.troves account _ k h.trove_keys;
-      deposit_keys = h.deposit_keys;
-      clients = h.clients;
+      rows = h.rows;
     }
 
 all_after : (rs : List Redistribution) (r : Redistribution) → 1 ≤ r.stakes → HadStakes rs → HadStakes (rs ++ r ∷ [])
@@ -345,17 +308,25 @@ redistributed_stands s coll debt some coll_fits debt_fits h =
       troves = subst TrovesStand (sym (spread_books s coll debt h.formed.1))
           (spread_stands (books_of s) coll debt coll_fits debt_fits h.troves);
       pool = h.pool;
-      spread = all_after s.redistributions _ some h.spread;
-      wallets = h.wallets;
-      surplus = h.surplus;
       trove_keys = h.trove_keys;
-      deposit_keys = h.deposit_keys;
-      clients = h.clients;
+      rows = record {
+        spread = all_after s.redistributions _ some h.spread;
+        wallets = h.wallets;
+        surplus = h.surplus;
+        deposit_keys = h.deposit_keys;
+        clients = h.clients;
+      };
     }
 
 pub snapped_stands : {most : ℕ} (s : State) → 1 ≤ stakes_of s → Stands most s → Stands most (snapped s)
 snapped_stands s some h =
-    same_rows s (snapped s) h refl refl refl refl refl refl h.formed (snap_stands (books_of s) some h.troves) h.pool
+    record {
+      formed = h.formed;
+      troves = snap_stands (books_of s) some h.troves;
+      pool = h.pool;
+      trove_keys = h.trove_keys;
+      rows = h.rows;
+    }
 
 -- ---- the Stability Pool
 
@@ -371,21 +342,27 @@ owned_keeps {most} s account put_in out k within fits h =
       formed = formed-owned s account put_in out within h.formed;
       troves = h.troves;
       pool = owned_stands most s account put_in out fits h.pool;
-      spread = h.spread;
-      wallets = h.wallets;
-      surplus = h.surplus;
       trove_keys = h.trove_keys;
-      deposit_keys = deposit_keys_kept _ s.deposits account _ k h.deposit_keys;
-      clients = h.clients;
+      rows = record {
+        spread = h.spread;
+        wallets = h.wallets;
+        surplus = h.surplus;
+        deposit_keys = deposit_keys_kept _ s.deposits account _ k h.deposit_keys;
+        clients = h.clients;
+      };
     }
 
 pub offset_keeps : {most : ℕ} → most ≤ 10 ^ (9 * RISES_MOST) → (s : State) (debt coll : ℕ) → 1 ≤ debt
     → debt ≤ pool_total s → pool_total s ≤ most → coll ≤ OFFSET_MOST * debt → Stands most s
     → Stands most (offset s debt coll)
 offset_keeps {most} served s debt coll some within limit less h =
-    let pool = offset_stands most served s debt coll h.formed some within limit h.pool less in
-    same_rows s (offset s debt coll) h refl refl refl refl refl refl (formed-offset s debt coll within h.formed)
-    h.troves pool
+    record {
+      formed = formed-offset s debt coll within h.formed;
+      troves = h.troves;
+      pool = offset_stands most served s debt coll h.formed some within limit h.pool less;
+      trove_keys = h.trove_keys;
+      rows = h.rows;
+    }
 
 -- ---- what is conserved
 
@@ -405,49 +382,17 @@ conserved_by s h k =
 
 pub reserve_stands : {most : ℕ} (s : State) (reserve : ℕ) → Stands most s → Stands most (record s { reserve = reserve })
 reserve_stands s reserve h =
-    record {
-      formed = h.formed;
-      troves = h.troves;
-      pool = h.pool;
-      spread = h.spread;
-      wallets = h.wallets;
-      surplus = h.surplus;
-      trove_keys = h.trove_keys;
-      deposit_keys = h.deposit_keys;
-      clients = h.clients;
-    }
+    record { formed = h.formed; troves = h.troves; pool = h.pool; trove_keys = h.trove_keys; rows = h.rows }
 
 pub fees_stand : {most : ℕ} (s : State) (base fee_minute fee_coll fee_lusd : ℕ) → Stands most s
     → Stands most (record s { base = base; fee_minute = fee_minute; fee_coll = fee_coll; fee_lusd = fee_lusd })
 fees_stand s base fee_minute fee_coll fee_lusd h =
-    record {
-      formed = h.formed;
-      troves = h.troves;
-      pool = h.pool;
-      spread = h.spread;
-      wallets = h.wallets;
-      surplus = h.surplus;
-      trove_keys = h.trove_keys;
-      deposit_keys = h.deposit_keys;
-      clients = h.clients;
-    }
+    record { formed = h.formed; troves = h.troves; pool = h.pool; trove_keys = h.trove_keys; rows = h.rows }
 
 pub words_stand : {most : ℕ} (s : State) (price minute brought : ℕ) → Stands most s
     → Stands most (record s { price = price; minute = minute; brought = brought })
 words_stand s price minute brought h =
-    record {
-      formed = h.formed;
-      troves = h.troves;
-      pool = h.pool;
-      spread = h.spread;
-      wallets = h.wallets;
-      surplus = h.surplus;
-      trove_keys = h.trove_keys;
-      deposit_keys = h.deposit_keys;
-      clients = h.clients;
-    }
-
--- ---- how many rows
+    record { formed = h.formed; troves = h.troves; pool = h.pool; trove_keys = h.trove_keys; rows = h.rows }
 
 -- ---- what a verb leaves
 

@@ -12,7 +12,7 @@ use Rattle.liq_types.specs.declared.replies.Refusal.{Refusal}
 use Rattle.liq_types.specs.Payments.{surplus_added}
 use Rattle.liq_types.specs.Product.{IsWithinRange, place_of}
 use Rattle.liq_types.specs.Rules.{first_refusal}
-use Rattle.liq_types.specs.State.{State, TroveEntry}
+use Rattle.liq_types.specs.State.{State, TroveEntry, PoolOffset}
 use Rattle.liq_types.specs.Tables.{Table, at}
 use Rattle.liq_types.specs.Totals.{is_below_percent, is_at_most_whole, is_ratio_below, is_normal, market_of, pool_total, pool_coll, stakes_of, trove_count, worth, asked}
 use Rattle.liq_types.proofs.MapRows.{at-map, map-length, all-without}
@@ -34,7 +34,7 @@ use Rattle.liq_rule_sound.specs.SoundState.{IsSetSince, StruckStand, OneIsCovere
 use Rattle.liq_rule_step.specs.Liquidation.{listed, all_liquidated}
 use Rattle.liq_rule_step.proofs.Moving.{paid_coll, paid_lusd}
 use Rattle.liq_rule_sound.proofs.SoundBorrow.{HasTrove, has_trove}
-use Rattle.liq_rule_sound.proofs.SoundFacts.{Finds, Stands, InRange, Rest, Leaves, paid_stands, added_stands, lifted_stands, redistributed_stands, snapped_stands, offset_keeps, reserve_stands, key_below, surplus_sum, finds_after, leaves_itself, leaves_more, leaves_then}
+use Rattle.liq_rule_sound.proofs.SoundFacts.{Finds, Stands, Leaves, paid_stands, added_stands, lifted_stands, redistributed_stands, snapped_stands, offset_keeps, reserve_stands, key_below, surplus_sum, finds_after, leaves_itself, leaves_more, leaves_then}
 use Rattle.liq_rule_sound.proofs.SoundPool.{MovesFew, offset_moves}
 use Rattle.liq_types.proofs.Tests.{all_false, made_by}
 use Rattle.liq_types.proofs.Lookups.{length-without}
@@ -207,14 +207,10 @@ module _ (s : State) (f : Finds s) (liquidator : ℕ) (k : liquidator < ACCOUNTS
       let some = some_stake (books_of gone) (omega (arith, rows, count, x.several)) gone_stands.troves in
       some
 
-  -- the pool has taken over its part
-  pooled : Bool → State
-  pooled b = cond b gone (offset gone made.offset_debt made.offset_coll)
-
-  abbrev after : Bool → State
-  after b = rewarded
-      (surplus_added (snapped (redistributed (cond b gone (offset gone made.offset_debt made.offset_coll))
-      made.spread_coll made.spread_debt)) account made.surplus) liquidator made.gas
+  -- the rest of the liquidation, from the state in which the pool has taken over its part
+  abbrev after : State → State
+  after left = rewarded (surplus_added (snapped (redistributed left made.spread_coll made.spread_debt)) account
+      made.surplus) liquidator made.gas
 
   some_offset : (made.offset_debt == 0) ≡ false → 1 ≤ made.offset_debt
   some_offset e = grind (arith, nat_tests, e)
@@ -237,162 +233,102 @@ module _ (s : State) (f : Finds s) (liquidator : ℕ) (k : liquidator < ACCOUNTS
       paid_stands (record given { reserve = given.reserve - RESERVE }) liquidator k (reserve_stands given (given.reserve
       - RESERVE) added) made.gas RESERVE
 
-  after_stands : (b : Bool) → (made.offset_debt == 0) ≡ b → Stands LIM (after b)
-  after_stands true e =
-      let shared = redistributed_stands gone made.spread_coll made.spread_debt some_left coll_fits debt_fits gone_stands
-      in
-      rewarded_stands (snapped (redistributed gone made.spread_coll made.spread_debt))
-      (snapped_stands (redistributed gone made.spread_coll made.spread_debt) some_left shared)
-  after_stands false e =
-      let left = offset gone made.offset_debt made.offset_coll in
-      let taken = offset_keeps served_limit gone made.offset_debt made.offset_coll (some_offset e) x.parts.served
-      pool_within x.parts.worth_less gone_stands in
-      let shared = redistributed_stands left made.spread_coll made.spread_debt some_left coll_fits debt_fits taken in
-      rewarded_stands (snapped (redistributed left made.spread_coll made.spread_debt))
-      (snapped_stands (redistributed left made.spread_coll made.spread_debt) some_left shared)
+  -- the pool has taken over its part
+  record IsServed (left : State) : Type 0 where
+    stands : Stands LIM left
+    total : pool_total left ≡ pool_total s - made.offset_debt
+    coll : pool_coll left ≡ pool_coll s + made.offset_coll
+    moves : MovesFew (place_of (words_of s)) (place_of (words_of left))
 
-  same_ranges : (b : Bool) → InRange (after b)
-  same_ranges true = let r = f.ranges in record {
-    price_least = r.price_least;
-    price_most = r.price_most;
-    minute = r.minute;
-    fee_minute = r.fee_minute;
-    base = r.base;
-    first_generation = r.first_generation;
-    last_generation = r.last_generation;
-    limit = r.limit;
-  }
-  same_ranges false = let r = f.ranges in record {
-    price_least = r.price_least;
-    price_most = r.price_most;
-    minute = r.minute;
-    fee_minute = r.fee_minute;
-    base = r.base;
-    first_generation = r.first_generation;
-    last_generation = r.last_generation;
-    limit = r.limit;
-  }
-
-  after_rest : (b : Bool) → (made.offset_debt == 0) ≡ b → Rest 3 s (after b)
-  after_rest true e =
-      let c = f.balanced.homes in
-      let w = x.has.within in
-      let p = x.parts in
+  none_served : (made.offset_debt == 0) ≡ true → IsServed gone
+  none_served e =
       let none = no_offset e in
-      let nothing = p.worth_less in
-      let limit = f.limited.debt in
-      let before = surplus_added (snapped (redistributed gone made.spread_coll made.spread_debt)) account made.surplus
-      in
-      let burned = record before { reserve = before.reserve - RESERVE } in
-      let c1 = paid_coll burned liquidator made.gas RESERVE f.stands.wallets.ascend in
-      let l1 = paid_lusd burned liquidator made.gas RESERVE f.stands.wallets.ascend in
-      let rows = length-without s.troves account x.has.entry x.has.there in
-      let surplus = surplus_sum s.surplus_rows account made.surplus f.stands.surplus.ascend in
+      let nothing = x.parts.worth_less in
       record {
-        homes = record {
-          coll = omega (arith, c1, c.coll, none, nothing, p.coll_is, x.has.coll_is, w.coll, w.pending_coll);
-          lusd = omega (
-            arith,
-            l1,
-            c.lusd,
-            none,
-            p.debt_is,
-            x.has.debt_is,
-            w.debt,
-            w.pending_debt,
-            c.reserve,
-            x.several,
-          );
-          reserve = omega (arith, rows, c.reserve);
-          surplus = omega (arith, surplus, c.surplus);
-        };
-        limited = record {
-          coll = f.limited.coll;
-          debt = omega (
-            arith,
-            limit,
-            p.debt_is,
-            x.has.debt_is,
-            w.debt,
-            w.pending_debt,
-          );
-        };
-        ranges = same_ranges true;
-        scale = omega arith;
-        epoch = omega arith;
-        generation = refl;
-        records = refl;
-        clients = refl;
-        snap = λ n. omega (arith, c.coll, f.balanced.coll_limit, p.coll_is, x.has.coll_is, w.coll, w.pending_coll);
-        marks = λ n. all-without (λ (x : TroveEntry). IsSetSince x.mark) s.troves account n;
+        stands = gone_stands;
+        total = omega (arith, none);
+        coll = omega (arith, none, nothing);
+        moves = record { scale = omega arith; epoch = omega arith };
       }
-  after_rest false e =
+
+  some_served : (made.offset_debt == 0) ≡ false → IsServed (offset gone made.offset_debt made.offset_coll)
+  some_served e = record {
+    stands = offset_keeps served_limit gone made.offset_debt made.offset_coll (some_offset e) x.parts.served pool_within
+        x.parts.worth_less gone_stands;
+    total = offset-total gone made.offset_debt made.offset_coll;
+    coll = offset-coll gone gone_stands.formed.3 made.offset_debt made.offset_coll;
+    moves = offset_moves LIM served_limit gone made.offset_debt made.offset_coll gone_stands.formed (some_offset e)
+        x.parts.served pool_within gone_stands.pool;
+  }
+
+  -- a pool that took over something differs in its offsets alone
+  leaves_after : (offsets : List PoolOffset) → IsServed (record gone { offsets = offsets })
+      → Leaves 3 s (after (record gone { offsets = offsets }))
+  leaves_after offsets served =
+      let left = record gone { offsets = offsets } in
       let c = f.balanced.homes in
       let w = x.has.within in
       let p = x.parts in
       let limit = f.limited.debt in
-      let left = offset gone made.offset_debt made.offset_coll in
-      let before = surplus_added (snapped (redistributed left made.spread_coll made.spread_debt)) account made.surplus
-      in
+      let total = served.total in
+      let coll = served.coll in
+      let moves = served.moves in
+      let shared = redistributed_stands left made.spread_coll made.spread_debt some_left coll_fits debt_fits
+      served.stands in
+      let counted = snapped (redistributed left made.spread_coll made.spread_debt) in
+      let before = surplus_added counted account made.surplus in
       let burned = record before { reserve = before.reserve - RESERVE } in
       let c1 = paid_coll burned liquidator made.gas RESERVE f.stands.wallets.ascend in
       let l1 = paid_lusd burned liquidator made.gas RESERVE f.stands.wallets.ascend in
       let rows = length-without s.troves account x.has.entry x.has.there in
       let surplus = surplus_sum s.surplus_rows account made.surplus f.stands.surplus.ascend in
-      let total : pool_total left ≡ pool_total s - made.offset_debt =
-      offset-total gone made.offset_debt made.offset_coll in
-      let coll : pool_coll left ≡ pool_coll s + made.offset_coll =
-      offset-coll gone gone_stands.formed.3 made.offset_debt made.offset_coll in
-      let moves : MovesFew (place_of (words_of s)) (place_of (words_of left)) =
-      offset_moves LIM served_limit gone made.offset_debt made.offset_coll gone_stands.formed (some_offset e) p.served
-      pool_within gone_stands.pool in
       record {
-        homes = record {
-          coll = omega (arith, c1, c.coll, coll, p.coll_is, x.has.coll_is, w.coll, w.pending_coll);
-          lusd = omega (
-            arith,
-            l1,
-            c.lusd,
-            total,
-            p.served,
-            p.debt_is,
-            x.has.debt_is,
-            w.debt,
-            w.pending_debt,
-            c.reserve,
-            x.several,
-          );
-          reserve = omega (arith, rows, c.reserve);
-          surplus = omega (arith, surplus, c.surplus);
+        stands = rewarded_stands counted
+            (snapped_stands (redistributed left made.spread_coll made.spread_debt) some_left shared);
+        rest = record {
+          homes = record {
+            coll = omega (arith, c1, c.coll, coll, p.coll_is, x.has.coll_is, w.coll, w.pending_coll);
+            lusd = omega (
+              arith,
+              l1,
+              c.lusd,
+              total,
+              p.served,
+              p.debt_is,
+              x.has.debt_is,
+              w.debt,
+              w.pending_debt,
+              c.reserve,
+              x.several,
+            );
+            reserve = omega (arith, rows, c.reserve);
+            surplus = omega (arith, surplus, c.surplus);
+          };
+          limited = record {
+            coll = f.limited.coll;
+            debt = omega (arith, limit, p.debt_is, x.has.debt_is, w.debt, w.pending_debt);
+          };
+          ranges = f.ranges;
+          scale = omega (arith, moves.scale);
+          epoch = omega (arith, moves.epoch);
+          generation = refl;
+          records = refl;
+          clients = refl;
+          snap = λ n. omega (arith, c.coll, f.balanced.coll_limit, p.coll_is, x.has.coll_is, w.coll, w.pending_coll);
+          marks = λ n. all-without (λ (x : TroveEntry). IsSetSince x.mark) s.troves account n;
         };
-        limited = record {
-          coll = f.limited.coll;
-          debt = omega (
-            arith,
-            limit,
-            p.debt_is,
-            x.has.debt_is,
-            w.debt,
-            w.pending_debt,
-          );
-        };
-        ranges = same_ranges false;
-        scale = omega (arith, moves.scale);
-        epoch = omega (arith, moves.epoch);
-        generation = refl;
-        records = refl;
-        clients = refl;
-        snap = λ n. omega (arith, c.coll, f.balanced.coll_limit, p.coll_is, x.has.coll_is, w.coll, w.pending_coll);
-        marks = λ n. all-without (λ (x : TroveEntry). IsSetSince x.mark) s.troves account n;
       }
+
+  leaves_by : (b : Bool) → (made.offset_debt == 0) ≡ b
+      → Leaves 3 s (after (cond b gone (offset gone made.offset_debt made.offset_coll)))
+  leaves_by true e = leaves_after gone.offsets (none_served e)
+  leaves_by false e = leaves_after (offset gone made.offset_debt made.offset_coll).offsets (some_served e)
 
   pub victim_leaves : Leaves 3 s (liquidated s liquidator victim)
   victim_leaves =
       subst (λ (o : Option TroveEntry). Leaves 3 s
-      (rewarded (surplus_added (snapped (redistributed (offset_if_any (lifted_entry s account o) made.offset_debt
-      made.offset_coll) made.spread_coll made.spread_debt)) account made.surplus) liquidator made.gas))
-      (sym x.has.there)
-      (record { stands = after_stands (made.offset_debt == 0) refl; rest = after_rest (made.offset_debt == 0) refl })
+      (after (offset_if_any (lifted_entry s account o) made.offset_debt made.offset_coll))) (sym x.has.there)
+      (leaves_by (made.offset_debt == 0) refl)
 
 -- ---- one trove
 
@@ -458,7 +394,8 @@ lowest_leaves (suc n) s f liquidator k = by (next_victim s) (found s (last_trove
       by : (next : Option Victim) → ((v : Victim) → next ≡ Some v → one s v.account ≡ Ok v.one)
           → ((v : Victim) → Finds (liquidated s liquidator v)
           → Leaves (3 * n) (liquidated s liquidator v) (all_liquidated (liquidated s liquidator v) liquidator
-          (lowest (liquidated s liquidator v) n))) → Leaves (3 * suc n) s (all_liquidated s liquidator (lowest_by n s next))
+          (lowest (liquidated s liquidator v) n)))
+          → Leaves (3 * suc n) s (all_liquidated s liquidator (lowest_by n s next))
       by None known later = leaves_more 0 (3 * suc n) s s (omega arith) (leaves_itself s f)
       by (Some v) known later =
           let first = victim_leaves s f liquidator k v.account v.one (strikes s f v.account v.one (known v refl)) in
@@ -517,8 +454,8 @@ lowest_stand (suc n) s f = by (next_victim s) (found s (last_trove s)) (λ v h. 
           let next = liquidated s 0 v in
           let first = victim_leaves s f 0 (omega arith) v.account v.one (strikes s f v.account v.one (known v refl)) in
           let rest = later v (finds_after s next first) in
-          let same : lowest next n ≡ lowest (struck s v) n = lowest_paid n (struck s v) next.wallets ((struck s v).reserve
-          - RESERVE) in
+          let same : lowest next n ≡ lowest (struck s v) n =
+          lowest_paid n (struck s v) next.wallets ((struck s v).reserve - RESERVE) in
           let told = subst (λ (vs : List Victim). StruckStand next vs) same rest in (
             known v refl,
             first.stands.troves,

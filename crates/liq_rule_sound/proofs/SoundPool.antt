@@ -156,15 +156,11 @@ owned_part s account put_in out =
     entry = record { amount = amount_after s account put_in out; mark = After (length s.offsets) }
 
     mapped : (b : Bool)
-        → map_rows (deposit_row s) (cond b (without s.deposits account) (put s.deposits account
-        (record { amount = amount_after s account put_in out; mark = After (length s.offsets) })))
-        ≡ cond b (without (map_rows (deposit_row s) s.deposits) account) (put (map_rows (deposit_row s) s.deposits)
-        account (deposit_row s (record { amount = amount_after s account put_in out; mark = After (length s.offsets) })))
+        → map_rows (deposit_row s) (cond b (without s.deposits account) (put s.deposits account entry))
+        ≡ cond b (without (map_rows (deposit_row s) s.deposits) account)
+        (put (map_rows (deposit_row s) s.deposits) account (deposit_row s entry))
     mapped true = map-without (deposit_row s) s.deposits account
-    mapped false = map-put (deposit_row s) s.deposits account (record {
-      amount = amount_after s account put_in out;
-      mark = After (length s.offsets);
-    })
+    mapped false = map-put (deposit_row s) s.deposits account entry
 
 pub owned_stands : (most : ℕ) (s : State) (account put_in out : ℕ) → amount_after s account put_in out ≤ most
     → PoolStands most (part_of (image s)) → PoolStands most (part_of (image (owned s account put_in out)))

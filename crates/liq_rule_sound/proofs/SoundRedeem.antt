@@ -54,7 +54,7 @@ pub record IsVisit (t : State) (price : ℕ) (v : Visit) : Type 0 where
 abbrev pub IsOther : ℕ → ℕ → Type 0
 IsOther a b = is_eq (nat_cmp a b) ≡ false
 
--- each is the trove of its account, and no account comes twice
+-- each visit is of its account's trove, and no account is visited twice
 abbrev pub AreVisits : State → ℕ → List Visit → Type 0
 AreVisits t price [] = Unit {0}
 AreVisits t price (v ∷ vs) = IsVisit t price v × AllByRecursion (λ (w : Visit). IsOther v.account w.account) vs
@@ -91,7 +91,8 @@ module _ (s : State) (price : ℕ) where
   visits_are (a ∷ others) h = by (entire_of s a) refl (visits_are others h.1) where
     test : (own : ℕ × ℕ) → entire_of s a ≡ Some own → (b : Bool)
         → is_visited price (record { account = a; coll = own.0; debt = own.1 }) ≡ b → AreVisits s price (visits others)
-        → AreVisits s price (cond b (record { account = a; coll = own.0; debt = own.1 } ∷ visits others) (visits others))
+        → AreVisits s price
+        (cond b (record { account = a; coll = own.0; debt = own.1 } ∷ visits others) (visits others))
     test own e true f later = (
       record { entire_is = e; above = not_false _ f },
       visits_all (λ b. IsOther a b) others h.0,
@@ -393,9 +394,10 @@ module _ (s : State) (price : ℕ) (price_some : 1 ≤ price) where
             → Cutting s made (coll + (cut_of price v wanted).draw) (lusd + (cut_of price v wanted).lot)
             → AreVisits made price vs
             → Cutting s (fold cut_down made (cuts price (trove_count made) (wanted - (cut_of price v wanted).lot) vs))
-            (coll + (cut_of price v wanted).draw + drawn (cuts price (trove_count made) (wanted - (cut_of price v wanted).lot)
-            vs)) (lusd + (cut_of price v wanted).lot + redeemed (cuts price (trove_count made)
-            (wanted - (cut_of price v wanted).lot) vs)))
+            (coll + (cut_of price v wanted).draw
+            + drawn (cuts price (trove_count made) (wanted - (cut_of price v wanted).lot) vs))
+            (lusd + (cut_of price v wanted).lot
+            + redeemed (cuts price (trove_count made) (wanted - (cut_of price v wanted).lot) vs)))
             → Cutting s (fold cut_down t (goes_on t wanted v vs done stops))
             (coll + drawn (goes_on t wanted v vs done stops)) (lusd + redeemed (goes_on t wanted v vs done stops))
         by true stops e later = cutting_as s t coll lusd (coll + 0) (lusd + 0) (omega arith) (omega arith) c
@@ -410,7 +412,8 @@ module _ (s : State) (price : ℕ) (price_some : 1 ≤ price) where
             (wanted - (cut_of price v wanted).lot) vs in
             let draws = sum_by-cons (λ (x : Cut). x.draw) (cut_of price v wanted) list in
             let lots = sum_by-cons (λ (x : Cut). x.lot) (cut_of price v wanted) list in
-            let told = subst (λ n. Cutting s (fold cut_down made (cuts price n (wanted - (cut_of price v wanted).lot) vs))
+            let told = subst (λ n. Cutting s
+            (fold cut_down made (cuts price n (wanted - (cut_of price v wanted).lot) vs))
             (coll + (cut_of price v wanted).draw + drawn (cuts price n (wanted - (cut_of price v wanted).lot) vs))
             (lusd + (cut_of price v wanted).lot + redeemed (cuts price n (wanted - (cut_of price v wanted).lot) vs)))
             one.1.count rest in
@@ -530,7 +533,8 @@ module _ (s : State) (f : Finds s) where
             → AllByRecursion (CutIsCovered s) (cuts s.price (troves_after (cut_of s.price v wanted) troves)
             (wanted - (cut_of s.price v wanted).lot) vs)
             → AllByRecursion (CutIsCovered s) (cond done [] (cond stops [] (cut_of s.price v wanted
-            ∷ cuts s.price (troves_after (cut_of s.price v wanted) troves) (wanted - (cut_of s.price v wanted).lot) vs)))
+            ∷ cuts s.price (troves_after (cut_of s.price v wanted) troves)
+            (wanted - (cut_of s.price v wanted).lot) vs)))
         by true stops later = tt
         by false true later = tt
         by false false later = (covered, later)

@@ -198,22 +198,23 @@ noted_facts : (s t : State) (c : Command) (records : ℕ) → Finds t → c.clie
 noted_facts s t c records f client number few scale epoch =
     let h = f.stands in
     let k = f.balanced.homes in
-    let r = f.ranges in
     let row : Client = record { last = c.number; kept = done_of s c.call } in
     record {
       stands = record {
         formed = h.formed;
         troves = h.troves;
         pool = h.pool;
-        spread = h.spread;
-        wallets = h.wallets;
-        surplus = h.surplus;
         trove_keys = h.trove_keys;
-        deposit_keys = h.deposit_keys;
-        clients = record {
-          ascend = put-ascends t.clients c.client row h.clients.ascend;
-          keys = keys_put t.clients c.client row client h.clients.keys;
-          stand = all-put ClientStands t.clients c.client row (client_stands s c number) h.clients.stand;
+        rows = record {
+          spread = h.spread;
+          wallets = h.wallets;
+          surplus = h.surplus;
+          deposit_keys = h.deposit_keys;
+          clients = record {
+            ascend = put-ascends t.clients c.client row h.clients.ascend;
+            keys = keys_put t.clients c.client row client h.clients.keys;
+            stand = all-put ClientStands t.clients c.client row (client_stands s c number) h.clients.stand;
+          };
         };
       };
       balanced = record {
@@ -222,17 +223,7 @@ noted_facts s t c records f client number few scale epoch =
         debt_limit = f.balanced.debt_limit;
       };
       limited = record { coll = f.limited.coll; debt = f.limited.debt };
-      ranges = record {
-        price_least = r.price_least;
-        price_most = r.price_most;
-        minute = r.minute;
-        fee_minute = r.fee_minute;
-        base = r.base;
-        first_generation = r.first_generation;
-        last_generation =
-            r.last_generation;
-        limit = r.limit;
-      };
+      ranges = f.ranges;
       records = few;
       scale = scale;
       epoch = epoch;
@@ -257,12 +248,8 @@ rotated s h room =
         formed = g.formed;
         troves = g.troves;
         pool = g.pool;
-        spread = g.spread;
-        wallets = g.wallets;
-        surplus = g.surplus;
         trove_keys = g.trove_keys;
-        deposit_keys = g.deposit_keys;
-        clients = g.clients;
+        rows = g.rows;
       };
       balanced = record {
         homes = record { coll = k.coll; lusd = k.lusd; reserve = k.reserve; surplus = k.surplus };

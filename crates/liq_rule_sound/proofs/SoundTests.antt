@@ -288,25 +288,27 @@ module _ (s : State) (f : IsSoundState s) where
         formed = f.formed;
         troves = troves_facts;
         pool = (words_parts p.words).0;
-        spread = f.spread;
-        wallets = record {
-          ascend = f.sound.tables.wallets;
-          keys = keys_pass s.wallets first.0;
-          used = rows_have (λ (w : Wallet). is_used_wallet w ≡ true) s.wallets f.sound.tables.used_wallets;
-        };
-        surplus = record {
-          ascend = f.sound.tables.surplus;
-          keys = keys_pass s.surplus_rows surplus.1;
-          some = rows_have (λ n. 1 ≤ n) s.surplus_rows f.sound.tables.some_surplus;
-        };
         trove_keys = subst (λ (keys : List ℕ). AllByRecursion (λ key. key < ACCOUNTS) keys) (keys_of-map_values
             (trove_row s) s.troves) (keys_pass (image s).troves first.1);
-        deposit_keys = subst (λ (keys : List ℕ). AllByRecursion (λ key. key < ACCOUNTS) keys) (keys_of-map_values
-            (deposit_row s) s.deposits) (keys_pass (image s).deposits deposits.1);
-        clients = record {
-          ascend = f.sound.tables.clients;
-          keys = keys_pass s.clients clients.1;
-          stand = clients_true s.clients f.sound.tables.client_rows p.clients;
+        rows = record {
+          spread = f.spread;
+          wallets = record {
+            ascend = f.sound.tables.wallets;
+            keys = keys_pass s.wallets first.0;
+            used = rows_have (λ (w : Wallet). is_used_wallet w ≡ true) s.wallets f.sound.tables.used_wallets;
+          };
+          surplus = record {
+            ascend = f.sound.tables.surplus;
+            keys = keys_pass s.surplus_rows surplus.1;
+            some = rows_have (λ n. 1 ≤ n) s.surplus_rows f.sound.tables.some_surplus;
+          };
+          deposit_keys = subst (λ (keys : List ℕ). AllByRecursion (λ key. key < ACCOUNTS) keys) (keys_of-map_values
+              (deposit_row s) s.deposits) (keys_pass (image s).deposits deposits.1);
+          clients = record {
+            ascend = f.sound.tables.clients;
+            keys = keys_pass s.clients clients.1;
+            stand = clients_true s.clients f.sound.tables.client_rows p.clients;
+          };
         };
       }
 

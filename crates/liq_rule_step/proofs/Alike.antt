@@ -83,16 +83,16 @@ place i account coll debt =
       mark_debt = i.sum_debt;
     }))
 
+-- the row of a trove that is placed
+abbrev pub placed_entry : State → ℕ → ℕ → TroveEntry
+placed_entry s coll debt =
+    record { coll = coll; debt = debt; stake = stake_for s coll; mark = After (length s.redistributions) }
+
 pub place-image : (s : State) (account coll debt : ℕ) → image (placed s account coll debt)
     ≡ place (image s) account coll debt
 unfolding place with_troves stake_by
 place-image s account coll debt =
-    let entry : TroveEntry = record {
-      coll = coll;
-      debt = debt;
-      stake = stake_for s coll;
-      mark = After (length s.redistributions);
-    } in
+    let entry = placed_entry s coll debt in
     let left = image (placed s account coll debt) in
     ap (λ n. record left { stakes = n }) (stakes_shown s (put s.troves account entry))
     ∙ ap (λ (rows : Table Trove). record left {

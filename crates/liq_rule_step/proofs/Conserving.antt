@@ -1,10 +1,11 @@
 -- What is conserved by the verbs that touch no trove.
-use Rattle.std.proofs.Common.{◌≡◌, ℕ, ◌-◌, ◌≤◌, true, false, [], ◌∷◌, refl, arith, Some, None, Option, nat_lt}
+use Rattle.std.proofs.Common.{◌≡◌, ℕ, ◌+◌, ◌-◌, ◌≤◌, true, false, [], ◌∷◌, refl, arith, Some, None, Option, nat_lt}
 use Rattle.std.specs.Prelude.{unwrap_or, option_map, min, ◌==◌}
 use Rattle.std.specs.BTreeMap.{is_at}
 use Rattle.std.specs.Ordering.{nat_cmp}
 use Rattle.std.proofs.lemmas.Bool.Decides.{nat_tests}
 use Rattle.std.proofs.lemmas.Map.Entries.{sum_by-remove_entry}
+use Rattle.liq_types.specs.declared.amounts.TheConstants.{LIM}
 use Rattle.liq_types.specs.declared.replies.Refusal.TheVariants.{AmountZero, ShortTokens}
 use Rattle.liq_types.specs.declared.requests.Call.{Call}
 use Rattle.liq_types.specs.declared.requests.Call.TheVariants.{Price, Advance, Fund, Take, Send, Provide, Withdraw, Claim, Rotate}
@@ -154,24 +155,24 @@ tokens_enough s account lusd h =
     ) h in
     grind (arith, nat_tests, enough)
 
+-- words that no sum reads
+words_conserve : (s : State) (price minute generation limit : ℕ) → IsConserved s
+    → IsConserved (record s { price = price; minute = minute; generation = generation; limit = limit })
+words_conserve s price minute generation limit h =
+    record {
+      coll = h.coll;
+      lusd = h.lusd;
+      reserve = h.reserve;
+      active_coll = h.active_coll;
+      active_debt = h.active_debt;
+      surplus = h.surplus;
+    }
+
 pub call_conserves : (s : State) (call : Call) → touches_no_trove call ≡ true → IsWellFormed s → TablesAscend s
     → first_refusal (rules s call) ≡ None → IsConserved s → IsConserved (effect s call)
-call_conserves s (Price price) k w t r h = record {
-  coll = h.coll;
-  lusd = h.lusd;
-  reserve = h.reserve;
-  active_coll = h.active_coll;
-  active_debt = h.active_debt;
-  surplus = h.surplus;
-}
-call_conserves s (Advance minutes) k w t r h = record {
-  coll = h.coll;
-  lusd = h.lusd;
-  reserve = h.reserve;
-  active_coll = h.active_coll;
-  active_debt = h.active_debt;
-  surplus = h.surplus;
-}
+call_conserves s (Price price) k w t r h = words_conserve s price s.minute s.generation s.limit h
+call_conserves s (Advance minutes) k w t r h =
+    words_conserve s s.price (s.minute + minutes) s.generation s.limit h
 call_conserves s (Fund account coll) k w t r h = fund_conserves s account coll t h
 call_conserves s (Take account coll) k w t r h = take_conserves s account coll (take_enough s account coll r) t h
 call_conserves s (Send from to lusd) k w t r h = send_conserves s from to lusd (tokens_enough s from lusd r) t h
@@ -179,12 +180,5 @@ call_conserves s (Provide account lusd) k w t r h =
     provide_conserves s account lusd (tokens_enough s account lusd r) w t h
 call_conserves s (Withdraw account lusd) k w t r h = withdraw_conserves s account lusd w t h
 call_conserves s (Claim account) k w t r h = claim_conserves s account t h
-call_conserves s Rotate k w t r h = record {
-  coll = h.coll;
-  lusd = h.lusd;
-  reserve = h.reserve;
-  active_coll = h.active_coll;
-  active_debt = h.active_debt;
-  surplus = h.surplus;
-}
+call_conserves s Rotate k w t r h = words_conserve s s.price s.minute (s.generation + 1) LIM h
 call_conserves s _ k w t r h = cc

@@ -1,6 +1,6 @@
 -- What is conserved when a trove opens.
 use Rattle.std.proofs.Common.{◌≡◌, ℕ, ◌+◌, ◌-◌, ◌≤◌, false, List, [], ◌∷◌, refl, ap, ◌∙◌, arith, None, Option, nat_lt}
-use Rattle.std.specs.Prelude.{length, is_some, unwrap_or, sum_by}
+use Rattle.std.specs.Prelude.{is_some, unwrap_or, sum_by}
 use Rattle.std.specs.Map.{values_of}
 use Rattle.std.proofs.lemmas.Bool.Decides.{nat_tests}
 use Rattle.liq_types.specs.declared.amounts.TheConstants.{MIN_NET}
@@ -11,11 +11,11 @@ use Rattle.liq_types.specs.State.{State, After, TroveEntry, wallet_of}
 use Rattle.liq_types.specs.Tables.{Table, at, put}
 use Rattle.liq_types.specs.Totals.{market_of}
 use Rattle.liq_rate.specs.Bound.{fee_bound, fee_over}
-use Rattle.liq_troves.specs.Own.{stake_for}
 use Rattle.liq_borrow.specs.Borrowing.{opening_terms, open_debt, open_rules, least_bound, least_ratio, ratio_low, system_ratio_low}
 use Rattle.liq_rule_step.specs.Borrowing.{opened, with_fee}
 use Rattle.liq_rule_step.specs.Identities.{IsConserved}
 use Rattle.liq_types.specs.WellFormed.{Ascends, TablesAscend}
+use Rattle.liq_rule_step.proofs.Alike.{placed_entry}
 use Rattle.liq_rule_step.proofs.Allowed.{none_first}
 use Rattle.liq_types.proofs.Ascending.{wallet-ascends}
 use Rattle.liq_rule_step.proofs.Moving.{paid_coll, paid_lusd, charged_coll, charged_lusd}
@@ -58,12 +58,7 @@ open_conserves s account coll borrow none enough t h =
       lusd = (wallet_of s account).lusd - 0;
     }) t.0 in
     let debt = open_debt (market_of s) borrow in
-    let entry : TroveEntry = record {
-      coll = coll;
-      debt = debt;
-      stake = stake_for s coll;
-      mark = After (length s.redistributions);
-    } in
+    let entry = placed_entry s coll debt in
     let c1 = charged_coll feed account coll 0 t.0 enough in
     let l1 = charged_lusd feed account coll 0 t.0 (omega arith) in
     let c2 = paid_coll mid account 0 borrow ordered in
