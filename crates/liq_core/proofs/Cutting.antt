@@ -56,7 +56,8 @@ cuts_apart s price (v ∷ vs) troves wanted h = by (wanted == 0) (stops_before v
     (wanted - (cut_of price v wanted).lot) h.2) where
       by : (done stops : Bool) → AllByRecursion (λ (c : Cut). IsOther v.account c.account)
           (cuts price (troves_after (cut_of price v wanted) troves) (wanted - (cut_of price v wanted).lot) vs)
-          → AreApart (cuts price (troves_after (cut_of price v wanted) troves) (wanted - (cut_of price v wanted).lot) vs)
+          → AreApart
+          (cuts price (troves_after (cut_of price v wanted) troves) (wanted - (cut_of price v wanted).lot) vs)
           → AreApart (cond done [] (cond stops [] (cut_of price v wanted
           ∷ cuts price (troves_after (cut_of price v wanted) troves) (wanted - (cut_of price v wanted).lot) vs)))
       by true stops others later = tt

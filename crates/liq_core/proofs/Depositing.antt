@@ -1,6 +1,6 @@
 -- What depositors' operations, and claims, make of a protocol.
 use Rattle.std.proofs.Common.{◌≡◌, ℕ, ◌+◌, ◌-◌, ◌≤◌, ◌<◌, List, refl, ap, sym, ◌∙◌, subst, arith, false, cond, None, Some}
-use Rattle.std.specs.Prelude.{is_none, min, IsSome, Result, Ok, Err}
+use Rattle.std.specs.Prelude.{is_none, min, IfOk, IsSome, Result, Ok, Err}
 use Rattle.liq_types.specs.declared.amounts.TheConstants.{ACCOUNTS, LIM, RESERVE, MIN_NET}
 use Rattle.liq_types.specs.declared.figures.Deposit.{Deposit}
 use Rattle.liq_types.specs.declared.figures.Trove.{Trove}
@@ -41,6 +41,7 @@ use Rattle.liq_rule_step.specs.Rules.{rules, effect}
 use Rattle.liq_core.specs.Sound.{IsSound, core_of}
 use Rattle.liq_rule_step.proofs.AlikeReads.{none-map}
 use Rattle.liq_core.specs.Parts.{words_by}
+use Rattle.liq_core.proofs.Answered.{if_value}
 use Rattle.liq_core.proofs.Images.{with_pool}
 use Rattle.liq_core.proofs.Lending.{IsWithin, within, with_books, same_others, set_image, books_are, rows_are, there_row, pay_within, charged-ascends}
 use Rattle.liq_rule_sound.proofs.SoundBorrow.{gain_allows, gain_leaves, has_trove, told}
@@ -279,27 +280,30 @@ module _ (p : Inside) (old : Core) (view : core_of p ≡ old) (sound : IsSound p
     withdraw_answer = withdrawn p sound account lusd (all_false (rules (state_of (core_of p)) (Withdraw account lusd))
         withdraw_passes).0
 
-    module _ (paid gain : ℕ) (answered : withdrawing p.pool account lusd ≡ Ok (paid, gain)) where
-      withdraw_paid : paid ≡ min lusd (balance_of (state_of (core_of p)) account)
-      withdraw_paid = ap (λ (r : Result (ℕ × ℕ) Refusal). (paid_by r).0) (sym answered ∙ withdraw_answer)
+    -- what is paid of its LUSD, and of its gain
+    module _ (answer : Result (ℕ × ℕ) Refusal) (paid : ℕ × ℕ) (ok : answer ≡ Ok paid) (answered : answer
+        ≡ withdrawing p.pool account lusd) where
+      withdraw_paid : paid.0 ≡ min lusd (balance_of (state_of (core_of p)) account)
+      withdraw_paid = ap (λ (r : Result (ℕ × ℕ) Refusal). (paid_by r).0) (sym ok ∙ answered ∙ withdraw_answer)
 
-      withdraw_gain : gain ≡ gain_of (state_of (core_of p)) account
-      withdraw_gain = ap (λ (r : Result (ℕ × ℕ) Refusal). (paid_by r).1) (sym answered ∙ withdraw_answer)
+      withdraw_gain : paid.1 ≡ gain_of (state_of (core_of p)) account
+      withdraw_gain = ap (λ (r : Result (ℕ × ℕ) Refusal). (paid_by r).1) (sym ok ∙ answered ∙ withdraw_answer)
 
-      pub withdraws_so : MayWithdraw p account paid gain
-      withdraws_so = may_withdraw p sound account lusd paid gain k withdraw_passes withdraw_paid withdraw_gain
+      pub withdraws_so : MayWithdraw p account paid.0 paid.1
+      withdraws_so = may_withdraw p sound account lusd paid.0 paid.1 k withdraw_passes withdraw_paid withdraw_gain
 
       module _ (pool : Kept) (wallets : WithRoom Wallet)
-          (words : pool.words ≡ words_owned p.pool.words 0 paid gain) (finished : pool.finished ≡ p.pool.finished)
-          (rows : pool.deposits.rows ≡ left_in p.pool.deposits.rows p.pool.words account ((position_at p.pool account).0
-          - paid))
-          (moved : wallets.rows ≡ credited_in p.wallets.rows account gain paid) where
+          (words : IfOk answer (λ (out : ℕ × ℕ). pool.words ≡ words_owned p.pool.words 0 out.0 out.1))
+          (finished : pool.finished ≡ p.pool.finished)
+          (rows : IfOk answer (λ (out : ℕ × ℕ). pool.deposits.rows
+          ≡ left_in p.pool.deposits.rows p.pool.words account ((position_at p.pool account).0 - out.0)))
+          (moved : wallets.rows ≡ credited_in p.wallets.rows account paid.1 paid.0) where
         withdraw_made : Changes (core_of p) (Withdraw account lusd) (core_of (record p {
           pool = pool;
           wallets = wallets;
         }))
-        withdraw_made = withdrawn_changes p sound account lusd paid gain k withdraw_passes withdraw_paid withdraw_gain
-            pool wallets words finished rows moved
+        withdraw_made = withdrawn_changes p sound account lusd paid.0 paid.1 k withdraw_passes withdraw_paid
+            withdraw_gain pool wallets (if_value _ answer paid ok words) finished (if_value _ answer paid ok rows) moved
 
         pub withdraw_changes : Changes old (Withdraw account lusd) (core_of (record p {
           pool = pool;
@@ -311,7 +315,8 @@ module _ (p : Inside) (old : Core) (view : core_of p ≡ old) (sound : IsSound p
         pub withdraw_sound : IsSound (record p { pool = pool; wallets = wallets })
         withdraw_sound =
             sound_after p (record p { pool = pool; wallets = wallets }) (core_of p) (Withdraw account lusd) refl sound
-            (withdraw_left p sound account lusd paid gain k withdraw_passes withdraw_paid withdraw_gain) withdraw_made
+            (withdraw_left p sound account lusd paid.0 paid.1 k withdraw_passes withdraw_paid withdraw_gain)
+            withdraw_made
             sound.order
 
 -- ---- a gain that moves into the trove

@@ -42,6 +42,7 @@ use Rattle.liq_rule_step.specs.Borrowing.{with_fee, opened, adjusted, closed}
 use Rattle.liq_core.specs.Core.{Core, Changes, state_of}
 use Rattle.liq_rule_step.specs.Image.{image}
 use Rattle.liq_rule_step.specs.Rules.{rules, effect}
+use Rattle.liq_core.specs.Held.{AreHeld}
 use Rattle.liq_core.specs.Sound.{IsSound, core_of}
 use Rattle.liq_rule_step.proofs.Moving.{read_or, wallet_here}
 use Rattle.liq_rule_sound.proofs.SoundBorrow.{open_allows, open_leaves, adjust_allows_own, adjust_leaves, close_leaves, has_trove, told}
@@ -139,6 +140,11 @@ charged-ascends wallets account coll lusd h =
 
 -- ---- the books of a protocol
 
+-- a protocol with another base rate, other wallets, pools, troves and another list
+abbrev changed : Inside → Rate → WithRoom Wallet → Pools → Kept → Listed → Inside
+changed p rate wallets pools troves order =
+    record p { rate = rate; wallets = wallets; pools = pools; troves = troves; order = order }
+
 module _ (p : Inside) (sound : IsSound p) where
   pub books_are : books_of (state_of (core_of p)) ≡ books_kept p.troves p.pools
   books_are = ap books_by (image_back (core_of p) sound.image)
@@ -154,6 +160,11 @@ module _ (p : Inside) (sound : IsSound p) where
   pub debt_held : p.pools.active_debt + p.pools.default_debt ≤ LIM
   debt_held = (core_finds (core_of p) sound.image).balanced.debt_limit
 
+  -- what a change of a trove asks of it, whatever its fees and its reserve then are
+  pub is_held : (fee_lusd reserve : ℕ)
+      → AreHeld (record p.pools { fee_lusd = fee_lusd; reserve = reserve }) p.troves p.order
+  is_held fee_lusd reserve = record { stand = books_stand; list = sound.order; coll = coll_held; debt = debt_held }
+
   pub rows_are : trove_rows (state_of (core_of p)) ≡ p.troves.table.rows
   rows_are = ap (λ (i : Image). i.troves) (image_back (core_of p) sound.image)
 
@@ -163,13 +174,7 @@ module _ (p : Inside) (sound : IsSound p) where
       → wallets.rows ≡ paid → books_kept troves pools ≡ b → SameOthers old_pools pools
       → image (effect (state_of (core_of p)) call) ≡ with_parts (image (state_of (core_of p))) rate old_pools.reserve
       old_pools.surplus old_pools.fee_coll old_pools.fee_lusd paid b
-      → Changes (core_of p) call (core_of (record p {
-        rate = rate;
-        wallets = wallets;
-        pools = pools;
-        troves = troves;
-        order = order;
-      }))
+      → Changes (core_of p) call (core_of (changed p rate wallets pools troves order))
   changed_into call rate wallets pools old_pools troves order b paid paid_is kept others is =
       let i = (core_of p).image in
       record {
@@ -250,13 +255,8 @@ module _ (p : Inside) (sound : IsSound p) (account borrow bound : ℕ) (words : 
         reserve = p.pools.reserve
             + RESERVE;
       }) pools
-      → Changes (core_of p) (Open account plan.coll borrow bound words) (core_of (record p {
-        rate = plan.rate;
-        wallets = wallets;
-        pools = pools;
-        troves = troves;
-        order = order;
-      }))
+      → Changes (core_of p) (Open account plan.coll borrow bound words)
+      (core_of (changed p plan.rate wallets pools troves order))
   opened_changes wallets pools troves order paid kept others =
       let s = state_of (core_of p) in
       let lent = credited (charged (with_fee s plan) account plan.coll 0) account 0 borrow in
@@ -293,31 +293,20 @@ module _ (p : Inside) (old : Core) (view : core_of p ≡ old) (sound : IsSound p
             + RESERVE;
       }) pools) where
     pub open_changes : (bound : ℕ) (words : HintWords)
-        → Changes old (Open account plan.coll borrow bound words) (core_of (record p {
-          rate = plan.rate;
-          wallets = wallets;
-          pools = pools;
-          troves = troves;
-          order = order;
-        }))
+        → Changes old (Open account plan.coll borrow bound words)
+        (core_of (changed p plan.rate wallets pools troves order))
     open_changes bound words =
         subst (λ (core : Core). Changes core (Open account plan.coll borrow bound words)
-        (core_of (record p {
-          rate = plan.rate;
-          wallets = wallets;
-          pools = pools;
-          troves = troves;
-          order = order;
-        }))) view
+        (core_of (changed p plan.rate wallets pools troves order))) view
         (let made = opened_changes p sound account borrow h.0 h.1 plan k open_is open_passes wallets pools troves order
         paid kept others in
         record { image = made.image; records = made.records; clients = made.clients })
 
     pub open_sound : order.entries ≡ order_by troves.table.rows
-        → IsSound (record p { rate = plan.rate; wallets = wallets; pools = pools; troves = troves; order = order })
+        → IsSound (changed p plan.rate wallets pools troves order)
     open_sound listed =
-        sound_after p (record p { rate = plan.rate; wallets = wallets; pools = pools; troves = troves; order = order })
-        (core_of p) (Open account plan.coll borrow h.0 h.1) refl sound
+        sound_after p (changed p plan.rate wallets pools troves order) (core_of p)
+        (Open account plan.coll borrow h.0 h.1) refl sound
         (open_left p sound account borrow h.0 h.1 plan k open_is open_passes)
         (opened_changes p sound account borrow h.0 h.1 plan k open_is open_passes wallets pools troves order paid kept
         others) listed
@@ -426,7 +415,7 @@ module _ (p : Inside) (sound : IsSound p) (account : ℕ) (change : Change) (bou
       → books_kept troves pools ≡ place (lift (books_kept p.troves p.pools) account) account plan.coll plan.debt
       → SameOthers (record p.pools { fee_lusd = p.pools.fee_lusd + plan.fee }) pools
       → Changes (core_of p) (Adjust account change.coll_in change.coll_out change.borrow change.repay bound words)
-      (core_of (record p { rate = plan.rate; wallets = wallets; pools = pools; troves = troves; order = order }))
+      (core_of (changed p plan.rate wallets pools troves order))
   adjusted_changes wallets pools troves order words paid kept others =
       let s = state_of (core_of p) in
       changed_into p sound (Adjust account change.coll_in change.coll_out change.borrow change.repay bound words)
@@ -497,12 +486,7 @@ module _ (p : Inside) (sound : IsSound p) (account repaid coll : ℕ) (k : accou
       → wallets.rows ≡ credited_in (charged_in p.wallets.rows account 0 repaid) account coll 0
       → books_kept troves pools ≡ lift (books_kept p.troves p.pools) account
       → SameOthers (record p.pools { reserve = p.pools.reserve - RESERVE }) pools
-      → Changes (core_of p) (Close account) (core_of (record p {
-        wallets = wallets;
-        pools = pools;
-        troves = troves;
-        order = order;
-      }))
+      → Changes (core_of p) (Close account) (core_of (changed p p.rate wallets pools troves order))
   closed_changes wallets pools troves order paid kept others =
       changed_into p sound (Close account) p.rate wallets pools (record p.pools { reserve = p.pools.reserve - RESERVE })
       troves order
@@ -526,7 +510,8 @@ module _ (p : Inside) (old : Core) (view : core_of p ≡ old) (sound : IsSound p
     adjust_passes : first_refusal (adjust_rules (market_of (state_of (core_of p)))
         (wallet_of (state_of (core_of p)) account) (entire_of (state_of (core_of p)) account) account change h.0) ≡ None
     adjust_passes = subst (λ (core : Core). first_refusal (adjust_rules (market_of (state_of core))
-        (wallet_of (state_of core) account) (entire_of (state_of core) account) account change h.0) ≡ None) (sym view) h.2
+        (wallet_of (state_of core) account) (entire_of (state_of core) account) account change h.0) ≡ None) (sym view)
+        h.2
 
     pub adjusts_so : MayAdjust p account change plan
     adjusts_so = may_adjust p sound account change h.0 plan k adjust_is adjust_passes
@@ -538,36 +523,24 @@ module _ (p : Inside) (old : Core) (view : core_of p ≡ old) (sound : IsSound p
         plan.debt)
         (others : SameOthers (record p.pools { fee_lusd = p.pools.fee_lusd + plan.fee }) pools) where
       adjust_made : Changes (core_of p) (Adjust account change.coll_in change.coll_out change.borrow change.repay h.0
-          h.1) (core_of (record p { rate = plan.rate; wallets = wallets; pools = pools; troves = troves; order = order }))
+          h.1) (core_of (changed p plan.rate wallets pools troves order))
       adjust_made =
           adjusted_changes p sound account change h.0 plan k adjust_is adjust_passes wallets pools troves order h.1 paid
           kept others
 
       pub adjust_changes : (bound : ℕ) (words : HintWords)
           → Changes old (Adjust account change.coll_in change.coll_out change.borrow change.repay bound words)
-          (core_of (record p { rate = plan.rate; wallets = wallets; pools = pools; troves = troves; order = order }))
+          (core_of (changed p plan.rate wallets pools troves order))
       adjust_changes bound words =
           subst (λ (core : Core). Changes core (Adjust account change.coll_in change.coll_out change.borrow change.repay
-          bound words) (core_of (record p {
-            rate = plan.rate;
-            wallets = wallets;
-            pools = pools;
-            troves = troves;
-            order = order;
-          }))) view
+          bound words) (core_of (changed p plan.rate wallets pools troves order))) view
           (record { image = adjust_made.image; records = adjust_made.records; clients = adjust_made.clients })
 
       pub adjust_sound : order.entries ≡ order_by troves.table.rows
-          → IsSound (record p { rate = plan.rate; wallets = wallets; pools = pools; troves = troves; order = order })
+          → IsSound (changed p plan.rate wallets pools troves order)
       adjust_sound listed =
-          sound_after p (record p {
-            rate = plan.rate;
-            wallets = wallets;
-            pools = pools;
-            troves = troves;
-            order = order;
-          }) (core_of p) (Adjust account change.coll_in change.coll_out change.borrow change.repay h.0
-          h.1) refl sound
+          sound_after p (changed p plan.rate wallets pools troves order) (core_of p)
+          (Adjust account change.coll_in change.coll_out change.borrow change.repay h.0 h.1) refl sound
           (adjust_left p sound account change h.0 plan k adjust_is adjust_passes) adjust_made listed
 
   module _ (repaid coll : ℕ) (is : (repaid, coll) ≡ closing_terms (or_nothing (entire_of (state_of old) account)))
@@ -587,34 +560,19 @@ module _ (p : Inside) (old : Core) (view : core_of p ≡ old) (sound : IsSound p
         (paid : wallets.rows ≡ credited_in (charged_in p.wallets.rows account 0 repaid) account coll 0)
         (kept : books_kept troves pools ≡ lift (books_kept p.troves p.pools) account)
         (others : SameOthers (record p.pools { reserve = p.pools.reserve - RESERVE }) pools) where
-      close_made : Changes (core_of p) (Close account) (core_of (record p {
-        wallets = wallets;
-        pools = pools;
-        troves = troves;
-        order = order;
-      }))
+      close_made : Changes (core_of p) (Close account) (core_of (changed p p.rate wallets pools troves order))
       close_made = closed_changes p sound account repaid coll k close_is close_passes wallets pools troves order paid
           kept others
 
-      pub close_changes : Changes old (Close account) (core_of (record p {
-        wallets = wallets;
-        pools = pools;
-        troves = troves;
-        order = order;
-      }))
+      pub close_changes : Changes old (Close account) (core_of (changed p p.rate wallets pools troves order))
       close_changes =
-          subst (λ (core : Core). Changes core (Close account) (core_of (record p {
-            wallets = wallets;
-            pools = pools;
-            troves = troves;
-            order = order;
-          }))) view close_made
+          subst (λ (core : Core). Changes core (Close account) (core_of (changed p p.rate wallets pools troves order)))
+          view close_made
 
       pub close_sound : order.entries ≡ order_by troves.table.rows
-          → IsSound (record p { wallets = wallets; pools = pools; troves = troves; order = order })
+          → IsSound (changed p p.rate wallets pools troves order)
       close_sound listed =
-          sound_after p (record p { wallets = wallets; pools = pools; troves = troves; order = order }) (core_of p)
-          (Close account) refl sound
+          sound_after p (changed p p.rate wallets pools troves order) (core_of p) (Close account) refl sound
           (close_left p sound account repaid coll k close_is close_passes) close_made listed
 
 -- ---- between the two halves of an adjustment

@@ -288,14 +288,42 @@ module _ (p : Inside) (sound : IsSound p) (command : Command) (done : Done) (liq
       ∙ ap (λ (u : State). u.records + 1) q.is
       ∙ ap (λ n. n + 1) (all-records vs begin liquidator)
 
-  pub counted_stands : (old : Core) → core_of p ≡ old
+  counted_stands : (old : Core) → core_of p ≡ old
       → StandsFor (core_of (counted p wallets pools surplus kept order pool clients)) (after (state_of old) command)
   counted_stands = made_stands p (counted p wallets pools surplus kept order pool clients) sound command q.allowed
       next_image next_records
 
-  pub counted_sound : IsSound (counted p wallets pools surplus kept order pool clients)
+  counted_sound : IsSound (counted p wallets pools surplus kept order pool clients)
   counted_sound =
       made_sound p (counted p wallets pools surplus kept order pool clients) sound command q.allowed next_image
       next_records
       (kept_listed (all_liquidated (state_of (core_of p)) liquidator vs) (core_of p).image wallets pools surplus kept
       order pool h)
+
+-- the same of the core that a protocol is seen as, from what striking the troves does to each state
+module _ (p : Inside) (old : Core) (view : core_of p ≡ old) (sound : IsSound p) (command : Command) (done : Done)
+    (liquidator : ℕ) (vs : List Victim) (q : IsAsked old command done liquidator vs)
+    (wallets : WithRoom Wallet) (pools : Pools) (surplus : WithRoom ℕ) (kept : troves.Kept) (order : Listed)
+    (pool : stability.Kept) (clients : WithRoom Client)
+    (strikes : (s : State) → IsSoundState s → AreVictims s liquidator vs
+    → AreKept s p.wallets p.pools p.surplus p.troves p.order p.pool
+    → AreKept (all_liquidated s liquidator vs) wallets pools surplus kept order pool)
+    (wrote : clients.rows ≡ written is_used_client p.clients.rows command.client (record {
+      last = command.number;
+      kept = done;
+    })) where
+  is_asked : IsAsked (core_of p) command done liquidator vs
+  is_asked = subst (λ (core : Core). IsAsked core command done liquidator vs) (sym view) q
+
+  is_struck : AreKept (all_liquidated (state_of (core_of p)) liquidator vs) wallets pools surplus kept order pool
+  is_struck = strikes (state_of (core_of p)) (started_with (core_of p).image p.records sound.image) is_asked.victims
+      (begun p sound)
+
+  pub liquidated_stands : StandsFor (core_of (counted p wallets pools surplus kept order pool clients))
+      (after (state_of old) command)
+  liquidated_stands = counted_stands p sound command done liquidator vs is_asked wallets pools surplus kept order pool
+      clients is_struck wrote old view
+
+  pub liquidated_sound : IsSound (counted p wallets pools surplus kept order pool clients)
+  liquidated_sound = counted_sound p sound command done liquidator vs is_asked wallets pools surplus kept order pool
+      clients is_struck wrote

@@ -53,8 +53,9 @@ owned_within s f account own e =
     let had = read_or (λ (w : Wallet). w.coll) refl (at s.wallets account) in
     by own e (omega (arith, part, had))
   where
-    by : (o : Option (ℕ × ℕ)) → entire_of s account ≡ o → (wallet_of s account).coll ≤ sum_by (λ (w : Wallet). w.coll)
-        (values_of s.wallets) → ((or_nothing o).0 + (wallet_of s account).coll ≤ LIM) × ((or_nothing o).1 ≤ total_debt s)
+    by : (o : Option (ℕ × ℕ)) → entire_of s account ≡ o
+        → (wallet_of s account).coll ≤ sum_by (λ (w : Wallet). w.coll) (values_of s.wallets)
+        → ((or_nothing o).0 + (wallet_of s account).coll ≤ LIM) × ((or_nothing o).1 ≤ total_debt s)
     by None there within =
         let homes = f.balanced.homes.coll in
         let limit = f.balanced.coll_limit in

@@ -294,14 +294,18 @@ module _ (p : Inside) (old : Core) (view : core_of p ≡ old) (sound : IsSound p
       (paid : wallets.rows ≡ redeemed_wallets p.wallets.rows account plan)
       (made : parts_of pools surplus troves order ≡ redeemed_parts (parts_of p.pools p.surplus p.troves p.order)
       plan) where
-    redeem_made : Changes (core_of p) (Redeem account h.0 h.1 h.2) (core_of (record p {
+    -- the inside after it
+    abbrev paid_out : Inside
+    paid_out = record p {
       rate = plan.rate;
       wallets = wallets;
       pools = pools;
       surplus = surplus;
       troves = troves;
       order = order;
-    }))
+    }
+
+    redeem_made : Changes (core_of p) (Redeem account h.0 h.1 h.2) (core_of paid_out)
     redeem_made =
         let s = state_of (core_of p) in
         let next = redeemed_by s account plan in
@@ -337,24 +341,10 @@ module _ (p : Inside) (old : Core) (view : core_of p ≡ old) (sound : IsSound p
 
     pub redeem_changes : (lusd bound : ℕ) (words : HintWords)
         → plan ≡ redeeming_terms (market_of (state_of old)) (visited (state_of old)) lusd
-        → Changes old (Redeem account lusd bound words) (core_of (record p {
-          rate = plan.rate;
-          wallets = wallets;
-          pools = pools;
-          surplus = surplus;
-          troves = troves;
-          order = order;
-        }))
+        → Changes old (Redeem account lusd bound words) (core_of paid_out)
     redeem_changes lusd bound words is =
-        let now = subst (λ (core : Core). Changes core (Redeem account h.0 h.1 h.2)
-        (core_of (record p {
-          rate = plan.rate;
-          wallets = wallets;
-          pools = pools;
-          surplus = surplus;
-          troves = troves;
-          order = order;
-        }))) view redeem_made in
+        let now =
+        subst (λ (core : Core). Changes core (Redeem account h.0 h.1 h.2) (core_of paid_out)) view redeem_made in
         record {
           image = now.image ∙ ap (λ (x : RedeemTerms). image (redeemed_by (state_of old) account x)) (sym h.4
               ∙ is);
@@ -369,22 +359,8 @@ module _ (p : Inside) (old : Core) (view : core_of p ≡ old) (sound : IsSound p
         let cut = cuts_listed plan.cuts q (record { ascend = (books_stand p sound).ascend; listed = sound.order }) in
         ap (λ (x : Parts). x.order) made ∙ cut.listed ∙ ap (λ (x : Parts). order_by x.troves) (sym made)
 
-    pub redeem_sound : IsSound (record p {
-      rate = plan.rate;
-      wallets = wallets;
-      pools = pools;
-      surplus = surplus;
-      troves = troves;
-      order = order;
-    })
+    pub redeem_sound : IsSound paid_out
     redeem_sound =
-        sound_after p (record p {
-          rate = plan.rate;
-          wallets = wallets;
-          pools = pools;
-          surplus = surplus;
-          troves = troves;
-          order = order;
-        }) (core_of p) (Redeem account h.0 h.1 h.2) refl sound
+        sound_after p paid_out (core_of p) (Redeem account h.0 h.1 h.2) refl sound
         (redeem_leaves (state_of (core_of p)) (core_finds (core_of p) sound.image) account h.0 h.1 redeem_passes k)
         redeem_made redeem_listed

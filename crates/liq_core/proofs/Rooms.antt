@@ -2,6 +2,7 @@
 use Rattle.std.proofs.Common.{◌≡◌, ℕ, zero, suc, ◌<◌, ◌≤◌, Bool, true, false, cond, List, [], ◌∷◌, length, refl, sym, subst, arith}
 use Rattle.std.specs.Prelude.{IsTrue, OnOk, Result, Ok, Err, filter, map, slice_index_or}
 use Rattle.std.specs.List.{AllByRecursion, Contains}
+use Rattle.liq_types.specs.declared.figures.Wallet.{Wallet}
 use Rattle.liq_tables.specs.WithRoom.{KeepsRoom, WithRoom}
 use Rattle.liq_liquidation.specs.declared.one.Victim.{Victim}
 use Rattle.liq_redemption.specs.declared.cut.Cut.{Cut}
@@ -123,6 +124,12 @@ room_kept old p q view wallets troves surplus deposits clients list finished =
       list = list;
       finished = finished;
     })
+
+-- more room in the wallets alone
+pub wallets_kept : (old : Core) (p : Inside) (wallets : WithRoom Wallet) → core_of p ≡ old
+    → KeepsRoom p.wallets wallets → IsWithin old.room (core_of (record p { wallets = wallets })).room
+wallets_kept old p wallets view kept = room_kept old p (record p { wallets = wallets }) view kept (λ _ h. h) (λ _ h. h)
+    (λ _ h. h) (λ _ h. h) (omega arith) (omega arith)
 
 -- with a client's, and without it
 pub with_client : (needed room : Room) (client : ℕ) → IsWithin needed room → Contains room.clients client

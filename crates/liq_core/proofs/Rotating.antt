@@ -232,9 +232,32 @@ module _ (p : Inside) (sound : IsSound p) (c : Command) (done : Done) (is : c.ca
   next_records : (after (state_of (core_of p)) c).records ≡ next.records
   next_records = turned_records (state_of (core_of p)) c is ∙ sym (ap (λ (g : Generation). g.records) follows)
 
-  pub turned_stands : (old : Core) → core_of p ≡ old
+  turned_stands : (old : Core) → core_of p ≡ old
       → StandsFor (core_of (turned_inside p next clients)) (after (state_of old) c)
   turned_stands = made_stands p (turned_inside p next clients) sound c allowed next_image next_records
 
-  pub turned_sound : IsSound (turned_inside p next clients)
+  turned_sound : IsSound (turned_inside p next clients)
   turned_sound = made_sound p (turned_inside p next clients) sound c allowed next_image next_records sound.order
+
+-- the same of the core that a protocol is seen as
+module _ (p : Inside) (old : Core) (view : core_of p ≡ old) (sound : IsSound p) (c : Command) (done : Done) (is : c.call
+    ≡ Rotate) (allowed : ruling (state_of old) c ≡ Allowed) (made : done ≡ done_of (state_of old) c.call)
+    (next : Generation) (follows : next ≡ next_generation (current old)) (clients : WithRoom Client)
+    (wrote : clients.rows ≡ written is_used_client p.clients.rows c.client (record {
+      last = c.number;
+      kept = done;
+    })) where
+  is_allowed : ruling (state_of (core_of p)) c ≡ Allowed
+  is_allowed = subst (λ (core : Core). ruling (state_of core) c ≡ Allowed) (sym view) allowed
+
+  is_made : done ≡ done_of (state_of (core_of p)) c.call
+  is_made = subst (λ (core : Core). done ≡ done_of (state_of core) c.call) (sym view) made
+
+  is_next : next ≡ next_generation (current (core_of p))
+  is_next = follows ∙ sym (ap (λ (core : Core). next_generation (current core)) view)
+
+  pub rotation_stands : StandsFor (core_of (turned_inside p next clients)) (after (state_of old) c)
+  rotation_stands = turned_stands p sound c done is is_allowed is_made next is_next clients wrote old view
+
+  pub rotation_sound : IsSound (turned_inside p next clients)
+  rotation_sound = turned_sound p sound c done is is_allowed is_made next is_next clients wrote

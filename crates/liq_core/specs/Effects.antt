@@ -25,7 +25,8 @@ use Rattle.liq_core.specs.declared.effects.Victims.TheVariants as victims
 
 -- ---- the calls of an effect
 
--- of a call that makes the move in the state this is so, and what the move plans is the state's
+-- some call makes this move in the state and `Is` holds of it; what the move plans is what the
+-- state has
 abbrev pub IsMadeBy : State → Move → (Call → Type 0) → Type 0
 IsMadeBy s (moves.Price price) Is = Is (calls.Price price)
 IsMadeBy s (moves.Advance minutes) Is = Is (calls.Advance minutes)

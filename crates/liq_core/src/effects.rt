@@ -1,4 +1,5 @@
-//! What planned commands do: every test is passed, and all that is written is worked out.
+//! What planned commands do. Of an effect every test is passed, and it has what planning worked
+//! out.
 
 ghost use Rattle.std.specs.Prelude.{◌≡◌};
 ghost use Rattle.liq_core.specs.Effects.{victims_in};

@@ -32,6 +32,7 @@ use Rattle.liq_core.proofs.KeptReplies.{kept_reply}
 use Rattle.liq_core.proofs.Liquidating.{IsLiquidation, liquidation_planned}
 use Rattle.liq_core.proofs.Stands.{changed_stands, stepped_stands}
 use Rattle.liq_core.proofs.SoundCores.{sound_stands}
+use Rattle.liq_core.proofs.engine.Protocol.apply.Given.{Over}
 use Rattle.liq_core.proofs.engine.Protocol.apply.Goals as goal
 use Rattle.liq_core.proofs.engine.Protocol.apply.Goals.{in-Move, in-Liquidate, in-Rotate}
 
@@ -54,25 +55,35 @@ room_inside : (old : Core) (inside : Inside) (plan : Plan) → plan_of inside.co
     → HasRoom old plan → HasRoom old (plan_of inside.command inside.forecast)
 room_inside old inside plan view room = subst (λ (p : Plan). HasRoom old p) (sym view) room
 
+-- the call makes the move, before it is made and after
+may_move : (g : Over) (c : goal.After-change-arg-in-Move-1 g)
+    → IsMove (state_of c.args.self.now) c.planned.inside.command.call c.in-Move.moved
+may_move g c =
+    let sound = subst (λ (core : Core). IsSoundImage core.image core.records) c.self.view_is c.self.invariant.image in
+    made_inside c.args.self.now sound c.planned.inside c.args.planned c.planned.view_is c.requires.planned
+    c.in-Move.moved c.in-Move.is
+
+has_moved : (g : Over) (c : goal.After-command-in-Move-1 g)
+    → IsMove (state_of c.args.self.now) c.planned.inside.command.call c.in-Move.moved
+has_moved g c =
+    let sound = subst (λ (core : Core). IsSoundImage core.image core.records) c.self.view_is c.self.invariant.image in
+    made_inside c.args.self.now sound c.planned.inside c.args.planned c.planned.view_is c.requires.planned
+    c.in-Move.moved c.in-Move.is
+
 pub change-requires-clause-allowed : goal.change-requires-clause-allowed
 change-requires-clause-allowed g c =
     let sound = subst (λ (core : Core). IsSoundImage core.image core.records) c.self.view_is c.self.invariant.image in
     let s = state_of c.args.self.now in
     let inside = c.planned.inside in
     let plan = plan_inside c.args.self.now sound inside c.args.planned c.planned.view_is c.requires.planned in
-    let made = made_inside c.args.self.now sound inside c.args.planned c.planned.view_is c.requires.planned
-    c.in-Move.moved c.in-Move.is in
-    made_so s inside.command.call c.in-Move.moved made (λ (k : Call). first_refusal (rules s k) ≡ None)
+    made_so s inside.command.call c.in-Move.moved (may_move g c) (λ (k : Call). first_refusal (rules s k) ≡ None)
     (allowed_rules s inside.command plan.allowed)
 
 pub change-requires-clause-range : goal.change-requires-clause-range
 change-requires-clause-range g c =
-    let sound = subst (λ (core : Core). IsSoundImage core.image core.records) c.self.view_is c.self.invariant.image in
-    let call = c.planned.inside.command.call in
-    let made = made_inside c.args.self.now sound c.planned.inside c.args.planned c.planned.view_is c.requires.planned
-    c.in-Move.moved c.in-Move.is in
     subst (λ (keys : List ℕ). AllByRecursion (λ account. account < ACCOUNTS) keys)
-    (move_makes (state_of c.args.self.now) call c.in-Move.moved made).names c.planned.invariant.accounts
+    (move_makes (state_of c.args.self.now) c.planned.inside.command.call c.in-Move.moved (may_move g c)).names
+    c.planned.invariant.accounts
 
 pub change-requires-clause-room : goal.change-requires-clause-room
 change-requires-clause-room g c =
@@ -84,19 +95,13 @@ change-requires-clause-room g c =
 
 pub note-requires-clause-stays : goal.note-requires-clause-stays
 note-requires-clause-stays g c =
-    let sound = subst (λ (core : Core). IsSoundImage core.image core.records) c.self.view_is c.self.invariant.image in
-    let made = made_inside c.args.self.now sound c.planned.inside c.args.planned c.planned.view_is c.requires.planned
-    c.in-Move.moved c.in-Move.is in
-    (move_makes (state_of c.args.self.now) c.planned.inside.command.call c.in-Move.moved made).stays
+    (move_makes (state_of c.args.self.now) c.planned.inside.command.call c.in-Move.moved (has_moved g c)).stays
 
 pub note-requires-clause-row : goal.note-requires-clause-row
 note-requires-clause-row g c =
-    let sound = subst (λ (core : Core). IsSoundImage core.image core.records) c.self.view_is c.self.invariant.image in
     let inside = c.planned.inside in
-    let made = made_inside c.args.self.now sound inside c.args.planned c.planned.view_is c.requires.planned
-    c.in-Move.moved c.in-Move.is in
     subst (λ keys. Contains keys inside.command.client)
-    (sym (c.change.ensures.made inside.command.call made).clients)
+    (sym (c.change.ensures.made inside.command.call (has_moved g c)).clients)
     (room_inside c.args.self.now inside c.args.planned c.planned.view_is c.requires.room).clients.0
 
 pub note-requires-clause-range : goal.note-requires-clause-range
@@ -116,8 +121,7 @@ note-requires-clause-few g c =
     let s = state_of c.args.self.now in
     let inside = c.planned.inside in
     let plan = plan_inside c.args.self.now sound inside c.args.planned c.planned.view_is c.requires.planned in
-    let made = made_inside c.args.self.now sound inside c.args.planned c.planned.view_is c.requires.planned
-    c.in-Move.moved c.in-Move.is in
+    let made = has_moved g c in
     let few = allowed_few s inside.command plan.allowed (move_makes s inside.command.call c.in-Move.moved made).stays in
     let same = (c.change.ensures.made inside.command.call made).records in
     omega (arith, few, same)
@@ -146,68 +150,40 @@ liquidation old sound inside plan view planned fit room liquidator struck is vs 
     (liquidation_planned old sound its (subst (λ (p : Plan). IsPlannedOn old p) (sym view) planned) fit
     (subst (λ (p : Plan). HasRoom old p) (sym view) room) liquidator struck is)
 
-pub apply_liquidate-requires-clause-allowed : goal.apply_liquidate-requires-clause-allowed
-apply_liquidate-requires-clause-allowed g c =
+its_liquidation : (g : Over) (c : goal.After-as_slice g) → IsLiquidation c.args.self.now c.planned.inside.command
+    c.planned.inside.forecast.done c.in-Liquidate.liquidator c.as_slice.result.now
+its_liquidation g c =
     let sound = subst (λ (core : Core). IsSoundImage core.image core.records) c.self.view_is c.self.invariant.image in
-    (liquidation c.args.self.now sound c.planned.inside c.args.planned c.planned.view_is c.requires.planned
+    liquidation c.args.self.now sound c.planned.inside c.args.planned c.planned.view_is c.requires.planned
     c.planned.invariant c.requires.room c.in-Liquidate.liquidator c.in-Liquidate.victims
-    c.in-Liquidate.is c.as_slice.result.now c.as_slice.ensures).allowed
+    c.in-Liquidate.is c.as_slice.result.now c.as_slice.ensures
+
+pub apply_liquidate-requires-clause-allowed : goal.apply_liquidate-requires-clause-allowed
+apply_liquidate-requires-clause-allowed g c = (its_liquidation g c).allowed
 
 pub apply_liquidate-requires-clause-done : goal.apply_liquidate-requires-clause-done
-apply_liquidate-requires-clause-done g c =
-    let sound = subst (λ (core : Core). IsSoundImage core.image core.records) c.self.view_is c.self.invariant.image in
-    (liquidation c.args.self.now sound c.planned.inside c.args.planned c.planned.view_is c.requires.planned
-    c.planned.invariant c.requires.room c.in-Liquidate.liquidator c.in-Liquidate.victims
-    c.in-Liquidate.is c.as_slice.result.now c.as_slice.ensures).done_is
+apply_liquidate-requires-clause-done g c = (its_liquidation g c).done_is
 
 pub apply_liquidate-requires-clause-stays : goal.apply_liquidate-requires-clause-stays
-apply_liquidate-requires-clause-stays g c =
-    let sound = subst (λ (core : Core). IsSoundImage core.image core.records) c.self.view_is c.self.invariant.image in
-    (liquidation c.args.self.now sound c.planned.inside c.args.planned c.planned.view_is c.requires.planned
-    c.planned.invariant c.requires.room c.in-Liquidate.liquidator c.in-Liquidate.victims
-    c.in-Liquidate.is c.as_slice.result.now c.as_slice.ensures).strike.stays
+apply_liquidate-requires-clause-stays g c = (its_liquidation g c).strike.stays
 
 pub apply_liquidate-requires-clause-range : goal.apply_liquidate-requires-clause-range
-apply_liquidate-requires-clause-range g c =
-    let sound = subst (λ (core : Core). IsSoundImage core.image core.records) c.self.view_is c.self.invariant.image in
-    (liquidation c.args.self.now sound c.planned.inside c.args.planned c.planned.view_is c.requires.planned
-    c.planned.invariant c.requires.room c.in-Liquidate.liquidator c.in-Liquidate.victims
-    c.in-Liquidate.is c.as_slice.result.now c.as_slice.ensures).strike.range
+apply_liquidate-requires-clause-range g c = (its_liquidation g c).strike.range
 
 pub apply_liquidate-requires-clause-effect : goal.apply_liquidate-requires-clause-effect
-apply_liquidate-requires-clause-effect g c =
-    let sound = subst (λ (core : Core). IsSoundImage core.image core.records) c.self.view_is c.self.invariant.image in
-    (liquidation c.args.self.now sound c.planned.inside c.args.planned c.planned.view_is c.requires.planned
-    c.planned.invariant c.requires.room c.in-Liquidate.liquidator c.in-Liquidate.victims
-    c.in-Liquidate.is c.as_slice.result.now c.as_slice.ensures).strike.effect_is
+apply_liquidate-requires-clause-effect g c = (its_liquidation g c).strike.effect_is
 
 pub apply_liquidate-requires-clause-victims : goal.apply_liquidate-requires-clause-victims
-apply_liquidate-requires-clause-victims g c =
-    let sound = subst (λ (core : Core). IsSoundImage core.image core.records) c.self.view_is c.self.invariant.image in
-    (liquidation c.args.self.now sound c.planned.inside c.args.planned c.planned.view_is c.requires.planned
-    c.planned.invariant c.requires.room c.in-Liquidate.liquidator c.in-Liquidate.victims
-    c.in-Liquidate.is c.as_slice.result.now c.as_slice.ensures).strike.victims
+apply_liquidate-requires-clause-victims g c = (its_liquidation g c).strike.victims
 
 pub apply_liquidate-requires-clause-few : goal.apply_liquidate-requires-clause-few
-apply_liquidate-requires-clause-few g c =
-    let sound = subst (λ (core : Core). IsSoundImage core.image core.records) c.self.view_is c.self.invariant.image in
-    (liquidation c.args.self.now sound c.planned.inside c.args.planned c.planned.view_is c.requires.planned
-    c.planned.invariant c.requires.room c.in-Liquidate.liquidator c.in-Liquidate.victims
-    c.in-Liquidate.is c.as_slice.result.now c.as_slice.ensures).strike.few
+apply_liquidate-requires-clause-few g c = (its_liquidation g c).strike.few
 
 pub apply_liquidate-requires-clause-wallet : goal.apply_liquidate-requires-clause-wallet
-apply_liquidate-requires-clause-wallet g c =
-    let sound = subst (λ (core : Core). IsSoundImage core.image core.records) c.self.view_is c.self.invariant.image in
-    (liquidation c.args.self.now sound c.planned.inside c.args.planned c.planned.view_is c.requires.planned
-    c.planned.invariant c.requires.room c.in-Liquidate.liquidator c.in-Liquidate.victims
-    c.in-Liquidate.is c.as_slice.result.now c.as_slice.ensures).wallet
+apply_liquidate-requires-clause-wallet g c = (its_liquidation g c).wallet
 
 pub apply_liquidate-requires-clause-owners : goal.apply_liquidate-requires-clause-owners
-apply_liquidate-requires-clause-owners g c =
-    let sound = subst (λ (core : Core). IsSoundImage core.image core.records) c.self.view_is c.self.invariant.image in
-    (liquidation c.args.self.now sound c.planned.inside c.args.planned c.planned.view_is c.requires.planned
-    c.planned.invariant c.requires.room c.in-Liquidate.liquidator c.in-Liquidate.victims
-    c.in-Liquidate.is c.as_slice.result.now c.as_slice.ensures).owners
+apply_liquidate-requires-clause-owners g c = (its_liquidation g c).owners
 
 -- what is planned, where its call rotates
 pub apply_rotate-requires-clause-rotates : goal.apply_rotate-requires-clause-rotates

@@ -1,6 +1,6 @@
 use Rattle.std.proofs.Common.{arith, ap, length}
 use Rattle.liq_core.specs.Core.{Core}
-use Rattle.liq_core.proofs.Lending.{books_stand, coll_held, debt_held, adjusts_so, adjust_changes, adjust_sound}
+use Rattle.liq_core.proofs.Lending.{is_held, adjusts_so, adjust_changes, adjust_sound}
 use Rattle.liq_core.proofs.engine.Protocol.apply_adjust.Goals as goal
 
 pub exchange-requires-clause-coll : goal.exchange-requires-clause-coll
@@ -34,13 +34,7 @@ change_trove-requires-clause-there g c =
     c.args.change.now c.args.plan.now c.requires.terms c.requires.allowed).there
 
 pub change_trove-requires-clause-held : goal.change_trove-requires-clause-held
-change_trove-requires-clause-held g c = record {
-  stand = books_stand c.self.inside c.self.invariant;
-  list = c.self.invariant.order;
-  coll = coll_held c.self.inside c.self.invariant;
-  debt =
-      debt_held c.self.inside c.self.invariant;
-}
+change_trove-requires-clause-held g c = is_held c.self.inside c.self.invariant _ _
 
 pub change_trove-requires-clause-some : goal.change_trove-requires-clause-some
 change_trove-requires-clause-some g c =

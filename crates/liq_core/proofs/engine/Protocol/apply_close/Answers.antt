@@ -1,5 +1,5 @@
 use Rattle.std.proofs.Common.{arith}
-use Rattle.liq_core.proofs.Lending.{books_stand, coll_held, debt_held, closes_so, close_changes, close_sound}
+use Rattle.liq_core.proofs.Lending.{is_held, closes_so, close_changes, close_sound}
 use Rattle.liq_core.proofs.engine.Protocol.apply_close.Goals as goal
 
 pub exchange-requires-clause-lusd : goal.exchange-requires-clause-lusd
@@ -29,13 +29,7 @@ lift_trove-requires-clause-there c =
     c.args.repaid c.args.coll c.requires.terms c.requires.allowed).there
 
 pub lift_trove-requires-clause-held : goal.lift_trove-requires-clause-held
-lift_trove-requires-clause-held c = record {
-  stand = books_stand c.self.inside c.self.invariant;
-  list = c.self.invariant.order;
-  coll = coll_held c.self.inside c.self.invariant;
-  debt =
-      debt_held c.self.inside c.self.invariant;
-}
+lift_trove-requires-clause-held c = is_held c.self.inside c.self.invariant _ _
 
 pub invariant_of-self : goal.invariant_of-self
 invariant_of-self c =

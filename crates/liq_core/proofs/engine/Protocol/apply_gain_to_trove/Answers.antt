@@ -2,7 +2,7 @@ use Rattle.std.proofs.Common.{sym, ◌∙◌, ap, arith, length}
 use Rattle.liq_core.specs.Core.{Core}
 use Rattle.liq_core.proofs.Answered.{if_value, is_value}
 use Rattle.liq_core.proofs.Depositing.{moves_so, move_answer, move_changes, move_sound}
-use Rattle.liq_core.proofs.Lending.{books_stand, coll_held, debt_held}
+use Rattle.liq_core.proofs.Lending.{is_held}
 use Rattle.liq_core.proofs.engine.Protocol.apply_gain_to_trove.Goals as goal
 
 pub unwrap-requires : goal.unwrap-requires
@@ -17,13 +17,7 @@ change_trove-requires-clause-there g c =
     c.requires.range c.requires.terms c.requires.allowed).there
 
 pub change_trove-requires-clause-held : goal.change_trove-requires-clause-held
-change_trove-requires-clause-held g c = record {
-  stand = books_stand c.self.inside c.self.invariant;
-  list = c.self.invariant.order;
-  coll = coll_held c.self.inside c.self.invariant;
-  debt =
-      debt_held c.self.inside c.self.invariant;
-}
+change_trove-requires-clause-held g c = is_held c.self.inside c.self.invariant _ _
 
 pub change_trove-requires-clause-some : goal.change_trove-requires-clause-some
 change_trove-requires-clause-some g c =

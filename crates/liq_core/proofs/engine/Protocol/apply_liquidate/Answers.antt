@@ -1,27 +1,20 @@
 use Rattle.std.proofs.Common.{sym, subst}
 use Rattle.std.specs.List.{AllByRecursion, Contains}
 use Rattle.liq_liquidation.specs.declared.one.Victim.{Victim}
+use Rattle.liq_core_lowest.specs.Victims.{AreVictims}
 use Rattle.liq_core.specs.Core.{Core, state_of}
 use Rattle.liq_core.specs.Sound.{core_of}
-use Rattle.liq_core.proofs.Liquidating.{IsAsked, begun, counted_stands, counted_sound}
+use Rattle.liq_core.proofs.Liquidating.{begun, liquidated_stands, liquidated_sound}
 use Rattle.liq_rule_sound.proofs.SoundStart.{started_with}
 use Rattle.liq_core.proofs.engine.Protocol.apply_liquidate.Goals as goal
 
 pub strike-requires-clause-planned : goal.strike-requires-clause-planned
 strike-requires-clause-planned c =
-    let p = c.self.inside in
-    let r = c.requires in
-    let asked = subst (λ (core : Core). IsAsked core c.args.command.now c.args.done c.args.liquidator
-    c.args.victims.now) (sym c.self.view_is) (record {
-      allowed = r.allowed;
-      made = r.done;
-      stays = r.stays;
-      is = r.effect;
-      victims = r.victims;
-    }) in (
+    let p = c.self.inside in (
       state_of (core_of p),
       started_with (core_of p).image p.records c.self.invariant.image,
-      asked.victims,
+      subst (λ (core : Core). AreVictims (state_of core) c.args.liquidator c.args.victims.now) (sym c.self.view_is)
+          c.requires.victims,
       begun p c.self.invariant,
     )
 
@@ -32,37 +25,18 @@ strike-requires-clause-owners c =
 
 pub invariant_of-self : goal.invariant_of-self
 invariant_of-self c =
-    let p = c.self.inside in
     let r = c.requires in
     let n = c.strike.new in
-    let asked = subst (λ (core : Core). IsAsked core c.args.command.now c.args.done c.args.liquidator
-    c.args.victims.now) (sym c.self.view_is) (record {
-      allowed = r.allowed;
-      made = r.done;
-      stays = r.stays;
-      is = r.effect;
-      victims = r.victims;
-    }) in
-    let kept = c.strike.ensures (state_of (core_of p)) (started_with (core_of p).image p.records c.self.invariant.image)
-    asked.victims (begun p c.self.invariant) in
-    counted_sound p c.self.invariant c.args.command.now c.args.done c.args.liquidator c.args.victims.now asked n.wallets
-    n.pools n.surplus n.troves n.order n.stability c.write.new.self kept c.write.ensures.rows
+    liquidated_sound c.self.inside c.args.self.now c.self.view_is c.self.invariant c.args.command.now c.args.done
+    c.args.liquidator c.args.victims.now
+    (record { allowed = r.allowed; made = r.done; stays = r.stays; is = r.effect; victims = r.victims })
+    n.wallets n.pools n.surplus n.troves n.order n.stability c.write.new.self c.strike.ensures c.write.ensures.rows
 
 pub returns : goal.returns
 returns c =
-    let p = c.self.inside in
     let r = c.requires in
     let n = c.strike.new in
-    let asked = subst (λ (core : Core). IsAsked core c.args.command.now c.args.done c.args.liquidator
-    c.args.victims.now) (sym c.self.view_is) (record {
-      allowed = r.allowed;
-      made = r.done;
-      stays = r.stays;
-      is = r.effect;
-      victims = r.victims;
-    }) in
-    let kept = c.strike.ensures (state_of (core_of p)) (started_with (core_of p).image p.records c.self.invariant.image)
-    asked.victims (begun p c.self.invariant) in
-    counted_stands p c.self.invariant c.args.command.now c.args.done c.args.liquidator c.args.victims.now asked
-    n.wallets n.pools n.surplus n.troves n.order n.stability c.write.new.self kept c.write.ensures.rows
-    c.args.self.now c.self.view_is
+    liquidated_stands c.self.inside c.args.self.now c.self.view_is c.self.invariant c.args.command.now c.args.done
+    c.args.liquidator c.args.victims.now
+    (record { allowed = r.allowed; made = r.done; stays = r.stays; is = r.effect; victims = r.victims })
+    n.wallets n.pools n.surplus n.troves n.order n.stability c.write.new.self c.strike.ensures c.write.ensures.rows

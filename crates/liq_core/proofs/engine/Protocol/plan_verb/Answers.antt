@@ -68,7 +68,8 @@ pub returns-in-GainToTrove : goal.returns-in-GainToTrove
 returns-in-GainToTrove c =
     let s = state_of c.args.self.now in
     c.ruled-in-GainToTrove.ensures s c.args.call.now
-    (subst (λ (call : Call). IsRuled s call c.plan_gain_to_trove.result) (sym c.in-GainToTrove.is) c.plan_gain_to_trove.ensures)
+    (subst (λ (call : Call). IsRuled s call c.plan_gain_to_trove.result) (sym c.in-GainToTrove.is)
+    c.plan_gain_to_trove.ensures)
 
 pub returns-in-Liquidate : goal.returns-in-Liquidate
 returns-in-Liquidate c =

@@ -2,13 +2,12 @@ use Rattle.std.proofs.Common.{arith, sym, subst}
 use Rattle.std.specs.Prelude.{map}
 use Rattle.liq_liquidation.specs.declared.one.Victim.{Victim}
 use Rattle.liq_core.specs.Core.{AreAmong, Core}
-use Rattle.liq_core.proofs.Rooms.{among_owners, on_ok, owners_among, room_kept}
+use Rattle.liq_core.proofs.Rooms.{among_owners, on_ok, owners_among, room_kept, wallets_kept}
 use Rattle.liq_core.proofs.engine.Protocol.reserve_liquidation.Goals as goal
 
 pub returns-in_err-reserve-clause-kept : goal.returns-in_err-reserve-clause-kept
 returns-in_err-reserve-clause-kept c =
-    room_kept c.args.self.now c.self.inside (record c.self.inside { wallets = c.reserve.new.self }) c.self.view_is
-    c.reserve.ensures.kept (λ _ h. h) (λ _ h. h) (λ _ h. h) (λ _ h. h) (omega arith) (omega arith)
+    wallets_kept c.args.self.now c.self.inside c.reserve.new.self c.self.view_is c.reserve.ensures.kept
 
 pub returns-in_err-reserve_owners-clause-kept : goal.returns-in_err-reserve_owners-clause-kept
 returns-in_err-reserve_owners-clause-kept c =

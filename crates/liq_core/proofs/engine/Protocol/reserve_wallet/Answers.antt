@@ -1,8 +1,6 @@
-use Rattle.std.proofs.Common.{arith}
-use Rattle.liq_core.proofs.Rooms.{room_kept}
+use Rattle.liq_core.proofs.Rooms.{wallets_kept}
 use Rattle.liq_core.proofs.engine.Protocol.reserve_wallet.Goals as goal
 
 pub returns-clause-kept : goal.returns-clause-kept
 returns-clause-kept c =
-    room_kept c.args.self.now c.self.inside (record c.self.inside { wallets = c.reserve.new.self }) c.self.view_is
-    c.reserve.ensures.kept (λ _ h. h) (λ _ h. h) (λ _ h. h) (λ _ h. h) (omega arith) (omega arith)
+    wallets_kept c.args.self.now c.self.inside c.reserve.new.self c.self.view_is c.reserve.ensures.kept
