@@ -1,9 +1,9 @@
 -- Steps of the opening of a file.
-use Rattle.std.specs.Prelude.{◌≡◌, ℕ, Bool, true, List, [], ◌∷◌, Option, Some, None, Result, Ok, Err, IfOk, IfSome, IsSome, unwrap_or}
-use Rattle.std.proofs.Common.{subst, sym, ◌∙◌, ap, refl, rules}
+use Rattle.std.specs.Prelude.{◌≡◌, ℕ, Bool, true, false, List, [], ◌∷◌, Option, Some, None, Result, Ok, Err, IfOk, IfSome, IsSome, unwrap_or}
+use Rattle.std.proofs.Common.{subst, sym, ◌∙◌, ap, inr, refl, rules}
 use Rattle.std.specs.declared.fs.File.{File}
 use Rattle.liq_disk_files.specs.Asked.{Asked, User, Behind, Looked, Opened, Earlier, WasAsked}
-use Rattle.liq_disk_files.specs.Opened.{AreSynced, BothTaken, IsItsTurn, LeadsTo, MayOpen, OpensWell, SawRegular, Taken, WasHeld, WasOpened}
+use Rattle.liq_disk_files.specs.Opened.{AreSynced, BothTaken, IsItsTurn, LeadsTo, MayOpen, OpensWell, SawNone, SawRegular, Taken, WasHeld, WasOpened}
 use Rattle.liq_disk_files.specs.declared.calls.Name.{Name}
 use Rattle.liq_disk_files.specs.declared.calls.Name.TheVariants.{Left, Right}
 use Rattle.liq_disk_files.specs.declared.calls.Opening.{Opening}
@@ -29,9 +29,23 @@ turn_still Right old new since turn =
 pub rightly_along : (old new : List Asked) → new ≡ old → OpensWell old → OpensWell new
 rightly_along old new is h = subst (λ (c : List Asked). OpensWell c) (sym is) h
 
+-- how a file that is not there is made
+abbrev new_file : Opening
+new_file = record { read = true; write = true; truncate = false; create_new = true; mode = 0o600 }
+
 pub opens : (name : Name) (how : Opening) (answer : Result File Refusal) (before after : List Asked)
     → after ≡ Opened name how answer ∷ before → MayOpen name how before → OpensWell before → OpensWell after
 opens name how answer before after is may h = subst (λ (c : List Asked). OpensWell c) (sym is) (may, h)
+
+-- a new file is made where none was seen
+pub makes : (name : Name) (answer : Result File Refusal) (old before after : List Asked) → Earlier old before
+    → after ≡ Opened name new_file answer ∷ before → SawNone name before → IsItsTurn name old → OpensWell before
+    → OpensWell after
+makes name answer old before after since is none turn h = opens name new_file answer before after is (record {
+  keeps = (refl, refl, refl);
+  there_or_made = inr (refl, refl, none);
+  in_turn = turn_still name old before since turn;
+}) h
 
 pub saw_regular : (name : Name) (answer : Result Bool Refusal) (before after : List Asked)
     → after ≡ Looked name answer ∷ before → answer ≡ Ok true → SawRegular name after
