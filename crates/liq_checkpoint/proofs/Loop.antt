@@ -1,5 +1,5 @@
 -- Reading rows, or numbers, one after the other, as a loop does.
-use Rattle.std.proofs.Common.{◌≡◌, ℕ, suc, ◌-◌, ◌+◌, ◌≤◌, ◌<◌, List, [], ◌∷◌, ◌++◌, Option, Some, Result, Ok, Err, refl, sym, ap, ◌∙◌, append_assoc, arith}
+use Rattle.std.proofs.Common.{◌≡◌, ℕ, suc, ◌-◌, ◌+◌, ◌≤◌, ◌<◌, List, [], ◌∷◌, ◌++◌, Option, Some, Result, Ok, Err, refl, sym, ap, subst, ◌∙◌, append_assoc, arith}
 use Rattle.std.proofs.lemmas.List.{append-nil}
 use Rattle.liq_checkpoint.specs.declared.image_bytes.ImageBytes.{ImageBytes}
 use Rattle.liq_checkpoint.specs.declared.image_bytes.ImageBytes.TheVariants.{Bad, NoMemory}
@@ -10,6 +10,11 @@ pub fails_then : {X Y : Type 0} (e : ImageBytes) (read : Result X ℕ) (f : X �
     → Fails e (read >>= f)
 fails_then NoMemory read f h = tt
 fails_then {X = X} (Bad place) read f h = ap (λ (r : Result X ℕ). r >>= f) h
+
+-- what fails behind a value that was read
+pub behind : {X Y : Type 0} {read : Result X ℕ} {x : X} (e : ImageBytes) (f : X → Result Y ℕ) → read ≡ Ok x
+    → Fails e (f x) → Fails e (read >>= f)
+behind {X} e f is fails = subst (λ (r : Result X ℕ). Fails e (r >>= f)) (sym is) fails
 
 -- what was read before, and what is still read
 abbrev pub with_front : {R : Type 0} → List R → Result (List R × List ℕ) ℕ → Result (List R × List ℕ) ℕ

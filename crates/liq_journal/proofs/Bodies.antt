@@ -266,6 +266,16 @@ module _ (generation start index : ℕ) (held : List ℕ) (w : Written) (is : Is
       let same : at_index.command ≡ command = cc (read, here) in
       at_index.recorded ∙ ap Some same
 
+-- the journal of these fields
+abbrev pub plain : {D : Type 0} → D → ℕ → ℕ → ℕ → ℕ → JournalOn D
+plain disk generation limit start count = record {
+  disk = disk;
+  generation = generation;
+  limit = limit;
+  start = start;
+  count = count;
+}
+
 -- the clause of a journal
 abbrev pub Accepts : {D : Type 0} → (D → DiskAt) → JournalOn D → ℕ → Result (List ℕ) LookFault → Type 0
 Accepts at j index result = (held : List ℕ) (w : Written) → (at j.disk).seen ≡ Some held

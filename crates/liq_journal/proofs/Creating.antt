@@ -219,7 +219,8 @@ module _ (layout : Layout) (version : IsVersion layout) (generation : ℕ) (chec
 
     shut_behind : get_or (created rest) (header_size layout + size) 0 ≡ 0
     shut_behind = (let z : header_size layout + size ≡ header_size layout + size + 0 = omega arith
-        in ap (λ (n : ℕ). get_or (created rest) n 0) z) ∙ sym (get_or-drop (header_size layout + size) (created rest) 0 0)
+        in ap (λ (n : ℕ). get_or (created rest) n 0) z)
+        ∙ sym (get_or-drop (header_size layout + size) (created rest) 0 0)
         ∙ ap (λ (l : List ℕ). get_or l 0 0) behind_checkpoint
 
 -- what was filled stands once its gate is opened

@@ -162,8 +162,17 @@ module _ (odd : Bool) (head : Head) (told : Option (List ℕ)) (sounds : IfSome 
   abbrev start_behind : ℕ
   start_behind = header_size (layout_of head) + head.size
 
-  module _ (checkpoint : List ℕ) (reads : IfSome told (IsReadBehind (header_size (layout_of head)) head checkpoint))
-      (now : Option (List ℕ)) (still : now ≡ told) where
+  -- The checkpoint is read behind the header, and the records behind it.
+  module _ (checkpoint : List ℕ) (header : ℕ) (known : header ≡ header_size (layout_of head))
+      (mid : Option (List ℕ)) (first : mid ≡ told) (read : IfSome mid (IsReadBehind header head checkpoint))
+      (now : Option (List ℕ)) (next : now ≡ mid) where
+    reads : IfSome told (IsReadBehind (header_size (layout_of head)) head checkpoint)
+    reads = subst (λ (n : ℕ). IfSome told (IsReadBehind n head checkpoint)) known
+        (subst (λ (o : Option (List ℕ)). IfSome o (IsReadBehind header head checkpoint)) first read)
+
+    still : now ≡ told
+    still = next ∙ first
+
     record HeadIs (held : List ℕ) : Type 0 where
       headed_so : Headed (layout_of head) odd held head.generation checkpoint start_behind
       size_so : length checkpoint ≡ head.size

@@ -99,7 +99,8 @@ module _ (place : ℕ) (old mid new : Option (List ℕ)) (same : mid ≡ old) (i
   pub gate_told : IfSome new (HasGate place)
   gate_told = subst (λ (o : Option (List ℕ)). IfSome o (HasGate place)) (sym (is ∙ ap (option_map shut_on) same))
       (by old inside) where
-        by : (o : Option (List ℕ)) → IfSome o (λ held. place ≤ length held) → IfSome (option_map shut_on o) (HasGate place)
+        by : (o : Option (List ℕ)) → IfSome o (λ held. place ≤ length held)
+            → IfSome (option_map shut_on o) (HasGate place)
         by None h = tt
         by (Some held) h = record {
           there = reaches place (0 ∷ []) held h (omega arith);

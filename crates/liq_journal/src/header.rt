@@ -1,9 +1,7 @@
 //! A header read from a disk and tested.
-ghost use Rattle.std.specs.Prelude.{◌≡◌, ◌≤◌, true, IfOk, IfErr, IfSome};
-ghost use Rattle.liq_types.specs.Image.{IsLimit};
-ghost use Rattle.liq_disk_header.specs.Header.{is_generation};
+ghost use Rattle.std.specs.Prelude.{◌≡◌, IfOk, IfErr, IfSome};
 ghost use Rattle.liq_journal.specs.Causes.{CountsLook};
-ghost use Rattle.liq_journal.specs.Header.{IsDamageOf, MaybeHeadOf};
+ghost use Rattle.liq_journal.specs.Header.{AreInRange, IsDamageOf, MaybeHeadOf};
 ghost use Rattle.liq_journal.specs.declared.damage.What.TheVariants.{Form};
 ghost use Rattle.liq_journal.specs.declared.answers.LookFault.TheVariants.{Damaged};
 ghost use Rattle.liq_outside.specs.Disk.{Looked};
@@ -20,10 +18,7 @@ pub fn read_header<D: Disk>(disk: &mut D, odd: bool) -> Result<Option<Head>, Loo
     ensures looked { Looked D.at disk.old disk.new }
     ensures read { IfOk result (λ head. IfSome (D.at disk.old).seen
         (λ held. MaybeHeadOf odd held head)) }
-    ensures size { IfOk result (λ head. IfSome head (λ h. h.size ≤ 68719476736)) }
-    ensures generation { IfOk result (λ head. IfSome head
-        (λ h. is_generation odd h.generation ≡ true)) }
-    ensures limit { IfOk result (λ head. IfSome head (λ h. IsLimit h.limit)) }
+    ensures fields { IfOk result (λ head. IfSome head (AreInRange odd)) }
     ensures fault { IfErr result (λ why. IfSome (D.at disk.old).seen
         (λ held. IsDamageOf odd held why)) }
     ensures cause { CountsLook result (D.at disk.old).faults (D.at disk.new).faults }

@@ -1,12 +1,10 @@
 //! A disk looked at: its header, and the digest over the checkpoint, without memory.
-ghost use Rattle.std.specs.Prelude.{◌≡◌, ◌≤◌, ◌+◌, ◌^◌, ◌⊎◌, Err, true, length, IfErr, IfOk, IfSome};
-ghost use Rattle.liq_types.specs.Image.{IsLimit};
+ghost use Rattle.std.specs.Prelude.{◌≡◌, ◌≤◌, ◌+◌, ◌^◌, ◌⊎◌, Err, length, IfErr, IfOk, IfSome};
 ghost use Rattle.liq_outside.specs.Disk.{Looked};
 ghost use Rattle.liq_outside.specs.Faults.{HasCause};
 ghost use Rattle.liq_journal.specs.Causes.{CountsLook};
-ghost use Rattle.liq_journal.specs.Header.{IsDamageOf, MaybeSoundHeadOf};
+ghost use Rattle.liq_journal.specs.Header.{AreInRange, IsDamageOf, MaybeSoundHeadOf};
 ghost use Rattle.liq_journal.specs.Look.{look_on};
-ghost use Rattle.liq_disk_header.specs.Header.{is_generation};
 ghost use Rattle.liq_disk_header.specs.Layout.{header_digest, piece};
 
 use crate::answers::{Look, LookFault};
@@ -44,10 +42,7 @@ pub fn sound_header<D: Disk>(disk: &mut D, odd: bool) -> Result<Option<Head>, Lo
     ensures looked { Looked D.at disk.old disk.new }
     ensures sound { IfOk result (λ head. IfSome (D.at disk.old).seen
         (λ held. MaybeSoundHeadOf odd held head)) }
-    ensures size { IfOk result (λ head. IfSome head (λ h. h.size ≤ 68719476736)) }
-    ensures generation { IfOk result (λ head. IfSome head
-        (λ h. is_generation odd h.generation ≡ true)) }
-    ensures limit { IfOk result (λ head. IfSome head (λ h. IsLimit h.limit)) }
+    ensures fields { IfOk result (λ head. IfSome head (AreInRange odd)) }
     ensures fault { IfErr result (λ why. IfSome (D.at disk.old).seen
         (λ held. IsDamageOf odd held why)) }
     ensures cause { CountsLook result (D.at disk.old).faults (D.at disk.new).faults }

@@ -21,8 +21,8 @@ loop-i-preserved g c =
     record {
       size = length-set c.loop-i.numbers i n ∙ c.loop-i.invariant.size;
       read = rw front (numbers_go_on c.args.end (take i c.loop-i.numbers) g.row.N i c.loop-i.rest.now n
-          c.in_ok-number.after.now (numbers_at c.args.end g.row.N c.args.at.now) c.loop-i-test.true c.in_ok-number.ensures
-          c.loop-i.invariant.read);
+          c.in_ok-number.after.now (numbers_at c.args.end g.row.N c.args.at.now) c.loop-i-test.true
+          c.in_ok-number.ensures c.loop-i.invariant.read);
     }
 
 pub returns : goal.returns

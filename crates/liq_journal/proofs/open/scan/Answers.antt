@@ -5,7 +5,7 @@ use Rattle.liq_journal.specs.Header.{MaybeSoundHeadOf}
 use Rattle.liq_journal.specs.Counted.{AreRecords, IsFaultIn}
 use Rattle.liq_journal.specs.Opened.{IsWhyOf}
 use Rattle.liq_journal.proofs.Looks.{looked_on}
-use Rattle.liq_journal.proofs.Scanning.{IsReadBehind, told_absent_header, told_header_fault, told_scan, told_record_fault, told_unread}
+use Rattle.liq_journal.proofs.Scanning.{told_absent_header, told_header_fault, told_scan, told_record_fault, told_unread}
 use Rattle.liq_journal.proofs.open.scan.Goals as goal
 
 pub returns-in-Err-read_checkpoint-clause-looked : goal.returns-in-Err-read_checkpoint-clause-looked
@@ -26,12 +26,9 @@ pub returns-in-Ok-count_records-clause-found : goal.returns-in-Ok-count_records-
 returns-in-Ok-count_records-clause-found g c = told_scan c.args.odd c.in-Ok-Some.head (g.D.Disk.at c.args.disk.now).seen
     (subst (λ (h : Option Head). IfSome (g.D.Disk.at c.args.disk.now).seen (λ held. MaybeSoundHeadOf c.args.odd held h))
     c.in-Ok-Some.field-0-is c.in-Ok-Some.ensures.sound) c.in-Ok.checkpoint.items
-    (subst (λ (n : ℕ). IfSome (g.D.Disk.at c.args.disk.now).seen
-    (IsReadBehind n c.in-Ok-Some.head c.in-Ok.checkpoint.items)) c.header_size-header.ensures.known
-    (subst (λ (o : Option (List ℕ)). IfSome o (IsReadBehind c.header_size-header.result c.in-Ok-Some.head
-    c.in-Ok.checkpoint.items)) c.sound_header.ensures.looked.same c.in-Ok.ensures.read))
-    (g.D.Disk.at c.read_checkpoint.new.disk).seen (c.read_checkpoint.ensures.looked.same
-    ∙ c.sound_header.ensures.looked.same) (record {
+    c.header_size-header.result c.header_size-header.ensures.known (g.D.Disk.at c.sound_header.new.disk).seen
+    c.sound_header.ensures.looked.same c.in-Ok.ensures.read (g.D.Disk.at c.read_checkpoint.new.disk).seen
+    c.read_checkpoint.ensures.looked.same (record {
       generation = c.in-Ok-Some.head.generation;
       limit = c.in-Ok-Some.head.limit;
       start = c.header_size-header.result + c.in-Ok-Some.head.size;
@@ -50,12 +47,9 @@ returns-in-Err-count_records-clause-why g c = subst (λ (y : OpenWhy). IfSome (g
     (told_record_fault c.args.odd c.in-Ok-Some.head (g.D.Disk.at c.args.disk.now).seen
     (subst (λ (h : Option Head). IfSome (g.D.Disk.at c.args.disk.now).seen (λ held. MaybeSoundHeadOf c.args.odd held h))
     c.in-Ok-Some.field-0-is c.in-Ok-Some.ensures.sound) c.in-Ok.checkpoint.items
-    (subst (λ (n : ℕ). IfSome (g.D.Disk.at c.args.disk.now).seen
-    (IsReadBehind n c.in-Ok-Some.head c.in-Ok.checkpoint.items)) c.header_size-header.ensures.known
-    (subst (λ (o : Option (List ℕ)). IfSome o (IsReadBehind c.header_size-header.result c.in-Ok-Some.head
-    c.in-Ok.checkpoint.items)) c.sound_header.ensures.looked.same c.in-Ok.ensures.read))
-    (g.D.Disk.at c.read_checkpoint.new.disk).seen (c.read_checkpoint.ensures.looked.same
-    ∙ c.sound_header.ensures.looked.same) c.in-Err-count_records.why
+    c.header_size-header.result c.header_size-header.ensures.known (g.D.Disk.at c.sound_header.new.disk).seen
+    c.sound_header.ensures.looked.same c.in-Ok.ensures.read (g.D.Disk.at c.read_checkpoint.new.disk).seen
+    c.read_checkpoint.ensures.looked.same c.in-Err-count_records.why
     (subst (λ (n : ℕ). IfSome (g.D.Disk.at c.read_checkpoint.new.disk).seen
     (λ held. IsFaultIn c.in-Ok-Some.head.generation (n + c.in-Ok-Some.head.size) held c.in-Err-count_records.why))
     c.header_size-header.ensures.known c.in-Err-count_records.ensures.fault))
