@@ -48,8 +48,8 @@ abbrev pub IsUnfit : State → ℕ → List ℕ → Type 0
 IsUnfit s index raw = IsNoRecord index raw ⊎ ((c : Command) × IsRecordOf index raw c
     × (ruling s c ≡ Allowed → ⊥))
 
--- What becomes of a whole record of this number, in a state that stands before it: its step is made,
--- and the gate of the next one comes; or it is damaged, or its step finds no memory.
+-- What becomes of a whole record of this number, in a state that stands before it. Its step is
+-- made, and the gate of the next one comes. Or it is damaged, or its step finds no memory.
 abbrev pub IsTaken : State → ℕ → List ℕ → Core → Result Phase NoMemory → Type 0
 IsTaken s index raw core (Ok phase.Gate) =
     (c : Command) × IsRecordOf index raw c × (ruling s c ≡ Allowed) × StandsFor core (after s c)

@@ -1,5 +1,5 @@
-//! A follower: a protocol with its guide, the phase in which it is, and the bytes of what isn't
-//! whole.
+//! A follower: a protocol with its guide, a phase, and the bytes of a header or a record that isn't
+//! whole yet.
 
 ghost use Rattle.std.specs.Prelude.{◌≡◌, ◌≤◌, ◌<◌, ◌+◌, ◌-◌, ◌^◌, ◌∷◌, ◌++◌, [], List, ℕ, length, min, take};
 ghost use Rattle.std.specs.Prelude.{true, false, None, IfOk, OnErr, OnOk, slice_index};
@@ -20,7 +20,7 @@ use liq_types::amounts::LIM;
 use std::alloc::Global;
 use std::marker::Model;
 
-// The most bytes that are counted exactly: with those of one record more the count still fits.
+// Up to this count the bytes of one record more can be added without overflow.
 const MANY: u64 = u64::MAX - 128;
 
 /// A replica of the protocol that follows a journal's bytes. Each record makes its step once all
@@ -92,13 +92,13 @@ impl Follower {
     /// how many.
     ///
     /// - `All`: the whole piece was taken.
-    /// - `NoMemory`: there is no memory for the step of the record that the byte behind those
-    ///   that were taken completes. Its digest and form are right, and the rules allow its command,
-    ///   or a list of troves is planned for it. That byte isn't taken, the protocol is as it was,
-    ///   and feeding may go on from it.
-    /// - `Damaged`: the record of this number is damaged, or the header, which is 0, by the byte
-    ///   that was taken last. No byte is taken from then on, each feed answers this, and the
-    ///   protocol stays at the state before that byte.
+    /// - `NoMemory`: the next byte completes a record, and there is no memory for its step. The
+    ///   record's digest and form are right, and the rules allow its command, or a list of troves
+    ///   is planned for it. That byte isn't taken, the protocol is as it was, and feeding may go on
+    ///   from it.
+    /// - `Damaged`: the byte that was taken last shows that the record of this number is damaged,
+    ///   or the header, whose number is 0. No byte is taken from then on, each feed answers this,
+    ///   and the protocol stays at the state before that byte.
     /// - `Rotated`: the header is of this later generation. No byte is taken from then on, and
     ///   each feed answers this.
     ///
@@ -147,8 +147,8 @@ impl Follower {
         Fed { taken, end }
     }
 
-    // Whether the whole piece is inside a record, and not up to its last byte: it is taken then,
-    // and else nothing is. So a feed of a byte costs little.
+    // Takes the whole piece where it is inside a record and doesn't reach the record's last byte,
+    // and says whether it did. Otherwise nothing is taken. So a feed of one byte costs little.
     fn keeps(&mut self, piece: &[u8]) -> bool
         ensures inside { result ≡ true → (self.old.phase ≡ phase.Inside)
             × (self.new.phase ≡ phase.Inside) }
@@ -164,8 +164,8 @@ impl Follower {
         true
     }
 
-    // Whether so many bytes are inside a record, and not up to its last one. Where the count of
-    // bytes is near its last value none is said to be.
+    // Whether so many bytes more are inside a record and don't reach its last byte. The answer is
+    // `false` too where the count of bytes is near its last value.
     fn fits(&self, count: usize) -> bool
         ensures inside { result ≡ true → self.now.phase ≡ phase.Inside }
         ensures room { result ≡ true → length self.now.held + count < 128 }
@@ -198,8 +198,8 @@ impl Follower {
         }
     }
 
-    // Takes some bytes of a piece, and says how many; or none, where there is no memory for what
-    // the first one completes.
+    // Takes some bytes of a piece, and says how many. None is taken where there is no memory for
+    // what the first one completes.
     fn advance(&mut self, piece: &[u8]) -> Result<usize, NoMemory>
         requires some { 1 ≤ length piece.now }
         requires goes { stopped_in self.old.phase ≡ None }
@@ -228,7 +228,7 @@ impl Follower {
         self.taken = self.taken.saturating_add(count as u64);
     }
 
-    // The same for bytes after which the count isn't at its last value: an addition and no more.
+    // Counts bytes after which the count is still below its last value: a plain addition.
     fn tally_few(&mut self, count: usize)
         requires few { self.old.taken + count < 2 ^ 64 }
         ensures { self.new ≡ record self.old {

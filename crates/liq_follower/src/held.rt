@@ -6,7 +6,7 @@ use std::marker::Model;
 /// How many bytes a record has behind its gate.
 pub const BODY_AND_DIGEST: usize = 128;
 
-/// Fewer bytes than a record has. Contracts see them.
+/// The bytes that are held, fewer than a record has. A contract sees them as a list.
 #[derive(Drop)]
 pub struct Held {
     bytes: [u8; BODY_AND_DIGEST],
@@ -24,7 +24,7 @@ impl Model for Held {
 }
 
 impl Held {
-    /// None.
+    /// Holds no bytes.
     pub fn new() -> Held
         ensures { result ≡ [] }
     {
@@ -34,7 +34,7 @@ impl Held {
         }
     }
 
-    /// How many there are.
+    /// How many bytes are held.
     pub fn len(&self) -> usize
         ensures count { result ≡ length self.now }
         ensures few { result < 128 }
@@ -42,21 +42,21 @@ impl Held {
         self.count
     }
 
-    /// The bytes.
+    /// The bytes that are held.
     pub fn bytes(&self) -> &[u8]
         ensures { result.now ≡ self.now }
     {
         &self.bytes[..self.count]
     }
 
-    /// Lets them go.
+    /// Forgets all bytes.
     pub fn clear(&mut self)
         ensures { self.new ≡ [] }
     {
         self.count = 0;
     }
 
-    /// Takes one byte more, where there is room.
+    /// Adds a byte, where there is room.
     pub fn push(&mut self, byte: u8)
         ensures { length self.old < 127 → self.new ≡ self.old ++ byte ∷ [] }
     {
@@ -66,7 +66,7 @@ impl Held {
         }
     }
 
-    /// Takes more bytes, for which there is room.
+    /// Adds bytes, for which there must be room.
     pub fn extend(&mut self, piece: &[u8])
         requires { length self.old + length piece.now < 128 }
         ensures { self.new ≡ self.old ++ piece.now }
@@ -81,7 +81,7 @@ impl Held {
         self.count = end;
     }
 
-    /// All bytes of a record, of which one was missing.
+    /// The bytes of a record: those that are held, and its last one.
     pub fn with(&self, last: u8) -> [u8; BODY_AND_DIGEST]
         requires { length self.now ≡ 127 }
         ensures { result ≡ self.now ++ last ∷ [] }

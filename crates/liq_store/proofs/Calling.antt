@@ -115,29 +115,25 @@ module _ {D : Type 0} (at : D → DiskAt) where
     pub taken_time : GoesOn at t t'
     pub aside_time : GoesOn at b b'
 
+  -- the store whose taken disk is t, beside b
+  abbrev whole : Side → Core → ℕ → Option ℕ → List ListChange → D → D → Stored D
+  whole side core start stopped changes t b = record {
+    left = on side t b;
+    right = on side b t;
+    side = side;
+    start = start;
+    core = core;
+    stopped = stopped;
+    changes = changes;
+  }
+
   -- the same of the left disk and the right one
   pub writes_on : (side side' : Side) (core next : Core) (start start' : ℕ) (stopped later : Option ℕ)
       (before now : List ListChange) (request : Request) (a : Answer) (t b t' b' : D)
       → Writes side core start stopped request a t b t' b' side' start'
       → WritesOn at
-      (record {
-        left = on side t b;
-        right = on side b t;
-        side = side;
-        start = start;
-        core = core;
-        stopped = stopped;
-        changes = before;
-      }) request a
-      (record {
-        left = on side t' b';
-        right = on side b' t';
-        side = side';
-        start = start';
-        core = next;
-        stopped = later;
-        changes = now;
-      })
+      (whole side core start stopped before t b) request a
+      (record (whole side next start' later now t' b') { side = side' })
   writes_on Left side' core next start start' stopped later before now request a t b t' b' w = record {
     side = w.side_is;
     start = w.start_is;
@@ -174,24 +170,8 @@ module _ {D : Type 0} (at : D → DiskAt) where
       (before now : List ListChange) (request : Request) (a : Answer) (t b b' : D)
       → Writes side core start stopped request a t b t b' (other side) start'
       → WritesOn at
-      (record {
-        left = on side t b;
-        right = on side b t;
-        side = side;
-        start = start;
-        core = core;
-        stopped = stopped;
-        changes = before;
-      }) request a
-      (record {
-        left = on (other side) b' t;
-        right = on (other side) t b';
-        side = other side;
-        start = start';
-        core = next;
-        stopped = later;
-        changes = now;
-      })
+      (whole side core start stopped before t b) request a
+      (whole (other side) next start' later now b' t)
   turned_on Left core next start start' stopped later before now request a t b b' w =
       writes_on Left Right core next start start' stopped later before now request a t b t b' w
   turned_on Right core next start start' stopped later before now request a t b b' w =

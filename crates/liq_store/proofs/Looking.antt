@@ -158,8 +158,8 @@ seen_looked {D} {changes} side taken new b core stopped later old same is =
     (ap (λ (start : ℕ). record now { start = start }) (ap (λ (j : JournalOn D). j.start) same))
 
 -- the disk beside it stays
-pub beside_looked : {D : Type 0} {changes : List ListChange} (side : Side) (taken : JournalOn D) (b new : D) (core : Core)
-    (stopped : Option ℕ) (old : Stored D) → stored side taken b core stopped changes ≡ old
+pub beside_looked : {D : Type 0} {changes : List ListChange} (side : Side) (taken : JournalOn D) (b new : D)
+    (core : Core) (stopped : Option ℕ) (old : Stored D) → stored side taken b core stopped changes ≡ old
     → beside side (on side new b) (on side b new) ≡ disk_beside old
 beside_looked {D} side taken b new core stopped old is =
     beside_is side new b ∙ sym (beside_is side taken.disk b) ∙ ap (λ (o : Stored D). disk_beside o) is

@@ -21,7 +21,8 @@ returns-in-Err-Damaged c s stands =
         c.in-Some.command,
         c.in-Some.ensures.tested,
         λ allowed. clash c.args.index s c.in-Err-Damaged.field-0-0
-            (subst (λ r. (rest : Result State Damage) → replayed c.args.index r rest ≡ Err c.in-Err-Damaged.field-0-0) allowed
+            (subst (λ r. (rest : Result State Damage) → replayed c.args.index r rest ≡ Err c.in-Err-Damaged.field-0-0)
+            allowed
             (subst (λ fault. IsUnmade s c.in-Some.command c.args.index fault) c.in-Err-Damaged.field-0-is made.0)),
       ),
       made.1,

@@ -114,9 +114,9 @@ returns-in-Ok-clause-beside g c = beside_looked c.self.inside.side c.self.inside
     c.read_commands.new.journal.disk c.self.inside.protocol c.self.inside.stopped c.args.self.now c.self.view_is
 
 pub returns-in-Err-DiskFault-clause-same : goal.returns-in-Err-DiskFault-clause-same
-returns-in-Err-DiskFault-clause-same g c = seen_looked c.self.inside.side c.self.inside.taken c.read_commands.new.journal
-    c.self.inside.beside c.self.inside.protocol c.self.inside.stopped (Some c.unwrap_or.result) c.args.self.now
-    c.read_commands.ensures.same c.self.view_is
+returns-in-Err-DiskFault-clause-same g c = seen_looked c.self.inside.side c.self.inside.taken
+    c.read_commands.new.journal c.self.inside.beside c.self.inside.protocol c.self.inside.stopped
+    (Some c.unwrap_or.result) c.args.self.now c.read_commands.ensures.same c.self.view_is
 
 pub returns-in-Err-DiskFault-clause-beside : goal.returns-in-Err-DiskFault-clause-beside
 returns-in-Err-DiskFault-clause-beside g c = beside_looked c.self.inside.side c.self.inside.taken c.self.inside.beside

@@ -320,14 +320,16 @@ invariant_of-self-2 g c =
           c.self.inside.beside c.make-done-2.new.protocol o c.note.new.changes.items))
           (sym (ap (λ (o : Stored g.row.D.Denot). o.stopped) c.self.view_is ∙ c.requires.going))
           (order_going g.D.Disk.at c.self.inside.side c.write_record.new.taken c.self.inside.beside
-          c.make-done-2.new.protocol (went_on g.D.Disk.at c.self.inside.side c.self.inside.taken c.write_record.new.taken
-          c.self.inside.beside c.self.inside.protocol c.in-Do.command a c.make-done-2.new.protocol
-          (state_of c.self.inside.protocol) c.prepare.ensures.stands (λ t so. let is = c.in-Ready.ensures.prepared t so
+          c.make-done-2.new.protocol (went_on g.D.Disk.at c.self.inside.side c.self.inside.taken
+          c.write_record.new.taken c.self.inside.beside c.self.inside.protocol c.in-Do.command a
+          c.make-done-2.new.protocol (state_of c.self.inside.protocol) c.prepare.ensures.stands
+          (λ t so. let is = c.in-Ready.ensures.prepared t so
           in prepared_steps c.make-done-2.new.protocol t c.in-Do.command c.in-Ready.planned is
           (c.make-done-2.ensures.state t (stands_after c.self.inside.protocol c.prepare.new.protocol t
           c.prepare.ensures.same so))) c.in-Ok-write_record.ensures.durable c.in-Ok-write_record.ensures.appended));
       generation_is = (ap (λ j. j.generation) c.write_record.ensures.same) ∙ c.self.invariant.generation_is
-          ∙ sym (generation_stays c.self.inside.protocol c.make-done-2.new.protocol s c.in-Do.command stays stands step);
+          ∙ sym (generation_stays c.self.inside.protocol c.make-done-2.new.protocol s c.in-Do.command stays stands
+          step);
       parity_is = ap is_odd (ap (λ j. j.generation) c.write_record.ensures.same) ∙ c.self.invariant.parity_is;
       count_is = omega (arith, c.in-Ok-write_record.ensures.one_more, c.self.invariant.count_is, counted);
       told = all_has (g.D.Disk.at c.write_record.new.taken.disk).seen c.write_record.new.taken.generation
