@@ -72,7 +72,7 @@ module _ {T I : Type 0} (history : T → List I) (maker : I → ℕ) where
       (λ c. let f = (r.each c.0 c.1 c.2).cutting c.3 in let more : 1 < c.1.shares = f.0
       in let all : r.ledger.made + c.1.shares ≡ n + 1 = f.1 in omega arith) r.cut
 
-  -- a seat at rest that has all shares has seen all of the history of the value, which is at home
+  -- a seat at rest that has all shares has seen all of the history of the value, which is in its slot
   pub closes : (n id : ℕ) (v : View I) (s : State (Option T) (View I)) → Seen (Ruled history maker n) id v s → AtRest v
       → n ≤ v.shares
       → (v.shares ≡ n) × ((x : T) × (s.homes ≡ some (Some x) ∷ []) × (history x ≡ v.seen) × Within maker n (history x))

@@ -1,15 +1,14 @@
 -- Seats as they are made, one behind the other.
-use Rattle.std.proofs.Common.{◌≡◌, ℕ, ◌+◌, ◌-◌, ◌<◌, false, ltb, List, [], ◌∷◌, ◌++◌, length, get_or, refl, sym, ap, ap₂, ◌∙◌, subst, length-append, arith}
+use Rattle.std.proofs.Common.{◌≡◌, ℕ, ◌+◌, ◌-◌, ◌<◌, List, [], ◌∷◌, ◌++◌, length, get_or, refl, sym, ap, ap₂, ◌∙◌, subst, length-append, arith}
 use mathlib.Core.Logic.{dite}
 use native.Mathlib.Decide.{dec_lt}
-use Rattle.std.specs.Prelude.{None}
 use Rattle.std.proofs.lemmas.List.{get_or_append_left, get_or_push}
 use Rattle.atomic_table.specs.Seated.{TableId}
 use Rattle.atomic_table.specs.Table.{Me}
 use Rattle.liq_lock.specs.declared.seat.LockSeat.{LockSeat}
 use Rattle.liq_lock.specs.declared.view.View.{View}
 use Rattle.liq_lock.specs.Seats.{IsFresh, AreFresh}
-use Rattle.liq_lock.specs.Views.{dealer, keeping, newcomer, no_past, opener}
+use Rattle.liq_lock.specs.Views.{dealer, first_with, keeping, newcomer, opener}
 
 module _ {I : Type 0} where
   -- seats numbered from 2
@@ -29,54 +28,15 @@ module _ {I : Type 0} where
 
   -- the first view before any split
   pub none_dealt : (n : ℕ) → opener {I = I} n ≡ dealer 2 n
-  none_dealt n =
-      let all : n ≡ n + 2 - 2 = omega arith in
-      ap (λ (z : ℕ). record {
-        number = 1;
-        stands = 1 ∷ [];
-        seen = [];
-        ticket = None;
-        inside = false;
-        shares = z;
-        splitting = ltb 1 z;
-        next = 2;
-        left = no_past;
-        right = no_past;
-      }) all
+  none_dealt n = let all : n ≡ n + 2 - 2 = omega arith in ap (first_with 2) all
 
   -- the first view after a split
   pub keeping_on : (k n : ℕ) → keeping {I = I} (dealer k n) ≡ dealer (k + 1) n
-  keeping_on k n =
-      let less : n + 2 - k - 1 ≡ n + 2 - (k + 1) = omega arith in
-      ap (λ (z : ℕ). record {
-        number = 1;
-        stands = 1 ∷ [];
-        seen = [];
-        ticket = None;
-        inside = false;
-        shares = z;
-        splitting = ltb 1 z;
-        next = k + 1;
-        left = no_past;
-        right = no_past;
-      }) less
+  keeping_on k n = let less : n + 2 - k - 1 ≡ n + 2 - (k + 1) = omega arith in ap (first_with (k + 1)) less
 
   -- the first view when all others are made
   pub last_dealt : (k n : ℕ) → k ≡ n → dealer {I = I} (k + 1) n ≡ newcomer 1 (k + 1)
-  last_dealt k n all =
-      let one : n + 2 - (k + 1) ≡ 1 = omega (arith, all) in
-      ap (λ (z : ℕ). record {
-        number = 1;
-        stands = 1 ∷ [];
-        seen = [];
-        ticket = None;
-        inside = false;
-        shares = z;
-        splitting = ltb 1 z;
-        next = k + 1;
-        left = no_past;
-        right = no_past;
-      }) one
+  last_dealt k n all = let one : n + 2 - (k + 1) ≡ 1 = omega (arith, all) in ap (first_with (k + 1)) one
 
   -- a seat with a view that was made for one share, by what its own view tells
   pub is_newcomer : {S : Type 0} (m : Me S (View I)) (k next : ℕ) → m ≡ (newcomer k next, [])

@@ -22,7 +22,8 @@ module _ {T I : Type 0} where
     pub log : List I
     pub words : (count : ℕ) × (s.words ≡ ticket % 2 ^ 64 ∷ serving % 2 ^ 64 ∷ count ∷ [])
         × (count ≡ length log)
-    -- 1. Every ticket drawn and not yet served is some view's, no other is, and no two views share one
+    -- 1. Every ticket drawn and not yet served is some view's, no other is, and no two views share
+    -- a ticket
     pub tickets : (t : ℕ)
         → ((j : ℕ) × (v : View I) × Lives s j v × (v.ticket ≡ Some t)) ↔ ((serving ≤ t)
         × (t < ticket))
@@ -48,8 +49,8 @@ module _ {T I : Type 0} where
         → v.number ≡ w.number → i ≡ j
     pub numbers_within : (j : ℕ) (v : View I) → Lives s j v → (1 ≤ v.number) × (v.number ≤ n)
     pub makers_within : Within maker n log
-    -- 8. A view answers for its own number and those that it took over, which lie from 1 to n; none is answered for twice, and
-    -- once all seats are made each is answered for
+    -- 8. A view answers for its own number and those that it took over, which lie from 1 to n; none
+    -- is answered for twice, and once all seats are made each is answered for
     pub own_number : (j : ℕ) (v : View I) → Lives s j v → Contains v.stands v.number
     pub stands_within : (j : ℕ) (v : View I) → Lives s j v → (x : ℕ) → Contains v.stands x
         → (1 ≤ x) × (x ≤ n)

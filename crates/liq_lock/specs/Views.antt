@@ -65,15 +65,14 @@ module _ {I : Type 0} where
   abbrev pub spent : View I
   spent = blank
 
+  -- the first view with these shares, when the seats below k are made
+  abbrev pub first_with : ℕ → ℕ → View I
+  first_with k kept =
+      record blank { number = 1; stands = 1 ∷ []; shares = kept; splitting = ltb 1 kept; next = k }
+
   -- the first view, with all shares
   abbrev pub opener : ℕ → View I
-  opener seats = record blank {
-    number = 1;
-    stands = 1 ∷ [];
-    shares = seats;
-    splitting = ltb 1 seats;
-    next = 2;
-  }
+  opener seats = first_with 2 seats
 
   abbrev pub drew : View I → ℕ → View I
   drew v t = record v { ticket = Some t }
@@ -104,7 +103,8 @@ module _ {I : Type 0} where
     next = 0;
   }
 
-  -- a join
+  -- a view into which another was joined: it answers for the numbers of both, has the shares of
+  -- both, and has seen the longer of the two histories
   abbrev pub joined : View I → View I → View I
   joined v w = record v {
     stands = v.stands ++ w.stands;
@@ -121,9 +121,7 @@ module _ {I : Type 0} where
 
   -- the first view, when the seats below k are made
   abbrev pub dealer : ℕ → ℕ → View I
-  dealer k n =
-      let kept = n + 2 - k in
-      record blank { number = 1; stands = 1 ∷ []; shares = kept; splitting = ltb 1 kept; next = k }
+  dealer k n = first_with k (n + 2 - k)
 
   -- the view of a seat that was made for one share
   abbrev pub newcomer : ℕ → ℕ → View I

@@ -12,8 +12,9 @@
 //! ```
 //!
 //! Turns come in the order of the tickets. There is one history, and what each seat has seen is a
-//! beginning of it; behind its own turn it has seen all. The value is in its slot exactly where no
-//! seat is inside. Of the calls only `Lock::take` waits.
+//! beginning of it; at the end of its own turn a seat has seen all of it. While no seat is inside,
+//! the lock holds the value; else the seat that is inside has it. Of the calls only `Lock::take`
+//! waits.
 #![tactic(auto)]
 
 mod chronicle;

@@ -39,14 +39,12 @@ pub returns-in_default-answer : goal.returns-in_default-answer
 returns-in_default-answer g c =
     let call = c.call-back.ensures in
     let so = c.loop-before.invariant in
-    let next = sym so.3 ∙ c.in-Some.ensures in
-    let short : c.loop-before.before < length c.args.work.script.requests = omega (
+    ends_at _ _ _ _ _ _ _ _ _ _ _ _ _ c.of.ensures refl refl so.1 (omega (
       arith,
       c.loop-before-test.true,
       c.len-count.ensures,
-    ) in
-    ends_at _ _ _ _ _ _ _ _ _ _ _ _ _ c.of.ensures refl refl so.1 short next call.belongs call.number call.own
-    call.faulted call.end c.in_default-answer.not-Reply so.0
+    )) (sym so.3 ∙ c.in-Some.ensures) call.belongs call.number call.own call.faulted call.end
+    c.in_default-answer.not-Reply so.0
 
 pub loop-before-preserved : goal.loop-before-preserved
 loop-before-preserved g c =

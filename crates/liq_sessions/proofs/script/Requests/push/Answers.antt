@@ -1,4 +1,4 @@
-use Rattle.std.proofs.Common.{◌∙◌}
+use Rattle.std.proofs.Common.{◌≡◌, ◌++◌, ◌∷◌, [], ◌∙◌, refl}
 use Rattle.liq_sessions.proofs.Joined.{among-ask, joined-ask, joined-command, more_commands}
 use Rattle.liq_sessions.proofs.script.Requests.push.Goals as goal
 
@@ -7,15 +7,14 @@ invariant_of-self-in-Ask c =
     rw (c.push_reserved.ensures.items, c.try_reserve.ensures.items)
     (among-ask c.self.inside.waiting.items c.in-Ask.query ∙ c.self.invariant)
 
+-- the command stands behind the others
+pushed : (c : goal.After-push_reserved-in-Do) → c.push.new.self.items
+    ≡ c.self.inside.commands.items ++ c.in-Do.command ∷ []
+pushed c = rw (c.push.ensures.items, c.is_err-in-Do.ensures.negation, c.if-is_err-2.false) refl
+
 pub invariant_of-self-in-Do : goal.invariant_of-self-in-Do
 invariant_of-self-in-Do c =
-    rw (
-      c.push_reserved-in-Do.ensures.items,
-      c.try_reserve.ensures.items,
-      c.push.ensures.items,
-      c.is_err-in-Do.ensures.negation,
-      c.if-is_err-2.false,
-    )
+    rw (c.push_reserved-in-Do.ensures.items, c.try_reserve.ensures.items, pushed c)
     (more_commands c.self.inside.waiting.items c.self.inside.commands.items c.in-Do.command c.self.invariant)
 
 pub returns-in-Ask-clause-ok : goal.returns-in-Ask-clause-ok
@@ -28,9 +27,7 @@ returns-else-is_err-2-clause-ok c =
     rw (
       c.push_reserved-in-Do.ensures.items,
       c.try_reserve.ensures.items,
-      c.push.ensures.items,
-      c.is_err-in-Do.ensures.negation,
-      c.if-is_err-2.false,
+      pushed c,
       ← c.self.view_is,
       c.in-Do.is,
     )
