@@ -56,8 +56,8 @@ module _
       × LeftNow disk_at after.left a × LeftNow disk_at after.right b)
 
   -- Two calls, both of `run`. The second begins in the state to which the first one's requests
-  -- lead, or one command further, which the first may have left unfinished. Its own requests lead on
-  -- from there.
+  -- lead, or one command further, which the first may have left unfinished. Its own requests lead
+  -- on from there.
   pub record FollowOn
       (before middle again after : Outside S K D) (status later : ℕ) (l r a b : List ℕ)
       (start : State) : Type 0 where

@@ -12,12 +12,13 @@
 //! written, what the disks hold, what a crash at any moment may leave of them, and whose fault
 //! gave that status. What follows from it is in `laws`.
 //!
-//! Each end of a word has its status and its last line (`ending` of `liq_word_exit`). At 0 all is done,
-//! and at 4 the sink met a fault: these two have no last line. Words that are not understood end
-//! with 1 and the usage. Words that the system did not give have clauses of their own, those of
+//! Each end of a word has its status and its last line (`ending` of `liq_word_exit`). At 0 all is
+//! done, and at 4 the sink met a fault: these two have no last line. Words that are not understood
+//! end with 1 and the usage. Words that the system did not give have clauses of their own, those of
 //! [`without_words`].
 //!
-//! Two names are alike: `liq_serve` is this whole program, and `liq_word_serve` is the word `serve`.
+//! Two names are alike: `liq_serve` is this whole program, and `liq_word_serve` is the word
+//! `serve`.
 
 ghost use Rattle.std.specs.Prelude.{◌≡◌, ◌≢◌, ◌≤◌, ◌↔◌, ◌⊎◌, IfOk, IsTrue, List, ℕ, Ok, Err, map, []};
 ghost use Rattle.std.specs.String.{string_bytes};

@@ -46,35 +46,20 @@ added s c r =
       offsets = offsets_in (events s made);
     }
 
-added_is : (s : State) (c : Command) → counts s (Do c ∷ []) ≡ added s c (ruling s c)
-added_is s c = refl
+-- a command whose ruling is this adds it
+adds : (s : State) (c : Command) (r : Ruling) (n m : Counts) → ruling s c ≡ r → m ≡ plus n (added s c r)
+    → m ≡ plus n (counts s (Do c ∷ []))
+adds s c r n m is m_is = m_is ∙ ap (λ (q : Ruling). plus n (added s c q)) (sym is)
 
 pub repeated_adds : (s : State) (c : Command) (kept : Done) (n : Counts) → ruling s c ≡ Repeated kept
     → n ≡ plus n (counts s (Do c ∷ []))
 repeated_adds s c kept n is =
-    let none = added_is s c ∙ ap (added s c) is in
-    same_counts n (plus n (counts s (Do c ∷ []))) (omega (arith, ap (λ (m : Counts). m.accepted) none)) (omega (
-      arith,
-      ap (λ (m : Counts). m.refused) none,
-    )) (omega (arith, ap (λ (m : Counts). m.offsets) none))
+    adds s c (Repeated kept) n n is (same_counts _ _ (sym (add-zero _)) (sym (add-zero _)) (sym (add-zero _)))
 
 pub refused_adds : (s : State) (c : Command) (refusal : Refusal) (n m : Counts) → ruling s c ≡ Refused refusal
     → m ≡ record n { refused = n.refused + 1 } → m ≡ plus n (counts s (Do c ∷ []))
 refused_adds s c refusal n m is m_is =
-    let one = added_is s c ∙ ap (added s c) is in
-    same_counts m (plus n (counts s (Do c ∷ []))) (omega (
-      arith,
-      ap (λ (k : Counts). k.accepted) m_is,
-      ap (λ (k : Counts). k.accepted) one,
-    )) (omega (
-      arith,
-      ap (λ (k : Counts). k.refused) m_is,
-      ap (λ (k : Counts). k.refused) one,
-    )) (omega (
-      arith,
-      ap (λ (k : Counts). k.offsets) m_is,
-      ap (λ (k : Counts). k.offsets) one,
-    ))
+    adds s c (Refused refusal) n m is (m_is ∙ same_counts _ _ (sym (add-zero _)) refl (sym (add-zero _)))
 
 pub allowed_adds : (s : State) (c : Command) (made : List PoolEvent) (n m : Counts) → ruling s c ≡ Allowed
     → made ≡ call_events s c.call → m ≡ record {
@@ -83,18 +68,9 @@ pub allowed_adds : (s : State) (c : Command) (made : List PoolEvent) (n m : Coun
       offsets = n.offsets + offsets_in made;
     } → m ≡ plus n (counts s (Do c ∷ []))
 allowed_adds s c made n m is made_is m_is =
-    let one = added_is s c ∙ ap (added s c) is in
-    let offsets = ap (λ (k : Counts). k.offsets) one ∙ ap offsets_in (append-nil (call_events s c.call)
-    ∙ sym made_is) in
-    same_counts m (plus n (counts s (Do c ∷ []))) (omega (
-      arith,
-      ap (λ (k : Counts). k.accepted) m_is,
-      ap (λ (k : Counts). k.accepted) one,
-    )) (omega (
-      arith,
-      ap (λ (k : Counts). k.refused) m_is,
-      ap (λ (k : Counts). k.refused) one,
-    )) (omega (arith, ap (λ (k : Counts). k.offsets) m_is, offsets))
+    let offsets = ap (λ (es : List PoolEvent). n.offsets + offsets_in es)
+    (made_is ∙ sym (append-nil (call_events s c.call))) in
+    adds s c Allowed n m is (m_is ∙ same_counts _ _ refl (sym (add-zero _)) offsets)
 
 abbrev command_of : State → Call → ℕ → Command
 command_of s call number = record { client = 1; number = number; call = call }
@@ -213,7 +189,8 @@ gone_on core new n m call calls all u stands m_is =
       now = later;
       stands = stands;
       counted = ap (λ (k : Counts). plus k (counts later rest)) m_is
-          ∙ plus-plus n (counts s (Do c ∷ [])) (counts later rest) ∙ ap (plus n) (sym (counts-next s c rest)) ∙ u.counted;
+          ∙ plus-plus n (counts s (Do c ∷ [])) (counts later rest) ∙ ap (plus n) (sym (counts-next s c rest))
+          ∙ u.counted;
       ends = u.ends;
     }
 

@@ -149,7 +149,8 @@ impl Load {
         let (total, coll) = (words.total, words.coll);
         let supply = self.supply();
         let line = format!(in alloc;
-            "accepted {accepted} refused {refused} offsets {offsets} epochs {epoch} scale {scale} p {p} total {total} coll {coll} supply {supply}\n"
+            "accepted {accepted} refused {refused} offsets {offsets} epochs {epoch} scale {scale} \
+             p {p} total {total} coll {coll} supply {supply}\n"
         )?;
         Ok(line)
     }

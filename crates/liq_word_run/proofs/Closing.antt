@@ -11,7 +11,7 @@ use Rattle.liq_word_exit.specs.Output.{lines}
 use Rattle.liq_word_exit.specs.Rest.{WritesRest, whole, cut}
 use Rattle.liq_store.specs.Causes.{Faults}
 use Rattle.liq_word_run.specs.Calls.{IsStopped}
-use Rattle.liq_word_run.specs.Progress.{Ends, Comes, HaltsAt, Written}
+use Rattle.liq_word_run.specs.Progress.{Ends, Comes, HaltsAt, Written, WritesReplies}
 use Rattle.liq_text_lines.specs.Writing.{Writes, WritesPart}
 use Rattle.liq_word_run.specs.Writing.{WritesFront}
 use Rattle.liq_text_lines.proofs.Bytes.{writes_more}
@@ -19,19 +19,29 @@ use Rattle.liq_word_run.proofs.Cutting.{cut_comes}
 
 -- ---- what waits at a run's end cannot be written
 
-pub cut_ends : (start : State) (core : Core) (past : List Request → Type 0) (kept : State → Request
-    → Type 0) (stopped : List Request → Request → Type 0) (told left : Option (List ℕ)) (w : List ℕ) (before now :
-    Option (List ℕ)) → Comes start (Err WriteFault) core past kept stopped told left w before now
-    → Ends start (Err WriteFault) core past kept stopped told left before now
-cut_ends start core past kept stopped told left w before now h = record {
+-- a run's end, of which this is written by then, and at which it halts so
+ends_so : (start : State) (core : Core) (past : List Request → Type 0) (kept : State → Request
+    → Type 0) (stopped : List Request → Request → Type 0) (end : Result (Unit {0}) Halt) (told left :
+    Option (List ℕ)) (w : List ℕ) (before now after : Option (List ℕ))
+    → (h : Comes start end core past kept stopped told left w before now)
+    → WritesReplies start end h.requests before after → HaltsAt end told h.requests [] start past kept stopped
+    → Ends start end core past kept stopped told left before after
+ends_so start core past kept stopped end told left w before now after h written halted = record {
   requests = h.requests;
   few = h.few;
   why = h.why;
   read = h.read;
-  written = h.written;
+  written = written;
   stands = h.stands;
-  halted = h.halted;
+  halted = halted;
 }
+
+pub cut_ends : (start : State) (core : Core) (past : List Request → Type 0) (kept : State → Request
+    → Type 0) (stopped : List Request → Request → Type 0) (told left : Option (List ℕ)) (w : List ℕ) (before now :
+    Option (List ℕ)) → Comes start (Err WriteFault) core past kept stopped told left w before now
+    → Ends start (Err WriteFault) core past kept stopped told left before now
+cut_ends start core past kept stopped told left w before now h =
+    ends_so start core past kept stopped (Err WriteFault) told left w before now now h h.written h.halted
 
 waited : (start : State) (core : Core) (past : List Request → Type 0) (kept : State → Request
     → Type 0) (stopped : List Request → Request → Type 0) (end : Result (Unit {0}) Halt) (told left :
@@ -95,112 +105,33 @@ all_written start requests w w' before now after h f none =
     subst (λ (t : List ℕ). Writes before t after) (sym (h.replies ∙ ap (λ (t : List ℕ). h.front ++ t) rest))
     (writes_more before now after h.front f.0 h.writes f.1)
 
-pub closing_well : (start : State) (core : Core) (past : List Request → Type 0) (kept : State → Request
-    → Type 0) (stopped : List Request → Request → Type 0) (end : Result (Unit {0}) Halt) (told left :
-    Option (List ℕ)) (w w' : List ℕ) (before now after : Option (List ℕ)) → (end ≡ Err WriteFault → ⊥)
-    → Comes start end core past kept stopped told left w before now → WritesFront (Ok tt) w w' now after → w' ≡ []
-    → Ends start end core past kept stopped told left before after
-closing_well start core past kept stopped (Ok done) told left w w' before now after other h f none =
-    record {
-      requests = h.requests;
-      few = h.few;
-      why = h.why;
-      read = h.read;
-      written = all_written start h.requests w w' before now after h.written f none;
-      stands = h.stands;
-      halted =
-          h.halted;
-    }
-closing_well start core past kept stopped (Err (BadLine n)) told left w w' before now after other h f none =
-    record {
-      requests = h.requests;
-      few = h.few;
-      why = h.why;
-      read = h.read;
-      written = all_written start h.requests w w' before now after h.written f none;
-      stands = h.stands;
-      halted =
-          h.halted;
-    }
-closing_well start core past kept stopped (Err ReadFault) told left w w' before now after other h f none =
-    record {
-      requests = h.requests;
-      few = h.few;
-      why = h.why;
-      read = h.read;
-      written = all_written start h.requests w w' before now after h.written f none;
-      stands = h.stands;
-      halted =
-          h.halted;
-    }
-closing_well start core past kept stopped (Err NoMemory) told left w w' before now after other h f none =
-    record {
-      requests = h.requests;
-      few = h.few;
-      why = h.why;
-      read = h.read;
-      written = all_written start h.requests w w' before now after h.written f none;
-      stands = h.stands;
-      halted =
-          h.halted;
-    }
-closing_well start core past kept stopped (Err DiskFault) told left w w' before now after other h f none =
-    record {
-      requests = h.requests;
-      few = h.few;
-      why = h.why;
-      read = h.read;
-      written = all_written start h.requests w w' before now after h.written f none;
-      stands = h.stands;
-      halted =
-          (h.halted.0, h.halted.1, h.halted.2, refl, h.halted.4, h.halted.5);
-    }
-closing_well start core past kept stopped (Err (Damaged side number)) told left w w' before now after other h f none =
-    record {
-      requests = h.requests;
-      few = h.few;
-      why = h.why;
-      read = h.read;
-      written = all_written start h.requests w w' before now after h.written f none;
-      stands = h.stands;
-      halted =
-          h.halted;
-    }
-closing_well start core past kept stopped (Err (Limit number)) told left w w' before now after other h f none =
-    record {
-      requests = h.requests;
-      few = h.few;
-      why = h.why;
-      read = h.read;
-      written = all_written start h.requests w w' before now after h.written f none;
-      stands = h.stands;
-      halted =
-          h.halted;
-    }
-closing_well start core past kept stopped (Err (Rotated generation)) told left w w' before now after other h f none =
-    record {
-      requests = h.requests;
-      few = h.few;
-      why = h.why;
-      read = h.read;
-      written = all_written start h.requests w w' before now after h.written f none;
-      stands = h.stands;
-      halted =
-          h.halted;
-    }
-closing_well start core past kept stopped (Err (DamagedInput number)) told left w w' before now after other h f none =
-    record {
-      requests = h.requests;
-      few = h.few;
-      why = h.why;
-      read = h.read;
-      written = all_written start h.requests w w' before now after h.written f none;
-      stands = h.stands;
-      halted =
-          h.halted;
-    }
-closing_well start core past kept stopped (Err WriteFault) told left w w' before now after other h f none =
-    absurd (other refl)
+module _ (start : State) (core : Core) (past : List Request → Type 0) (kept : State → Request
+    → Type 0) (stopped : List Request → Request → Type 0) (told left : Option (List ℕ)) (w w' : List ℕ)
+    (before now after : Option (List ℕ)) where
+  well : (end : Result (Unit {0}) Halt) → (h : Comes start end core past kept stopped told left w before now)
+      → WritesReplies start end h.requests before after → HaltsAt end told h.requests [] start past kept stopped
+      → Ends start end core past kept stopped told left before after
+  well end = ends_so start core past kept stopped end told left w before now after
+
+  written : (requests : List Request) → Written start requests w before now → WritesFront (Ok tt) w w' now after
+      → w' ≡ [] → Writes before (lines start requests) after
+  written requests = all_written start requests w w' before now after
+
+  pub closing_well : (end : Result (Unit {0}) Halt) → (end ≡ Err WriteFault → ⊥)
+      → Comes start end core past kept stopped told left w before now → WritesFront (Ok tt) w w' now after → w' ≡ []
+      → Ends start end core past kept stopped told left before after
+  closing_well (Ok done) other h f none = well _ h (written h.requests h.written f none) h.halted
+  closing_well (Err (BadLine n)) other h f none = well _ h (written h.requests h.written f none) h.halted
+  closing_well (Err ReadFault) other h f none = well _ h (written h.requests h.written f none) h.halted
+  closing_well (Err NoMemory) other h f none = well _ h (written h.requests h.written f none) h.halted
+  closing_well (Err DiskFault) other h f none =
+      well (Err DiskFault) h (written h.requests h.written f none)
+      (h.halted.0, h.halted.1, h.halted.2, refl, h.halted.4, h.halted.5)
+  closing_well (Err (Damaged side number)) other h f none = well _ h (written h.requests h.written f none) h.halted
+  closing_well (Err (Limit number)) other h f none = well _ h (written h.requests h.written f none) h.halted
+  closing_well (Err (Rotated generation)) other h f none = well _ h (written h.requests h.written f none) h.halted
+  closing_well (Err (DamagedInput number)) other h f none = well _ h (written h.requests h.written f none) h.halted
+  closing_well (Err WriteFault) other h f none = absurd (other refl)
 
 -- ---- what is written at a run's end, whichever it is
 
@@ -290,15 +221,15 @@ module _ (w : List ℕ) (now after : Option (List ℕ)) where
         (cuts_stopped stopped end none) shut written h
 
     pub rest_run : (start : State) (core : Core) (past : List Request → Type 0) (kept_so : State → Request
-        → Type 0) (stopped : List Request → Request → Type 0) (told left before : Option (List ℕ)) → (end ≡ Err WriteFault
-        → after ≡ now) → Comes start end core past kept_so stopped told left w before now
+        → Type 0) (stopped : List Request → Request → Type 0) (told left before : Option (List ℕ))
+        → (end ≡ Err WriteFault → after ≡ now) → Comes start end core past kept_so stopped told left w before now
         → Ends start result core past kept_so stopped told left before after
     rest_run start core past kept_so stopped told left before stays h = by (by_end end) where
       so : (end ≡ Err WriteFault → ⊥) → WritesRest end w now after result
           → Ends start result core past kept_so stopped told left before after
       so other (whole is writes) =
           subst (λ (e : Result (Unit {0}) Halt). Ends start e core past kept_so stopped told left before after) (sym is)
-          (closing_well start core past kept_so stopped end told left w [] before now after other h (
+          (closing_well start core past kept_so stopped told left w [] before now after end other h (
             w,
             writes,
             sym (append-nil w),

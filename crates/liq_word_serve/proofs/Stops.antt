@@ -126,7 +126,8 @@ module _ {D : Type 0} (at : D → DiskAt)
           images = images NoFault;
           rests = rest (λ e. cc);
         }
-        by why.NoMemory rest = record { fault = NoFault; fault_is = refl; images = images NoFault; rests = rest (λ e. cc) }
+        by why.NoMemory rest =
+            record { fault = NoFault; fault_is = refl; images = images NoFault; rests = rest (λ e. cc) }
 
   -- ---- the sessions were served
 

@@ -1,6 +1,7 @@
 pub mod Audited
 mod DamagedTold
 mod Generations
+mod Leading
 mod Looking
 mod SomeTold
 pub mod StakeLines

@@ -1,13 +1,11 @@
-use Rattle.std.proofs.Common.{rules, ◌≡◌, ℕ, List, Ok, ap, subst, ◌∙◌, Err, sym}
+use Rattle.std.proofs.Common.{rules, ◌≡◌, ℕ, List, Ok, subst, ◌∙◌, Err, sym}
 use Rattle.liq_types.specs.declared.requests.Command.{Command}
-use Rattle.liq_types.specs.State.{opening_with}
-use Rattle.liq_disk_pair.specs.Replay.{replay}
 use Rattle.liq_word_state.specs.Answers.{asked_text}
 use Rattle.liq_word_exit.specs.Statuses.{End}
-use Rattle.liq_word_state.specs.Leads.{LeadTo}
 use Rattle.liq_word_state.specs.declared.telling.Text.TheVariants as which
 use Rattle.liq_word_state.specs.Told.{WritesSome}
 use Rattle.liq_word_state.specs.Writing.{WritesAnswers, WritesText}
+use Rattle.liq_word_state.proofs.Leading.{led}
 use Rattle.liq_word_state.proofs.SomeTold.{answers_stop}
 use Rattle.liq_word_state.proofs.TextsTold.{answers_written}
 use Rattle.liq_word_state.proofs.answers.write_answers.Goals as goal
@@ -21,13 +19,11 @@ returns-clause-written g c held w s told found stands from_one leads =
     let whole = c.in_ok-whole.ensures.found held w s told found stands from_one leads in
     let commands = c.deref.result.now in
     let are : commands ≡ w.commands = c.deref.ensures.value ∙ whole.1 in
-    let leads : LeadTo commands s = (whole.2.0, ap (replay 1 (opening_with s.limit)) are ∙ whole.2.1) in
-    let led : replay 1 (opening_with c.in_ok-whole.whole.limit) commands ≡ Ok s =
-    ap (λ (limit : ℕ). replay 1 (opening_with limit) commands) whole.0 ∙ leads.1 in
+    let so = led c.in_ok-whole.whole.limit commands w.commands s whole.0 are whole.2 in
     let wrote = subst (λ (limit : ℕ). WritesText (Ok (asked_text asked limit commands)) end before now)
-    whole.0 (c.write_answered.ensures.written s led) in
+    whole.0 (c.write_answered.ensures.written s so.replayed) in
     subst (λ (all : List Command). WritesAnswers s all asked end before now) are
-    (answers_written s commands asked end before now leads wrote)
+    (answers_written s commands asked end before now so.leads wrote)
 
 pub returns-in_err-whole-clause-some : goal.returns-in_err-whole-clause-some
 returns-in_err-whole-clause-some g c =

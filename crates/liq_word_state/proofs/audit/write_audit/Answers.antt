@@ -1,13 +1,11 @@
-use Rattle.std.proofs.Common.{rules, ◌≡◌, ℕ, List, Ok, ap, subst, Err, sym, ◌∙◌}
+use Rattle.std.proofs.Common.{rules, ◌≡◌, ℕ, List, subst, Err, sym, ◌∙◌}
 use Rattle.liq_types.specs.declared.requests.Command.{Command}
-use Rattle.liq_types.specs.State.{opening_with}
-use Rattle.liq_disk_pair.specs.Replay.{replay}
 use Rattle.liq_text_audit.specs.Reviewed.{reviewed}
 use Rattle.liq_word_exit.specs.Statuses.{End}
-use Rattle.liq_word_state.specs.Leads.{LeadTo}
 use Rattle.liq_word_state.specs.declared.telling.Text.TheVariants as which
 use Rattle.liq_word_state.specs.Told.{WritesSome}
 use Rattle.liq_word_state.specs.Writing.{WritesAudit, WritesText}
+use Rattle.liq_word_state.proofs.Leading.{led}
 use Rattle.liq_word_state.proofs.SomeTold.{audit_stops}
 use Rattle.liq_word_state.proofs.TextsTold.{audit_reviewed}
 use Rattle.liq_word_state.proofs.audit.write_audit.Goals as goal
@@ -20,13 +18,11 @@ returns-clause-written g c held w s told found stands from_one leads =
     let whole = c.in_ok-whole.ensures.found held w s told found stands from_one leads in
     let commands = c.deref.result.now in
     let are : commands ≡ w.commands = c.deref.ensures.value ∙ whole.1 in
-    let leads : LeadTo commands s = (whole.2.0, ap (replay 1 (opening_with s.limit)) are ∙ whole.2.1) in
-    let led : replay 1 (opening_with c.in_ok-whole.whole.limit) commands ≡ Ok s =
-    ap (λ (limit : ℕ). replay 1 (opening_with limit) commands) whole.0 ∙ leads.1 in
-    let wrote = c.write_review.ensures.written s (sym whole.0) led in
+    let so = led c.in_ok-whole.whole.limit commands w.commands s whole.0 are whole.2 in
+    let wrote = c.write_review.ensures.written s (sym whole.0) so.replayed in
     let reviewed_so = subst (λ (limit : ℕ). WritesText (reviewed limit commands) end before now) whole.0 wrote.0 in
     subst (λ (all : List Command). WritesAudit s all end before now) are
-    (audit_reviewed s commands end before now leads reviewed_so wrote.1)
+    (audit_reviewed s commands end before now so.leads reviewed_so wrote.1)
 
 pub returns-in_err-whole-clause-some : goal.returns-in_err-whole-clause-some
 returns-in_err-whole-clause-some g c =
