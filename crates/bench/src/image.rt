@@ -46,7 +46,8 @@ where
     let bytes = checkpoint(alloc, accounts)?;
     let [read, begin, tell, write] = best_of(rt, alloc, &bytes, rounds)?;
     println!(rt;
-        "{accounts} accounts: read in {read} us, begun with in {begin}, told in {tell}, written in {write}"
+        "{accounts} accounts: read in {read} us, begun with in {begin}, told in {tell}, \
+         written in {write}"
     )?;
     Ok(begin)
 }

@@ -15,7 +15,8 @@ use std::thread::Threads;
 /// A journal of one command, of version 2.
 const JOURNAL: &[u8] =
     b"\x01LIQJRNL2\x00\x00\x00\x00\x00\x00\x00\x01\x00\x00\x00\x00\x00\x00\x00\x00\
-    \x8a\xc7\x23\x04\x89\xe8\x00\x00\x3c\x06\x68\x8a\x69\x3b\xa1\x79\xd1\x34\x1d\xa5\xad\x38\x32\xe9\
+    \x8a\xc7\x23\x04\x89\xe8\x00\x00\
+    \x3c\x06\x68\x8a\x69\x3b\xa1\x79\xd1\x34\x1d\xa5\xad\x38\x32\xe9\
     \xf1\xbb\x0b\x73\xbf\x33\x2f\x55\x14\x21\xa1\xc3\x4a\x52\x19\xd6\x01";
 
 /// Words that read, a first text, what is answered to it on new disks, and a second text behind an
@@ -57,7 +58,8 @@ const TEXTS: [(&str, &[u8], &[u8], &[u8]); 9] = [
     (
         "follow",
         JOURNAL,
-        b"1000000000 0 0 0 0 0 0 0 0 0\n0 0 0 0 0 0 0 0 0 0\npool 1000000000000000000 0 0 0\njournal 1 0\n",
+        b"1000000000 0 0 0 0 0 0 0 0 0\n0 0 0 0 0 0 0 0 0 0\n\
+          pool 1000000000000000000 0 0 0\njournal 1 0\n",
         b"\x03\x00",
     ),
 ];

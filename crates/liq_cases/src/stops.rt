@@ -22,6 +22,13 @@ struct Between {
     last: usize,
 }
 
+/// What a crash left on the disks, and what may be found on them.
+#[derive(Clone, Copy)]
+struct Crashed<'a> {
+    held: &'a Start,
+    between: Between,
+}
+
 /// The stops of a run.
 struct Stops<'a> {
     stage: &'a Stage<'a>,
@@ -236,11 +243,16 @@ fn check_crashes<R: Threads + Wait + Sync>(
     between: Between,
 ) -> Result<(), AllocError> {
     for held in crashes(rt, stops.stage.alloc, &stops.stopping(stop))? {
-        let Some(first) = find(rt, stops, told, &held, between)? else {
+        let crashed = Crashed {
+            held: &held,
+            between,
+        };
+        let Some(first) = find(rt, stops, told, crashed)? else {
             return Ok(());
         };
         if !stops.has_opened(&held, between.last) {
-            stop_opening(rt, stops, told, &held, Between { first, ..between })?;
+            let between = Between { first, ..between };
+            stop_opening(rt, stops, told, Crashed { between, ..crashed })?;
             stops.opened.push((held, between.last))?;
         }
     }
@@ -253,17 +265,17 @@ fn find<'a, R: Threads + Wait + Sync>(
     rt: &R,
     stops: &'a Stops<'_>,
     told: &mut Report,
-    held: &'a Start,
-    between: Between,
+    crashed: Crashed<'a>,
 ) -> Result<Option<usize>, AllocError> {
-    for lines in between.first..between.last.saturating_add(1) {
-        let devices = stops.asking(lines, held, Stop::NEVER);
+    let Between { first, last } = crashed.between;
+    for lines in first..last.saturating_add(1) {
+        let devices = stops.asking(lines, crashed.held, Stop::NEVER);
         let outcome = run_by_both(rt, stops.stage.alloc, told, &devices)?;
         if outcome.status() == 0 && outcome.output() == stops.found(lines).output.as_slice() {
             return Ok(Some(lines));
         }
     }
-    tell_found(rt, stops, told, held, between)?;
+    tell_found(rt, stops, told, crashed)?;
     Ok(None)
 }
 
@@ -272,14 +284,14 @@ fn tell_found<'a, R: Threads + Wait + Sync>(
     rt: &R,
     stops: &'a Stops<'_>,
     told: &mut Report,
-    held: &'a Start,
-    between: Between,
+    crashed: Crashed<'a>,
 ) -> Result<(), AllocError> {
-    let devices = stops.asking(between.first, held, Stop::NEVER);
+    let lines = crashed.between.first;
+    let devices = stops.asking(lines, crashed.held, Stop::NEVER);
     let outcome = run_by_both(rt, stops.stage.alloc, told, &devices)?;
     told.bytes(
         "found after a crash",
-        &stops.found(between.first).output,
+        &stops.found(lines).output,
         outcome.output(),
     );
     Ok(())
@@ -290,15 +302,14 @@ fn stop_opening<R: Threads + Wait + Sync>(
     rt: &R,
     stops: &Stops<'_>,
     told: &mut Report,
-    held: &Start,
-    between: Between,
+    crashed: Crashed<'_>,
 ) -> Result<(), AllocError> {
     for left in 0..CALLS {
         let stop = Stop {
             left,
             ..Stop::NEVER
         };
-        if !is_stopped(rt, stops, told, held, stop, between)? {
+        if !is_stopped(rt, stops, told, crashed, stop)? {
             break;
         }
     }
@@ -307,7 +318,7 @@ fn stop_opening<R: Threads + Wait + Sync>(
             right,
             ..Stop::NEVER
         };
-        if !is_stopped(rt, stops, told, held, stop, between)? {
+        if !is_stopped(rt, stops, told, crashed, stop)? {
             break;
         }
     }
@@ -320,34 +331,32 @@ fn is_stopped<'a, R: Threads + Wait + Sync>(
     rt: &R,
     stops: &'a Stops<'_>,
     told: &mut Report,
-    held: &'a Start,
+    crashed: Crashed<'a>,
     stop: Stop,
-    between: Between,
 ) -> Result<bool, AllocError> {
-    let devices = stops.asking(between.first, held, stop);
+    let devices = stops.asking(crashed.between.first, crashed.held, stop);
     let outcome = run_by_both(rt, stops.stage.alloc, told, &devices)?;
     if outcome.ended.left.faults() == 0 && outcome.ended.right.faults() == 0 {
         return Ok(false);
     }
     told.number("status of a second opening", 5, outcome.status());
     told.bytes("output of a second opening", DISK_FAULT, outcome.output());
-    check_second_crashes(rt, stops, told, held, stop, between)?;
+    check_second_crashes(rt, stops, told, crashed, &devices)?;
     Ok(true)
 }
 
-/// Crashes both disks in each way after an opening that was stopped. What is as before need not be
-/// opened again.
+/// Crashes both disks in each way after an opening that met these devices and was stopped. What is
+/// as before need not be opened again.
 fn check_second_crashes<'a, R: Threads + Wait + Sync>(
     rt: &R,
     stops: &'a Stops<'_>,
     told: &mut Report,
-    held: &'a Start,
-    stop: Stop,
-    between: Between,
+    crashed: Crashed<'a>,
+    devices: &Devices<'_>,
 ) -> Result<(), AllocError> {
-    let devices = stops.asking(between.first, held, stop);
-    for left_behind in &crashes(rt, stops.stage.alloc, &devices)? {
-        if !is_same(left_behind, held) && find(rt, stops, told, left_behind, between)?.is_none() {
+    for held in &crashes(rt, stops.stage.alloc, devices)? {
+        let left_behind = Crashed { held, ..crashed };
+        if !is_same(held, crashed.held) && find(rt, stops, told, left_behind)?.is_none() {
             return Ok(());
         }
     }

@@ -6,24 +6,4 @@
 #![tactic(auto)]
 
 #[cfg(test)]
-mod checks;
-#[cfg(test)]
-mod cuts;
-#[cfg(test)]
-mod disks;
-#[cfg(test)]
-mod files;
-#[cfg(test)]
-mod found;
-#[cfg(test)]
-mod in_a_row;
-#[cfg(test)]
-mod journals;
-#[cfg(test)]
-mod looks;
-#[cfg(test)]
-mod stops;
-#[cfg(test)]
-mod streams;
-#[cfg(test)]
-mod wire;
+mod tests;

@@ -1,8 +1,8 @@
 //! A sound image: its rows, which can be changed, and its words.
 
 use liq_types::{
-    ClientRow, ClientRows, DepositRow, DepositRows, FinishedRows, FinishedSum, Image, NoMemory,
-    SurplusRow, SurplusRows, TroveRow, TroveRows, WalletRow, WalletRows,
+    ClientRow, ClientRows, DepositRow, DepositRows, FinishedRows, FinishedSum, Image, ImageRow,
+    ImageRows, NoMemory, SurplusRow, SurplusRows, TroveRow, TroveRows, WalletRow, WalletRows,
 };
 use std::alloc::Global;
 
@@ -122,14 +122,13 @@ pub const SOUND: Rows = Rows {
 /// greatest that its rules let them be: what is pending is all of the default pool, the sum is the
 /// most beside its product, and so are a finished sum, a deposit's amount and each deposit's mark.
 pub fn image_of(alloc: Global, rows: &Rows) -> Result<Image, NoMemory> {
-    let mut image = words_alone(alloc);
-    put_rows(&mut image, rows)?;
-    Ok(image)
-}
-
-// The sound image's words, without rows.
-fn words_alone(alloc: Global) -> Image {
-    Image {
+    let wallets = table(alloc, &rows.wallets)?;
+    let troves = table(alloc, &rows.troves)?;
+    let surplus_rows = table(alloc, &rows.surplus_rows)?;
+    let finished = table(alloc, &rows.finished)?;
+    let deposits = table(alloc, &rows.deposits)?;
+    let clients = table(alloc, &rows.clients)?;
+    Ok(Image {
         price: 1_000_000_000,
         minute: 100,
         base: 5_000_000_000_000_000,
@@ -156,13 +155,22 @@ fn words_alone(alloc: Global) -> Image {
         sum: 5_500_000_000_000_000_000,
         total: 5_000_000_000,
         pool_coll: 1_000_000_000,
-        wallets: WalletRows::new(alloc),
-        troves: TroveRows::new(alloc),
-        surplus_rows: SurplusRows::new(alloc),
-        finished: FinishedRows::new(alloc),
-        deposits: DepositRows::new(alloc),
-        clients: ClientRows::new(alloc),
+        wallets,
+        troves,
+        surplus_rows,
+        finished,
+        deposits,
+        clients,
+    })
+}
+
+// A table of these rows.
+fn table<R: ImageRow>(alloc: Global, rows: &[R]) -> Result<ImageRows<R>, NoMemory> {
+    let mut table = ImageRows::new(alloc);
+    for row in rows {
+        table.push(*row)?;
     }
+    Ok(table)
 }
 
 /// Takes all rows out of the image.
@@ -173,55 +181,4 @@ pub fn empty(alloc: Global, image: &mut Image) {
     image.finished = FinishedRows::new(alloc);
     image.deposits = DepositRows::new(alloc);
     image.clients = ClientRows::new(alloc);
-}
-
-fn put_rows(image: &mut Image, rows: &Rows) -> Result<(), NoMemory> {
-    put_wallets(&mut image.wallets, &rows.wallets)?;
-    put_troves(&mut image.troves, &rows.troves)?;
-    put_surplus_rows(&mut image.surplus_rows, &rows.surplus_rows)?;
-    put_finished(&mut image.finished, &rows.finished)?;
-    put_deposits(&mut image.deposits, &rows.deposits)?;
-    put_clients(&mut image.clients, &rows.clients)
-}
-
-fn put_wallets(table: &mut WalletRows, rows: &[WalletRow]) -> Result<(), NoMemory> {
-    for row in rows {
-        table.push(*row)?;
-    }
-    Ok(())
-}
-
-fn put_troves(table: &mut TroveRows, rows: &[TroveRow]) -> Result<(), NoMemory> {
-    for row in rows {
-        table.push(*row)?;
-    }
-    Ok(())
-}
-
-fn put_surplus_rows(table: &mut SurplusRows, rows: &[SurplusRow]) -> Result<(), NoMemory> {
-    for row in rows {
-        table.push(*row)?;
-    }
-    Ok(())
-}
-
-fn put_finished(table: &mut FinishedRows, rows: &[FinishedSum]) -> Result<(), NoMemory> {
-    for row in rows {
-        table.push(*row)?;
-    }
-    Ok(())
-}
-
-fn put_deposits(table: &mut DepositRows, rows: &[DepositRow]) -> Result<(), NoMemory> {
-    for row in rows {
-        table.push(*row)?;
-    }
-    Ok(())
-}
-
-fn put_clients(table: &mut ClientRows, rows: &[ClientRow]) -> Result<(), NoMemory> {
-    for row in rows {
-        table.push(*row)?;
-    }
-    Ok(())
 }

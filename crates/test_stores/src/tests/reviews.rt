@@ -59,7 +59,9 @@ fn refused(rt: HostRuntime) -> Result<(), Fail> {
 fn offsets(alloc: Global, count: u32) -> Result<String, AllocError> {
     let mut calls = String::from_str(
         alloc,
-        "fund 1 100000000000000000\nopen 1 100000000000000000 30000000000000 1000000000000000000 - -\nprovide 1 30000000000000\n",
+        "fund 1 100000000000000000\n\
+         open 1 100000000000000000 30000000000000 1000000000000000000 - -\n\
+         provide 1 30000000000000\n",
     )?;
     for i in 0..count {
         put_trove(&mut calls, 100 + i % 64)?;
@@ -77,8 +79,10 @@ fn put_trove(calls: &mut String, account: u32) -> Result<(), AllocError> {
     )
 }
 
-const REVIEWED: &str =
-    "1 9910000000000 9910000000000 9909999999999 300000001 22885000000000 22885000000000 22884999999999 3600000015\nwithin 1 of 1\n";
+const REVIEWED: &str = "\
+    1 9910000000000 9910000000000 9909999999999 300000001 \
+        22885000000000 22885000000000 22884999999999 3600000015\n\
+    within 1 of 1\n";
 
 // Whether so many offsets are reviewed as this text, and whether there is no review, since they are
 // more than there may be.

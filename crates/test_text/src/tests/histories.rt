@@ -62,8 +62,11 @@ const MIXED: [Entry; 6] = [
     },
 ];
 
-const MIXED_OUTPUT: &[u8] =
-    b"session 2\nno 21 4294967295\nok\nsession 7\nok\nnone\n18446744073709551615\nsession 8\nok\nhistory\n7 1\n2 1\n7 2\n8 1\n2 2\n7 3\n";
+const MIXED_OUTPUT: &[u8] = b"\
+    session 2\nno 21 4294967295\nok\n\
+    session 7\nok\nnone\n18446744073709551615\n\
+    session 8\nok\n\
+    history\n7 1\n2 1\n7 2\n8 1\n2 2\n7 3\n";
 
 // Whether a sink that takes so many bytes in a call, and fails in the call of this number, holds
 // this text then. All is written where no call fails, and then alone.

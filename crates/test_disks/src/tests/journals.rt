@@ -2,8 +2,8 @@
 ghost use Rattle.std.specs.Prelude.{◌≡◌};
 ghost use Rattle.liq_types.specs.declared.requests.Call.TheVariants.{Fund};
 
-use crate::disks::disk;
-use crate::found::{Found, of_opening};
+use crate::tests::disks::disk;
+use crate::tests::found::{Found, of_opening};
 use liq_journal::Journal;
 use liq_outside::Disk;
 use liq_types::{Call, Command};

@@ -1,7 +1,7 @@
 //! A command's 96 bytes by example.
 
-use crate::checks::{NOWHERE, same, shows};
-use crate::journals::fund;
+use crate::tests::checks::{NOWHERE, same, shows};
+use crate::tests::journals::fund;
 use liq_types::{Call, Command, HintWords};
 use liq_wire::{decode, encode};
 

@@ -5,9 +5,9 @@ ghost use Rattle.liq_wire.specs.Fields.{HasHints};
 ghost use Rattle.liq_journal.specs.Crash.{Stands};
 ghost use Rattle.liq_types.specs.Verbs.{is_rotate};
 
-use crate::checks::shows;
-use crate::disks::{TWO_RECORDS, disk};
-use crate::journals::fund;
+use crate::tests::checks::shows;
+use crate::tests::disks::{TWO_RECORDS, disk};
+use crate::tests::journals::fund;
 use liq_journal::Journal;
 use liq_outside::{Disk, MemoryDisk};
 use liq_types::Command;

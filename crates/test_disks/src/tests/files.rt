@@ -1,9 +1,9 @@
 //! A journal in a real file, and disks over devices: in memory, and the system's.
 
-use crate::checks::{NOWHERE, shows};
-use crate::disks::TWO_RECORDS;
-use crate::found::Found;
-use crate::journals::{Opened, append, create, fund, open};
+use crate::tests::checks::{NOWHERE, shows};
+use crate::tests::disks::TWO_RECORDS;
+use crate::tests::found::Found;
+use crate::tests::journals::{Opened, append, create, fund, open};
 use liq_outside::{DeviceDisk, Disk, FileDisk, MemoryDevice};
 use std::alloc::{AllocError, Global};
 use std::fs::{self, File, Files};

@@ -1,10 +1,10 @@
 //! Looks at a disk, and bodies of records read back.
 
-use crate::checks::{NOWHERE, same, shows};
-use crate::disks::{TWO_RECORDS, byte_at, changed, disk};
-use crate::files::{file, make_two};
-use crate::found::{Found, of_header, of_look};
-use crate::journals::fund;
+use crate::tests::checks::{NOWHERE, same, shows};
+use crate::tests::disks::{TWO_RECORDS, byte_at, changed, disk};
+use crate::tests::files::{file, make_two};
+use crate::tests::found::{Found, of_header, of_look};
+use crate::tests::journals::fund;
 use liq_journal::{Journal, Look, look};
 use liq_outside::{Disk, FileDisk, MemoryDisk};
 use liq_types::{Call, Command};

@@ -1,7 +1,7 @@
 //! A disk that is torn.
 
-use crate::checks::shows;
-use crate::disks::disk;
+use crate::tests::checks::shows;
+use crate::tests::disks::disk;
 use liq_outside::{Disk, MemoryDisk};
 use std::alloc::{AllocError, Global};
 use std::test::Fail;

@@ -1,7 +1,7 @@
 use Rattle.std.proofs.Common.{[], ℕ, ap, sym, subst, ◌∙◌}
 use Rattle.liq_journal.specs.Crash.{Stands, beginning, is_odd}
 use Rattle.liq_journal.specs.Written.{and_then}
-use Rattle.test_disks.proofs.in_a_row.two_records.Goals as goal
+use Rattle.test_disks.proofs.tests.in_a_row.two_records.Goals as goal
 
 pub returns-in-Ok-append-2 : goal.returns-in-Ok-append-2
 returns-in-Ok-append-2 g c = λ held told.

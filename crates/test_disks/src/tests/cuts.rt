@@ -1,10 +1,10 @@
 //! A journal of three records, of either version, that is cut at each byte, and one whose bytes are
 //! changed.
 
-use crate::checks::{NOWHERE, shows};
-use crate::disks::{as_version_1, byte_at, changed};
-use crate::found::{Found, of_header};
-use crate::journals::{find_in, journal};
+use crate::tests::checks::{NOWHERE, shows};
+use crate::tests::disks::{as_version_1, byte_at, changed};
+use crate::tests::found::{Found, of_header};
+use crate::tests::journals::{find_in, journal};
 use std::alloc::{AllocError, Global};
 use std::test::Fail;
 

@@ -1,7 +1,7 @@
 //! Sources and sinks: that each form works over real bytes, and that each fault is counted.
 
-use crate::checks::shows;
-use crate::disks::disk;
+use crate::tests::checks::shows;
+use crate::tests::disks::disk;
 use liq_outside::{MemorySink, MemorySource, Sink, Source, StdSink, StdSource};
 use std::alloc::{AllocError, Global};
 use std::io::{self, ErrorKind, Read};
