@@ -12,7 +12,6 @@ use Rattle.liq_types.specs.declared.figures.Client.{Client}
 use Rattle.liq_types.specs.declared.image.Image.{Image}
 use Rattle.liq_types.specs.declared.replies.Done.{Done}
 use Rattle.liq_types.specs.declared.replies.Refusal.TheVariants.{AmountLimit, JournalFull}
-use Rattle.liq_types.specs.declared.requests.Call.{Call}
 use Rattle.liq_types.specs.declared.requests.Call.TheVariants.{Rotate}
 use Rattle.liq_types.specs.declared.requests.Command.{Command}
 use Rattle.liq_types.specs.Length.{checkpoint_length}
@@ -36,11 +35,6 @@ use Rattle.liq_core.specs.Plan.{IsPlannedOn, Plan}
 use Rattle.liq_core.specs.Sound.{IsSound, core_of}
 use Rattle.liq_core.proofs.Noting.{kept_rows, made_sound, made_stands}
 use Rattle.liq_core.proofs.SoundCores.{core_facts, image_back, sound_stands}
-
--- a call that is no rotation
-pub stays_so : (call : Call) → (call ≡ Rotate → ⊥) → is_rotate call ≡ false
-stays_so Rotate other = absurd (other refl)
-stays_so _ other = refl
 
 -- ---- the image
 

@@ -3,7 +3,6 @@ use Rattle.std.proofs.Common.{◌≡◌, ℕ, ◌+◌, ◌-◌, ◌≤◌, List,
 use Rattle.std.specs.Str.{bytes_eq}
 use Rattle.std.proofs.lemmas.List.{take-take, take_at, drop_at, drop-drop}
 use Rattle.liq_types.specs.declared.requests.Command.{Command}
-use Rattle.liq_types.specs.declared.requests.Call.{Call}
 use Rattle.liq_types.specs.declared.requests.Call.TheVariants.{Rotate}
 use Rattle.liq_wire.specs.Fields.{command_of}
 use Rattle.liq_journal.specs.declared.damage.What.{What}
@@ -14,14 +13,11 @@ use Rattle.liq_journal.specs.Records.{begins_whole}
 use Rattle.liq_journal.specs.Looked.{IsRead}
 use Rattle.liq_disk_header.specs.Layout.{piece}
 use Rattle.liq_types.specs.Verbs.{is_rotate}
+use Rattle.liq_types.proofs.Verbs.{not_rotate}
 use Rattle.liq_journal.specs.Written.{record_on, command_from}
 use Rattle.liq_disk_header.specs.RecordDigest.{record_digest}
 use Rattle.liq_journal.proofs.Reading.{is_whole, piece_alike, byte_alike}
 use Rattle.liq_journal.proofs.Told.{if_some}
-
-pub not_rotate : (call : Call) → (call ≡ Rotate → ⊥) → is_rotate call ≡ false
-not_rotate Rotate isnt = absurd (isnt refl)
-not_rotate _ isnt = refl
 
 module _ (generation index place : ℕ) (body stored computed : List ℕ) (size : length body ≡ 96) (is : computed
     ≡ record_digest generation index body) where

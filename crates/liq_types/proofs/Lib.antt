@@ -1,5 +1,6 @@
 pub mod Accounts
 pub mod Ascending
+pub mod Clients
 pub mod FinishedSums
 mod Least
 pub mod Lookups
@@ -13,4 +14,5 @@ pub mod SameRows
 pub mod Sums
 pub mod Tests
 pub mod UsedRows
+pub mod Verbs
 pub mod Watching

@@ -13,7 +13,7 @@ use Rattle.liq_core_hinted.proofs.Steps.{counts_on, generation_stays}
 use Rattle.liq_journal.specs.Crash.{beginning}
 use Rattle.liq_journal.specs.Settled.{JournalOn}
 use Rattle.liq_journal.specs.Written.{is_odd, is_size}
-use Rattle.liq_journal.proofs.Testing.{not_rotate}
+use Rattle.liq_types.proofs.Verbs.{not_rotate}
 use Rattle.liq_disk_pair.specs.declared.side.Side.{Side}
 use Rattle.liq_disk_pair.specs.Kept.{IsRotationOf}
 use Rattle.liq_disk_pair.specs.Sides.{on, other}
