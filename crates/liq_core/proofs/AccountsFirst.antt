@@ -12,7 +12,8 @@ use Rattle.liq_core.specs.declared.turns.PlanFault.{PlanFault}
 use Rattle.liq_core.specs.declared.turns.PlanFault.TheVariants.{No, NoMemory}
 use Rattle.liq_core.specs.Turn.{Forecasts, ForecastsCall}
 use Rattle.liq_core.proofs.Reading.{allowed_so, refused_so}
-use Rattle.liq_rule_step.proofs.Ruled.{none_first_of, some_first}
+use Rattle.liq_types.proofs.Refused.{passed}
+use Rattle.liq_rule_step.proofs.Ruled.{some_first}
 
 pub refused_range : (s : State) (call : Call) (refusal : Refusal) → Err refusal ≡ ruled (map in_range (accounts call))
     → ForecastsCall s call (Err (No refusal))
@@ -22,14 +23,14 @@ refused_range s call refusal h = some_first (map in_range (accounts call)) (rule
 pub passed_range : (s : State) (call : Call) (planned : Result Forecast PlanFault)
     → Ok tt ≡ ruled (map in_range (accounts call)) → Forecasts s call planned → ForecastsCall s call planned
 passed_range s call (Ok forecast) h are = (
-  none_first_of (map in_range (accounts call)) (rules s call) (allowed_so (map in_range (accounts call)) tt tt
+  passed (map in_range (accounts call)) (rules s call) (allowed_so (map in_range (accounts call)) tt tt
       (sym h)).0 ∙ are.0,
   are.1,
 )
-passed_range s call (Err (No refusal)) h are = none_first_of (map in_range (accounts call)) (rules s call)
+passed_range s call (Err (No refusal)) h are = passed (map in_range (accounts call)) (rules s call)
     (allowed_so (map in_range (accounts call)) tt tt (sym h)).0 ∙ are
 passed_range s call (Err NoMemory) h are = (
   are.0,
-  none_first_of (map in_range (accounts call)) (rules_before_list s call)
+  passed (map in_range (accounts call)) (rules_before_list s call)
       (allowed_so (map in_range (accounts call)) tt tt (sym h)).0 ∙ are.1,
 )

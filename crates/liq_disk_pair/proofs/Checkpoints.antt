@@ -1,8 +1,8 @@
 -- The checkpoints of the examples.
 use Rattle.std.proofs.Common.{◌≡◌, ℕ, ◌<◌, ◌^◌, List, length, Ok, refl, sym, subst, arith}
-use Rattle.std.specs.List.Sorted.{IsStrictlySortedBy}
 use Rattle.liq_types.specs.Image.{IsLimit}
 use Rattle.liq_types.specs.Soundness.{HasTables}
+use Rattle.liq_types.proofs.Clients.{clients_alone}
 use Rattle.liq_checkpoint.specs.Reading.{image_at}
 use Rattle.liq_checkpoint.specs.Spelling.{Fit, HasCheckpoint, contents, spelling}
 use Rattle.liq_checkpoint.proofs.Images.{is_read}
@@ -13,20 +13,8 @@ module _ (limit : ℕ) (is : IsLimit limit) (price : ℕ) (few : price < 2 ^ 64)
   numbers = omega arith
 
   tables : HasTables (rotated_with limit price)
-  unfolding IsStrictlySortedBy
-  tables = record {
-    wallets = tt;
-    used_wallets = tt;
-    troves = tt;
-    surplus = tt;
-    some_surplus = tt;
-    finished = tt;
-    some_finished = tt;
-    deposits = tt;
-    some_deposits = tt;
-    clients = (tt, tt);
-    client_rows = (record { last = omega arith; kind = (omega arith, omega arith); values = refl }, tt);
-  }
+  tables = clients_alone (rotated_with limit price) (rotated_with limit price).clients (tt, tt)
+      (record { last = omega arith; kind = (omega arith, omega arith); values = refl }, tt)
 
   has : HasCheckpoint (rotated_with limit price)
   has = record { numbers = numbers; tables = tables; limit = is }

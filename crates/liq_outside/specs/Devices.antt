@@ -13,6 +13,10 @@ pub record OverDevice (V : Type 0) : Type 0 where
   -- how many of its calls have failed
   pub faults : ℕ
 
+-- what is told of a disk's device, where it has one that tells it
+abbrev pub of_device : {V A : Type 0} → (V → Option A) → OverDevice V → Option A
+of_device told disk = option_and_then told disk.device
+
 -- each failure is counted, where that is told, and nothing else
 abbrev pub TellsFailure : {T E : Type 0} → Result T E → Option ℕ → Option ℕ → Type 0
 TellsFailure result before after =
@@ -25,9 +29,7 @@ pub record IsCall
     : Type 0 where
   pub missing : old.device ≡ None → IsErr result
   pub there : is_some new.device ≡ is_some old.device
-  pub caused :
-      TellsFailure result (option_and_then failures old.device)
-      (option_and_then failures new.device)
+  pub caused : TellsFailure result (of_device failures old) (of_device failures new)
   pub counted : CountsFailure result old.faults new.faults
 
 -- a device in memory

@@ -1,8 +1,8 @@
 //! A device as a disk: each of its calls is made again until all is done. As such it tells no
 //! content, and any image may be left.
-ghost use Rattle.std.specs.Prelude.{◌≡◌, ◌≤◌, ◌+◌, ◌-◌, ◌^◌, None, Some, List, ℕ, is_some, length, min, take, drop, option_and_then, IfOk, IfSome, OnOk};
+ghost use Rattle.std.specs.Prelude.{◌≡◌, ◌≤◌, ◌+◌, ◌-◌, ◌^◌, None, Some, List, ℕ, is_some, length, min, take, drop, IfOk, IfSome, OnOk};
 ghost use Rattle.liq_outside.specs.Adapters.{AnyImage, CountsFailure, CountsSuccess};
-ghost use Rattle.liq_outside.specs.Devices.{IsCall, TellsFailure};
+ghost use Rattle.liq_outside.specs.Devices.{IsCall, TellsFailure, of_device};
 ghost use Rattle.liq_outside.specs.Disk.{Follows, Torn, overwritten};
 ghost use Rattle.liq_outside.specs.Faults.{HasCause};
 
@@ -69,10 +69,8 @@ impl<V: Device> Disk for DeviceDisk<V> {
     ghost seen_may_stay = { λ disk held is. tt };
 
     fn length(&mut self) -> Result<u64, Failed>
-        ensures told { IfOk result (λ n. IfSome (option_and_then V.held self.old.device)
-            (λ old. n ≡ length old)) }
-        ensures same { option_and_then V.held self.new.device
-            ≡ option_and_then V.held self.old.device }
+        ensures told { IfOk result (λ n. IfSome (of_device V.held self.old) (λ old. n ≡ length old)) }
+        ensures same { of_device V.held self.new ≡ of_device V.held self.old }
         ensures moment { self.new.moment ≡ self.old.moment }
         ensures called { IsCall V.failures self.old self.new result }
         ensures cause { HasCause self.old.faults self.new.faults result }
@@ -88,11 +86,10 @@ impl<V: Device> Disk for DeviceDisk<V> {
         ensures fits { IfOk result (λ n. n ≤ length buf.old) }
         // Up to place 2^64, beyond which there is none.
         ensures told { place + length buf.old ≤ 2 ^ 64
-            → IfOk result (λ n. IfSome (option_and_then V.held self.old.device) (λ old.
+            → IfOk result (λ n. IfSome (of_device V.held self.old) (λ old.
             (n ≡ min (length buf.old) (length old - place))
             × (take n buf.new ≡ take n (drop place old)))) }
-        ensures same { option_and_then V.held self.new.device
-            ≡ option_and_then V.held self.old.device }
+        ensures same { of_device V.held self.new ≡ of_device V.held self.old }
         ensures moment { self.new.moment ≡ self.old.moment }
         ensures called { IsCall V.failures self.old self.new result }
         ensures cause { HasCause self.old.faults self.new.faults result }
@@ -107,8 +104,8 @@ impl<V: Device> Disk for DeviceDisk<V> {
     fn write_at(&mut self, place: u64, bytes: &[u8]) -> Result<(), Failed>
         requires limit { place + length bytes.now ≤ 2 ^ 40 }
         ensures written { OnOk result ((old : List ℕ)
-            → option_and_then V.held self.old.device ≡ Some old → place ≤ length old
-            → option_and_then V.held self.new.device ≡ Some (overwritten old place bytes.now)) }
+            → of_device V.held self.old ≡ Some old → place ≤ length old
+            → of_device V.held self.new ≡ Some (overwritten old place bytes.now)) }
         ensures crash { Follows (Torn place (length bytes.now)) AnyImage AnyImage }
         ensures moment { CountsSuccess result self.old.moment self.new.moment }
         ensures called { IsCall V.failures self.old self.new result }
@@ -123,10 +120,8 @@ impl<V: Device> Disk for DeviceDisk<V> {
     }
 
     fn sync(&mut self) -> Result<(), Failed>
-        ensures synced { OnOk result (option_and_then V.synced self.new.device
-            ≡ option_and_then V.held self.old.device) }
-        ensures same { option_and_then V.held self.new.device
-            ≡ option_and_then V.held self.old.device }
+        ensures synced { OnOk result (of_device V.synced self.new ≡ of_device V.held self.old) }
+        ensures same { of_device V.held self.new ≡ of_device V.held self.old }
         ensures moment { CountsSuccess result self.old.moment self.new.moment }
         ensures called { IsCall V.failures self.old self.new result }
         ensures cause { HasCause self.old.faults self.new.faults result }

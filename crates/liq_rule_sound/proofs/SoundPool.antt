@@ -20,14 +20,15 @@ use Rattle.liq_types.specs.Totals.{pool_total}
 use Rattle.liq_types.specs.WellFormed.{IsBefore, IsMoment, IsWellFormed, Ascends}
 use Rattle.liq_types.proofs.Ascending.{none-ascends}
 use Rattle.liq_types.proofs.FinishedSums.{finished-ascend}
-use Rattle.liq_types.proofs.MapRows.{all-put, all-without, all-weaken, map-put, map-without, map-cong}
-use Rattle.liq_types.proofs.Places.{IsUpTo, up_to_trans, before_up_to, up_to_other, is_place-same, is_place-itself, list_reaches, rises-snoc, sum_shown, sum_after, finished_after, sum-snoc, finished-snoc}
+use Rattle.liq_types.proofs.MapRows.{all-put, all-without, all-weaken, map-put, map-without}
+use Rattle.liq_types.proofs.Places.{IsUpTo, up_to_trans, before_up_to, up_to_other, is_place-same, is_place-itself, list_reaches, rises-snoc, sum_shown, sum_after, finished_after, finished-snoc}
 use Rattle.liq_types.proofs.Ranges.{offset_within, rise_few}
 use Rattle.liq_types.proofs.Sums.{leaves_part, takes_all, stays_within, finishes_within}
 use Rattle.liq_stability.specs.Own.{owned, offset, amount_after}
 use Rattle.liq_stability.specs.Position.{words_of, deposit_row}
-use Rattle.liq_stability.proofs.Pool.{mark-full, offset_now, words-snoc, deposit-grown}
+use Rattle.liq_stability.proofs.Pool.{mark-full, offset_now, words-snoc}
 use Rattle.liq_rule_step.specs.Image.{image}
+use Rattle.liq_rule_step.proofs.Alike.{offset-image, offset_by, words_by}
 use Rattle.liq_types.proofs.Tests.{not_zero}
 
 -- the words, the finished sums and the deposits
@@ -293,21 +294,8 @@ module _ (most : ℕ) (served : most ≤ 10 ^ (9 * RISES_MOST)) (w : PoolPart) (
 
 pub part_offset : (s : State) → IsWellFormed s → (debt coll : ℕ) → part_of (image (offset s debt coll))
     ≡ offset_part (part_of (image s)) (offset_now s debt coll)
-part_offset s f debt coll =
-    let o = offset_now s debt coll in
-    let made = part_of (image (offset s debt coll)) in
-    let target = offset_part (part_of (image s)) o in
-    ap (λ (rows : Table Deposit). record made { deposits = rows }) (map-cong (deposit_row (offset s debt coll))
-    (deposit_row s) (λ d. IsMoment (length s.offsets) d.mark) (deposit-grown s debt coll) s.deposits f.2)
-    ∙ ap (λ (v : ScaledProduct). record made {
-      deposits = target.deposits;
-      p = v.p;
-      scale = v.scale;
-      epoch = v.epoch;
-      sum = sumat s.start (s.offsets ++ o ∷ []) (place_of v);
-    }) (words-snoc s debt coll)
-    ∙ ap (λ n. record target { sum = n; finished = made.finished }) (sum-snoc s.start s.offsets o f.0)
-    ∙ ap (λ (t : List (EpochScale × ℕ)). record target { finished = t }) (finished-snoc s.start s.offsets o)
+unfolding offset_by words_by
+part_offset s f debt coll = ap part_of (offset-image s f debt coll)
 
 -- no place's sum falls
 sums_more : (s : State) → IsWellFormed s → (debt coll : ℕ) → (q : EpochScale)

@@ -6,6 +6,7 @@ use Rattle.liq_types.specs.Image.{IsLimit, opening_image_with}
 use Rattle.liq_types.specs.Tables.{EpochScale}
 use Rattle.liq_types.specs.Soundness.{IsSoundImage, first_unsound}
 use Rattle.liq_types.specs.State.{opening_with, started}
+use Rattle.liq_types.proofs.Clients.{clients_alone}
 use Rattle.liq_types.specs.WellFormed.{AreFinished, IsBefore}
 use Rattle.std.proofs.lemmas.Map.Made.{keys_of-map_values}
 use Rattle.std.specs.List.Sorted.{IsStrictlySortedBy}
@@ -47,24 +48,8 @@ started_sound i h = started_with i 0 h
 
 -- the opening, under either limit
 pub opening_image_sound : (limit : ℕ) → IsLimit limit → IsSoundImage (opening_image_with limit) 0
-unfolding IsStrictlySortedBy
 opening_image_sound limit known =
-    record {
-      rules = ruled known;
-      tables = record {
-        wallets = tt;
-        used_wallets = tt;
-        troves = tt;
-        surplus = tt;
-        some_surplus = tt;
-        finished = tt;
-        some_finished = tt;
-        deposits = tt;
-        some_deposits = tt;
-        clients = tt;
-        client_rows = tt;
-      };
-    }
+    record { rules = ruled known; tables = clients_alone (opening_image_with limit) [] tt tt }
   where
     ruled : IsLimit limit → first_unsound (opening_image_with limit) 0 ≡ None
     ruled (inl lesser) = ap (λ n. first_unsound (opening_image_with n) 0) lesser

@@ -134,7 +134,7 @@ redistribute-image s coll debt h =
 
 -- ---- the Stability Pool, by the image
 
-pub words_by : Image → ScaledProduct
+unfoldable pub words_by : Image → ScaledProduct
 words_by i = record { p = i.p; scale = i.scale; epoch = i.epoch }
 
 pub mark_by : Deposit → PoolMark
@@ -238,7 +238,7 @@ unfolding own
 owned_coll s w account put_in out = ap (λ (i : Image). i.pool_coll) (own-image s w account put_in out)
 
 -- an offset
-pub offset_by : Image → ℕ → ℕ → Image
+unfoldable pub offset_by : Image → ℕ → ℕ → Image
 offset_by i debt coll =
     let o : PoolOffset = record { debt = debt; coll = coll; total = i.total } in
     let w = words_by i in

@@ -8,6 +8,7 @@ use Rattle.liq_types.specs.declared.replies.Refusal.{Refusal}
 use Rattle.liq_types.specs.declared.replies.Refusal.TheVariants.{AccountRange, OutOfTurn}
 use Rattle.liq_types.specs.declared.requests.Command.{Command}
 use Rattle.liq_types.specs.Rules.{Rule, first_refusal}
+use Rattle.liq_types.proofs.Refused.{passed}
 use Rattle.liq_types.specs.State.{State, client_of}
 use Rattle.liq_rule_step.specs.Queries.{next_number}
 use Rattle.liq_rule_step.specs.Step.{Refused, Repeated, Allowed, unless_refused, ruling, rules, accounts, in_range, is_repeated, tests, room_rules}
@@ -21,16 +22,6 @@ some_first (rule ∷ front) more refusal h = by rule.0 h (some_first front more 
       → first_refusal (front ++ more) ≡ Some refusal) → cond b (Some rule.1) (first_refusal (front ++ more))
       ≡ Some refusal
   by true e later = e
-  by false e later = later e
-
-pub none_first_of : (front more : List Rule) → first_refusal front ≡ None → first_refusal (front ++ more)
-    ≡ first_refusal more
-none_first_of [] more h = refl
-none_first_of (rule ∷ front) more h = by rule.0 h (none_first_of front more) where
-  by : (b : Bool) → cond b (Some rule.1) (first_refusal front) ≡ None → (first_refusal front ≡ None
-      → first_refusal (front ++ more) ≡ first_refusal more) → cond b (Some rule.1) (first_refusal (front ++ more))
-      ≡ first_refusal more
-  by true e later = cc
   by false e later = later e
 
 -- what the tests of a client's next command say
@@ -63,10 +54,10 @@ refused_call s c refusal within next h =
 pub refused_room : (s : State) (c : Command) (refusal : Refusal) → c.client < ACCOUNTS
     → c.number ≡ (client_of s c.client).last + 1 → first_refusal (map in_range (accounts c.call) ++ rules s c.call)
     ≡ None → first_refusal (room_rules s c) ≡ Some refusal → ruling s c ≡ Refused refusal
-refused_room s c refusal within next passed h =
+refused_room s c refusal within next none h =
     next_ruling s c within next
-    ∙ ap (λ (o : Option Refusal). unless_refused o Allowed) (none_first_of (map in_range (accounts c.call)
-    ++ rules s c.call) (room_rules s c) passed ∙ h)
+    ∙ ap (λ (o : Option Refusal). unless_refused o Allowed) (passed (map in_range (accounts c.call)
+    ++ rules s c.call) (room_rules s c) none ∙ h)
 
 -- the accounts of a call that nothing refuses
 pub accounts_within : (numbers : List ℕ) (more : List Rule) → first_refusal (map in_range numbers ++ more) ≡ None
@@ -83,7 +74,7 @@ accounts_within (n ∷ ns) more h =
 pub allowed_call : (s : State) (c : Command) → c.client < ACCOUNTS → c.number ≡ (client_of s c.client).last + 1
     → first_refusal (map in_range (accounts c.call) ++ rules s c.call) ≡ None → first_refusal (room_rules s c) ≡ None
     → ruling s c ≡ Allowed
-allowed_call s c within next passed room =
+allowed_call s c within next none room =
     next_ruling s c within next
-    ∙ ap (λ (o : Option Refusal). unless_refused o Allowed) (none_first_of (map in_range (accounts c.call)
-    ++ rules s c.call) (room_rules s c) passed ∙ room)
+    ∙ ap (λ (o : Option Refusal). unless_refused o Allowed) (passed (map in_range (accounts c.call)
+    ++ rules s c.call) (room_rules s c) none ∙ room)

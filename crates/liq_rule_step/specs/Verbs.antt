@@ -1,4 +1,4 @@
--- The verbs: their places in the list, the accounts that they name, and what they do.
+-- The verbs: their places in the list, the accounts that they name, and whether they plan a list.
 use Rattle.std.specs.Prelude.{ℕ, Bool, true, false, List, [], ◌∷◌, None}
 use Rattle.liq_types.specs.declared.hints.HintWords.{HintWords}
 use Rattle.liq_types.specs.declared.requests.Call.{Call}
@@ -46,27 +46,6 @@ accounts (LiquidateLowest liquidator count) = liquidator ∷ []
 accounts (Redeem account lusd bound hint) = account ∷ []
 accounts (Claim account) = account ∷ []
 accounts Rotate = []
-
--- the accounts whose wallets are written: the owner of a liquidated trove gets nothing there
-abbrev pub pays : Call → List ℕ
-pays (Liquidate liquidator account) = liquidator ∷ []
-pays call = accounts call
-
--- the accounts for which a trove comes into being
-abbrev pub opens : Call → List ℕ
-opens (Open account coll borrow bound hint) = account ∷ []
-opens _ = []
-
--- the accounts for which a deposit may come into being
-abbrev pub provides : Call → List ℕ
-provides (Provide account lusd) = account ∷ []
-provides _ = []
-
--- whether the verb liquidates troves
-abbrev pub liquidates : Call → Bool
-liquidates (Liquidate liquidator account) = true
-liquidates (LiquidateLowest liquidator count) = true
-liquidates _ = false
 
 -- whether more than a bounded number of troves may be planned for, as a list
 abbrev pub plans_list : Call → Bool
