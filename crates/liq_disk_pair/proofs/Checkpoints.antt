@@ -1,5 +1,6 @@
 -- The checkpoints of the examples.
 use Rattle.std.proofs.Common.{◌≡◌, ℕ, ◌<◌, ◌^◌, List, length, Ok, refl, sym, subst, arith}
+use Rattle.std.specs.List.Sorted.{IsStrictlySortedBy}
 use Rattle.liq_types.specs.Image.{IsLimit}
 use Rattle.liq_types.specs.Soundness.{HasTables}
 use Rattle.liq_types.proofs.Clients.{clients_alone}
@@ -13,6 +14,7 @@ module _ (limit : ℕ) (is : IsLimit limit) (price : ℕ) (few : price < 2 ^ 64)
   numbers = omega arith
 
   tables : HasTables (rotated_with limit price)
+  unfolding IsStrictlySortedBy
   tables = clients_alone (rotated_with limit price) (rotated_with limit price).clients (tt, tt)
       (record { last = omega arith; kind = (omega arith, omega arith); values = refl }, tt)
 

@@ -48,6 +48,7 @@ started_sound i h = started_with i 0 h
 
 -- the opening, under either limit
 pub opening_image_sound : (limit : ℕ) → IsLimit limit → IsSoundImage (opening_image_with limit) 0
+unfolding IsStrictlySortedBy
 opening_image_sound limit known =
     record { rules = ruled known; tables = clients_alone (opening_image_with limit) [] tt tt }
   where
