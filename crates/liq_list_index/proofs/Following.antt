@@ -1,5 +1,5 @@
 -- Keys of accounts follow a list through each change.
-use Rattle.std.proofs.Common.{◌≡◌, ℕ, ℤ, Bool, true, false, cond, List, [], ◌∷◌, refl, sym, ap, ◌∙◌, Some, None, Option}
+use Rattle.std.proofs.Common.{◌≡◌, ℕ, ℤ, Bool, true, false, cond, List, [], ◌∷◌, refl, sym, ap, ◌∙◌, subst, Some, None, Option}
 use Rattle.std.specs.Prelude.{◌==◌, not, ◌&&◌, ◌||◌}
 use Rattle.std.specs.Ordering.{int_cmp, nat_cmp, is_eq, ordering_then}
 use Rattle.std.specs.declared.cmp.Ordering.{Ordering}
@@ -102,3 +102,16 @@ put key other list account place sent h =
                 ≡ is_key (cond b (Some place) (key e.1)) e.0
             by true = own (is_eq (int_cmp e.0 place))
             by false = others (is_eq (int_cmp e.0 place)) (is_key (key e.1) e.0)
+
+-- what is left where its entry was put in and it was noted under its key, as the key is kept
+pub has_put : (old new : Parts) (list places : List Ranked) (account : ℕ) (place kept : ℤ) → kept ≡ place
+    → ((a : ℕ) → account_key new a ≡ moved (account_key old) account (settled_at (Some kept)) a)
+    → places ≡ with_ranked (without_ranked list account) (place, account) → Follows (key_at old) list
+    → Follows (key_at new) places × (places ≡ with_ranked (without_ranked list account) (place, account))
+has_put old new list places account place kept same moves is h = (
+  subst (Follows (key_at new)) (sym is) (put (key_at old) (key_at new) list account place
+      (sent old new account (Some place) at) h),
+  is,
+) where
+  at : (a : ℕ) → account_key new a ≡ moved (account_key old) account (settled_at (Some place)) a
+  at a = moves a ∙ ap (λ (z : ℤ). moved (account_key old) account (settled_at (Some z)) a) same

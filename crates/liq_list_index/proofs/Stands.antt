@@ -14,7 +14,8 @@ use Rattle.liq_list_keys.specs.Parts.{Parts, account_key}
 use Rattle.liq_list_keys.specs.AccountKey.{settled_at, side_of}
 use Rattle.liq_list_keys.proofs.Moving.{turned}
 use Rattle.liq_list_index.specs.Followed.{all_listed}
-use Rattle.liq_list_index.specs.Rows.{key_at, next_at, side_at, names, AreSettledBeside, is_in, is_key, Follows, Holds}
+use Rattle.liq_list_index.specs.Rows.{key_at, next_at, side_at, names, AreAsBefore, AreSettledBeside, is_in, is_key, Follows, HasTried, Holds}
+use Rattle.liq_list_index.specs.declared.rows.Rows.{Rows}
 use Rattle.liq_list_keys.specs.declared.key_index.AccountKey.{AccountKey}
 use Rattle.liq_list_index.proofs.Following.{list_of_views}
 use Rattle.liq_list_index.proofs.Holding.{ended, given_up, nothing_given, ready, same_keys, same_sides}
@@ -141,18 +142,19 @@ module _ (made : Bool) (stands ready after : Parts) (list places : List Ranked) 
       (subst (λ b. Holds (side_at b after) (side_at (not b) after) places) not_made holds) stood in
       (it, subst (Follows (key_at after)) (sym it) stood)
 
+-- rows that are as before follow the list that they followed
+pub as_before : (old new : Rows) → AreAsBefore old new → Follows (key_at old.stands) old.places
+    → Follows (key_at new.stands) new.places
+as_before old new same h =
+    subst (λ (stands : Parts). Follows (key_at stands) new.places) (sym same.1)
+    (subst (Follows (key_at old.stands)) (sym same.0) h)
+
 -- one change alone, without notes
-pub followed_alone : {T E : Type 0} (r : Result T E) (stands after : Parts) (list places : List Ranked)
-    (changes : List ListChange) → Follows (key_at stands) list → OnOk r (Follows (key_at stands) list
-    → Follows (key_at after) places × (places ≡ all_listed list changes)) → OnErr r (Follows (key_at stands) list
-    → (places ≡ list) × (after ≡ stands)) → IsEnded r after list places changes
-followed_alone (Ok x) stands after list places changes h ok err = let it = ok h in (it.1, it.0)
-followed_alone (Err e) stands after list places changes h ok err =
-    let same = err h in (
-      same.0,
-      subst (λ (rows : Parts). Follows (key_at rows) places) (sym same.1)
-          (subst (Follows (key_at stands)) (sym same.0) h),
-    )
+pub followed_alone : {T E : Type 0} (r : Result T E) (old new : Rows) (changes : List ListChange)
+    → Follows (key_at old.stands) old.places → HasTried old new (all_listed old.places changes) (Some r)
+    → IsEnded r new.stands old.places new.places changes
+followed_alone (Ok x) old new changes h made = (made.1, made.0)
+followed_alone (Err e) old new changes h same = (same.0, as_before old new same h)
 
 -- as contracts say it
 pub listed_if_ok : {T E : Type 0} (r : Result T E) (list places old : List Ranked) (changes : List ListChange)

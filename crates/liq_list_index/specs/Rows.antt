@@ -1,7 +1,7 @@
 -- The rows of a guide: the entries of the list, and for each account its key and its next one,
 -- which it has after the changes that are being followed.
 use Rattle.std.specs.Prelude.{◌≡◌, ◌≢◌, ◌==◌, ◌||◌, ℕ, ℤ, Bool, true, false}
-use Rattle.std.specs.Prelude.{List, [], ◌∷◌, Option, Some, None}
+use Rattle.std.specs.Prelude.{List, [], ◌∷◌, Option, Some, None, Result, Ok, Err}
 use Rattle.std.specs.List.{AllByRecursion, list_any}
 use Rattle.std.specs.BTreeMap.{is_at}
 use Rattle.std.specs.Ordering.{int_cmp, is_eq}
@@ -10,6 +10,7 @@ use Rattle.liq_types.specs.declared.events.ListChange.TheVariants.{Put, Gone, Wo
 use Rattle.liq_types.specs.Ranked.{Ranked, rank_order, IsAscending}
 use Rattle.liq_list_keys.specs.Parts.{Parts, account_key}
 use Rattle.liq_list_keys.specs.AccountKey.{side_of}
+use Rattle.liq_list_index.specs.declared.rows.Rows.{Rows}
 
 -- ---- an account
 
@@ -62,3 +63,16 @@ pub record Holds (keeps : ℕ → Option ℤ) (gives : ℕ → Option ℤ) (plac
 abbrev pub StandOnce : List Ranked → Type 0
 StandOnce [] = Unit {0}
 StandOnce (e ∷ es) = AllByRecursion (λ (f : Ranked). f.1 ≢ e.1) es × StandOnce es
+
+-- ---- one change alone
+
+-- the entries, and what is kept of each account, are as before
+abbrev pub AreAsBefore : Rows → Rows → Type 0
+AreAsBefore old new = (new.places ≡ old.places) × (new.stands ≡ old.stands)
+
+-- what an attempt leaves that may want memory: where it is made, the rows follow this list; where
+-- memory is wanting, and where it is not made, they are as before
+abbrev pub HasTried : {T E : Type 0} → Rows → Rows → List Ranked → Option (Result T E) → Type 0
+HasTried old new list (Some (Ok x)) = Follows (key_at new.stands) new.places × (new.places ≡ list)
+HasTried old new list (Some (Err e)) = AreAsBefore old new
+HasTried old new list None = AreAsBefore old new

@@ -12,14 +12,14 @@
 //! between an account may stand there under its key and its next one at once: `prepare` takes no
 //! entry out, so `settle` can go either way, and takes no memory.
 
-ghost use Rattle.std.specs.Prelude.{◌≡◌, ◌==◌, ℕ, ℤ, true, false, [], Some, None, List, is_ok, not, if◌then◌else◌, OnOk, OnErr, IsOk, IfOk, IfSome, IfNone, MatchOption};
+ghost use Rattle.std.specs.Prelude.{◌≡◌, ◌==◌, ℕ, ℤ, true, false, [], Some, None, List, is_ok, not, if◌then◌else◌, OnOk, IsOk, IfOk, IfSome, MatchOption};
 ghost use Rattle.std.specs.Ordering.{is_eq};
 ghost use Rattle.liq_types.specs.Ranked.{Ranked, rank_order, IsAscending};
 ghost use Rattle.liq_list_keys.specs.Parts.{account_key};
 ghost use Rattle.liq_list_keys.specs.AccountKey.{nowhere, moved, settled_at, side_of};
 ghost use Rattle.liq_types.specs.declared.events.ListChange.TheVariants.{Put, Gone};
 ghost use Rattle.liq_list_index.specs.Followed.{listed, all_listed};
-ghost use Rattle.liq_list_index.specs.Rows.{Follows, Holds, AreSettledBeside, StandOnce, names, named_by, key_at, next_at, side_at, is_in, is_key};
+ghost use Rattle.liq_list_index.specs.Rows.{Follows, HasTried, Holds, AreSettledBeside, StandOnce, names, named_by, key_at, next_at, side_at, is_in, is_key};
 
 use crate::entry_sets::{EntrySets, WideEntry};
 use liq_list_keys::{AccountKey, KeyIndex, ShortKey};
@@ -63,16 +63,10 @@ impl Rows {
     // also with new words behind it, as where a trove is liquidated. Others are not followed. Then,
     // and where there is no memory, all is as before.
     pub(crate) fn follow_one(&mut self, changes: &[ListChange]) -> Option<Result<(), NoMemory>>
-        ensures followed { IfSome result
-            (λ r. OnOk r (Follows (key_at self.old.stands) self.old.places
-            → Follows (key_at self.new.stands) self.new.places
-            × (self.new.places ≡ all_listed self.old.places changes.now))) }
+        ensures tried { Follows (key_at self.old.stands) self.old.places
+            → HasTried self.old self.new (all_listed self.old.places changes.now) result }
         ensures settled { AreSettledBeside self.old.stands []
             → AreSettledBeside self.new.stands [] }
-        ensures err { IfSome result (λ r. OnErr r (Follows (key_at self.old.stands) self.old.places
-            → (self.new.places ≡ self.old.places) × (self.new.stands ≡ self.old.stands))) }
-        ensures stays { IfNone result ((self.new.places ≡ self.old.places)
-            × (self.new.stands ≡ self.old.stands)) }
     {
         match *changes {
             [ListChange::Put { key, account }] => self.put_one(key, account),
@@ -84,63 +78,22 @@ impl Rows {
 
     // Puts an account under a key that can be kept, where it is kept or stands nowhere.
     fn put_one(&mut self, key: i128, account: u32) -> Option<Result<(), NoMemory>>
-        ensures followed { IfSome result
-            (λ r. OnOk r (Follows (key_at self.old.stands) self.old.places
-            → Follows (key_at self.new.stands) self.new.places
-            × (self.new.places ≡ listed self.old.places (Put key account)))) }
+        ensures tried { Follows (key_at self.old.stands) self.old.places
+            → HasTried self.old self.new (listed self.old.places (Put key account)) result }
         ensures settled { AreSettledBeside self.old.stands []
             → AreSettledBeside self.new.stands [] }
-        ensures err { IfSome result (λ r. OnErr r (Follows (key_at self.old.stands) self.old.places
-            → (self.new.places ≡ self.old.places) × (self.new.stands ≡ self.old.stands))) }
-        ensures stays { IfNone result ((self.new.places ≡ self.old.places)
-            × (self.new.stands ≡ self.old.stands)) }
-    {
-        match self.put_kept(key, account) {
-            None => self.open_kept(key, account),
-            met => met,
-        }
-    }
-
-    // Gives an account that is kept another key that can be kept.
-    fn put_kept(&mut self, key: i128, account: u32) -> Option<Result<(), NoMemory>>
-        ensures followed { IfSome result
-            (λ r. OnOk r (Follows (key_at self.old.stands) self.old.places
-            → Follows (key_at self.new.stands) self.new.places
-            × (self.new.places ≡ listed self.old.places (Put key account)))) }
-        ensures settled { AreSettledBeside self.old.stands []
-            → AreSettledBeside self.new.stands [] }
-        ensures err { IfSome result (λ r. OnErr r (Follows (key_at self.old.stands) self.old.places
-            → (self.new.places ≡ self.old.places) × (self.new.stands ≡ self.old.stands))) }
-        ensures stays { IfNone result ((self.new.places ≡ self.old.places)
-            × (self.new.stands ≡ self.old.stands)) }
-    {
-        let (Some(stood), Some(kept)) = (self.stands.short_key(account), ShortKey::of(key)) else {
-            return None;
-        };
-        if let Err(NoMemory) = self
-            .places
-            .replace((stood.key, account), (kept.key, account))
-        {
-            return Some(Err(NoMemory));
-        }
-        self.stands.keep(account, kept);
-        Some(Ok(()))
-    }
-
-    // Puts an account that stands nowhere under a key that can be kept.
-    fn open_kept(&mut self, key: i128, account: u32) -> Option<Result<(), NoMemory>>
-        ensures followed { IfSome result
-            (λ r. OnOk r (Follows (key_at self.old.stands) self.old.places
-            → Follows (key_at self.new.stands) self.new.places
-            × (self.new.places ≡ listed self.old.places (Put key account)))) }
-        ensures settled { AreSettledBeside self.old.stands []
-            → AreSettledBeside self.new.stands [] }
-        ensures err { IfSome result (λ r. OnErr r (Follows (key_at self.old.stands) self.old.places
-            → (self.new.places ≡ self.old.places) × (self.new.stands ≡ self.old.stands))) }
-        ensures stays { IfNone result ((self.new.places ≡ self.old.places)
-            × (self.new.stands ≡ self.old.stands)) }
     {
         let kept = ShortKey::of(key)?;
+        if let Some(stood) = self.stands.short_key(account) {
+            if let Err(NoMemory) = self
+                .places
+                .replace((stood.key, account), (kept.key, account))
+            {
+                return Some(Err(NoMemory));
+            }
+            self.stands.keep(account, kept);
+            return Some(Ok(()));
+        }
         if self.stands.account_key(account).key.is_some() {
             return None;
         }
@@ -156,15 +109,11 @@ impl Rows {
 
     // Takes out an account that is kept. That needs no memory.
     fn take_kept(&mut self, account: u32) -> Option<Result<(), NoMemory>>
-        ensures followed { IfSome result
-            (λ r. OnOk r (Follows (key_at self.old.stands) self.old.places
-            → Follows (key_at self.new.stands) self.new.places
-            × (self.new.places ≡ listed self.old.places (Gone account)))) }
+        ensures tried { Follows (key_at self.old.stands) self.old.places
+            → HasTried self.old self.new (listed self.old.places (Gone account)) result }
         ensures settled { AreSettledBeside self.old.stands []
             → AreSettledBeside self.new.stands [] }
         ensures ok { IfSome result (λ r. IsOk r) }
-        ensures stays { IfNone result ((self.new.places ≡ self.old.places)
-            × (self.new.stands ≡ self.old.stands)) }
     {
         let stood = self.stands.short_key(account)?;
         self.places.remove((i128::from(stood.key), account));

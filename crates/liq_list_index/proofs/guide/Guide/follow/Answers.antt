@@ -1,9 +1,8 @@
-use Rattle.std.proofs.Common.{◌≡◌, [], sym, ◌∙◌, subst}
+use Rattle.std.proofs.Common.{[], sym, ◌∙◌, subst}
 use Rattle.std.specs.Prelude.{not}
-use Rattle.liq_list_keys.specs.Parts.{Parts}
-use Rattle.liq_list_index.specs.Rows.{AreSettledBeside, Follows, Holds, key_at, next_at, side_at}
+use Rattle.liq_list_index.specs.Rows.{AreAsBefore, AreSettledBeside, Follows, Holds, key_at, next_at, side_at}
 use Rattle.liq_list_index.proofs.Holding.{begun}
-use Rattle.liq_list_index.proofs.Stands.{IsEnded, followed, followed_alone, kept_if_err, listed_if_ok}
+use Rattle.liq_list_index.proofs.Stands.{IsEnded, as_before, followed, followed_alone, kept_if_err, listed_if_ok}
 use Rattle.liq_list_index.proofs.guide.Guide.follow.Goals as goal
 
 -- ---- one change alone
@@ -12,9 +11,8 @@ ends_alone : (c : goal.In-Some)
     → IsEnded c.in-Some.met c.follow_one.new.self.stands c.self.inside.rows.places c.follow_one.new.self.places
     c.args.changes.now
 ends_alone c =
-    followed_alone c.in-Some.met c.self.inside.rows.stands c.follow_one.new.self.stands c.self.inside.rows.places
-    c.follow_one.new.self.places c.args.changes.now c.self.invariant.0
-    c.in-Some.ensures.followed c.in-Some.ensures.err
+    followed_alone c.in-Some.met c.self.inside.rows c.follow_one.new.self c.args.changes.now c.self.invariant.0
+    (c.in-Some.ensures.tried c.self.invariant.0)
 
 pub invariant_of-self : goal.invariant_of-self
 invariant_of-self c = ((ends_alone c).1, c.follow_one.ensures.settled c.self.invariant.1)
@@ -31,14 +29,11 @@ returns-in-Some-clause-err c =
 
 -- ---- any changes
 
-stays : (c : goal.After-settle) → (c.follow_one.new.self.places ≡ c.self.inside.rows.places)
-    × (c.follow_one.new.self.stands ≡ c.self.inside.rows.stands)
-stays c = c.in_default.ensures.stays
+stays : (c : goal.After-settle) → AreAsBefore c.self.inside.rows c.follow_one.new.self
+stays c = c.in_default.ensures.tried c.self.invariant.0
 
 stands : (c : goal.After-settle) → Follows (key_at c.follow_one.new.self.stands) c.follow_one.new.self.places
-stands c =
-    subst (λ (rows : Parts). Follows (key_at rows) c.follow_one.new.self.places) (sym (stays c).1)
-    (subst (Follows (key_at c.self.inside.rows.stands)) (sym (stays c).0) c.self.invariant.0)
+stands c = as_before c.self.inside.rows c.follow_one.new.self (stays c) c.self.invariant.0
 
 settled : (c : goal.After-settle) → AreSettledBeside c.follow_one.new.self.stands []
 settled c = c.follow_one.ensures.settled c.self.invariant.1

@@ -1,4 +1,6 @@
-use Rattle.std.proofs.Common.{◌≡◌, ℕ, ℤ, Bool, true, false, cond, List, Option, refl, sym, ap, ◌∙◌, subst}
+use Rattle.std.proofs.Common.{◌≡◌, ℕ, ℤ, false, cond, List, Option, sym, ap, ◌∙◌, subst}
+use Rattle.std.proofs.lemmas.Bool.{not-false}
+use Rattle.std.proofs.lemmas.Bool.Decides.{Decides-not}
 use Rattle.std.specs.Option.{option_eq}
 use Rattle.std.specs.Ordering.{int_eq, is_eq}
 use Rattle.std.specs.Prelude.{◌==◌, not}
@@ -31,14 +33,6 @@ goes : (c : goal.After-settle)
 goes c = ap (λ (p : Option ℤ × Option ℤ). p.1) c.sides-stays.ensures
     ∙ ap (λ (s : AccountKey). side_of (not c.args.made) s) c.account_key.ensures
 
-not_true : (b : Bool) → b ≡ true → true ≡ not b → ⊥
-not_true true h k = cc
-not_true false h k = cc
-
-not_false : (b : Bool) → false ≡ not b → b ≡ true
-not_false true h = refl
-not_false false h = cc
-
 pub returns-clause-holds : goal.returns-clause-holds
 returns-clause-holds c h = elim c.if-ne.branch [
   | then-ne w ↦
@@ -49,7 +43,8 @@ returns-clause-holds c h = elim c.if-ne.branch [
       let stands : c.if-ne.self.stands ≡ old.stands = ap (λ (r : Rows). r.stands) w.self-is ∙ w.clear.ensures.stands in
       settled c.args.made old.stands c.settle.new.self c.args.account (moves c stands) old.places c.if-ne.self.places
       given (goes c)
-      (λ same. not_true (option_eq int_eq kept given) ((option_Decides kept given).1 (stays c ∙ same)) w.if-ne.ensures)
+      (λ same. (Decides-not (option_eq int_eq kept given) (option_Decides kept given)).0 (sym w.if-ne.ensures)
+      (stays c ∙ same))
       (λ none. places ∙ w.clear.ensures.none none)
       (λ k is. subst (λ (l : List Ranked). IsAscending l × ((e : Ranked)
       → is_in l e ≡ cond (is_eq (rank_order (k, c.args.account) e)) false (is_in old.places e))) (sym places)
@@ -61,8 +56,8 @@ returns-clause-holds c h = elim c.if-ne.branch [
       let given = c.sides-stays.result.1 in
       let places : c.if-ne.self.places ≡ old.places = ap (λ (r : Rows). r.places) w.self-is in
       let stands : c.if-ne.self.stands ≡ old.stands = ap (λ (r : Rows). r.stands) w.self-is in
-      let same : kept ≡ given = (option_Decides kept given).0 (not_false (option_eq int_eq kept given) w.if-ne.ensures)
-      in
+      let same : kept ≡ given = (option_Decides kept given).0 (not-false (option_eq int_eq kept given)
+      (sym w.if-ne.ensures)) in
       subst (Holds (side_at c.args.made c.settle.new.self) (side_at (not c.args.made) c.settle.new.self)) (sym places)
       (settled_as_it_was c.args.made old.stands c.settle.new.self c.args.account (moves c stands) old.places
       (sym (stays c) ∙ same ∙ goes c) h)

@@ -10,8 +10,8 @@ use Rattle.liq_list_index.proofs.rows.Rows.take_kept.Goals as goal
 use mir.Syntax.{w64, w128}
 use mir.Val.{SFits}
 
-pub returns-clause-followed : goal.returns-clause-followed
-returns-clause-followed c h =
+pub returns-clause-tried : goal.returns-clause-tried
+returns-clause-tried c h =
     let list = c.args.self.now.places in
     let account = c.args.account in
     let stood = c.in_ok-stood.stood.key in
