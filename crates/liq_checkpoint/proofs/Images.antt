@@ -342,22 +342,23 @@ words_then : {Y P : Type 0} (end limit : ℕ) (at : List ℕ) (f : Image × List
 words_then end limit at f y fits e on = let a = bind_ok (words_at end limit at) f y e
     in let t = words_take end limit at a.0 fits a.1 in on a.0.0 a.0.1 t.0 t.1 a.2
 
--- an image without its rows, under another limit
-abbrev without_rows : ℕ → Image → Image
-without_rows limit i = record i {
-  limit = limit;
-  wallets = [];
-  troves = [];
-  surplus_rows = [];
-  finished = [];
-  deposits = [];
-  clients = [];
-}
+-- an image with other rows
+abbrev with_rows : Image → Table Wallet → Table Trove → Table ℕ → List (EpochScale × ℕ) → Table Deposit
+    → Table Client → Image
+with_rows i wallets troves surplus finished deposits clients =
+    record i {
+      wallets = wallets;
+      troves = troves;
+      surplus_rows = surplus;
+      finished = finished;
+      deposits = deposits;
+      clients = clients;
+    }
 
-words_again : (end limit : ℕ) (i : Image) (rest : List ℕ) → Fit (words i)
-    → words_at end limit (spelled (words i) ++ rest) ≡ Ok (without_rows limit i, rest)
+words_again : (end : ℕ) (i : Image) (rest : List ℕ) → Fit (words i)
+    → words_at end i.limit (spelled (words i) ++ rest) ≡ Ok (with_rows i [] [] [] [] [] [], rest)
 unfolding words_at
-words_again end limit i rest fit =
+words_again end i rest fit =
     let deposited : List Field = eights (i.total ∷ i.pool_coll ∷ []) in
     let sum : List Field = (16, i.sum) ∷ deposited in
     let place : List Field = eights (i.scale ∷ i.epoch ∷ []) ++ sum in
@@ -465,18 +466,6 @@ to_the_end : {at : List ℕ} {fields : List Field} {rest : List ℕ} → Takes a
 to_the_end {at} {fields} t none = t.parts ∙ ap (λ (bytes : List ℕ). spelled fields ++ bytes) none
     ∙ append-nil (spelled fields)
 
-abbrev with_rows : Image → Table Wallet → Table Trove → Table ℕ → List (EpochScale × ℕ) → Table Deposit
-    → Table Client → Image
-with_rows i wallets troves surplus finished deposits clients =
-    record i {
-      wallets = wallets;
-      troves = troves;
-      surplus_rows = surplus;
-      finished = finished;
-      deposits = deposits;
-      clients = clients;
-    }
-
 image_takes : (end : ℕ) (at : List ℕ) (i : Image) → IsBytes at → image_at end at ≡ Ok i → HasCheckpoint i
     × (at ≡ spelling i)
 unfolding image_at spelling
@@ -544,7 +533,7 @@ module _ (i : Image) (tables : HasTables i) (fit : Fit (contents i)) (limit : Is
       ap (λ (bytes : List ℕ). image_at end (name i.limit ++ bytes)) apart
       ∙ rw (
         limit_again end i.limit (spelled (words i) ++ after_words) limit,
-        words_again end i.limit i after_words (Fit-front (words i) (w ++ t ++ s ++ f ++ d ++ c) fit),
+        words_again end i after_words (Fit-front (words i) (w ++ t ++ s ++ f ++ d ++ c) fit),
         table_again _ _ _ _ (wallet_row end) end i.wallets after_wallets (Fit-front w t fit_2) tables.used_wallets
             (ascend_from nat_cmp follows keys_in_order i.wallets tables.wallets),
         table_again _ _ _ _ (trove_row end) end i.troves after_troves (Fit-back w t fit_2) (no_use i.troves)
