@@ -40,9 +40,9 @@ commands_by l r left right is_left is_right = λ i. journal_commands (pair_journ
 -- ---- it leads to the state
 
 -- what is known of it: no record of it is a rotation, and its limit is one of two
-record IsWell (w : Written) : Type 0 where
-  none : HaveNoRotation w.commands
-  limit : IsLimit w.limit
+pub record IsWell (w : Written) : Type 0 where
+  pub none : HaveNoRotation w.commands
+  pub limit : IsLimit w.limit
 
 abbrev AreWell : Found → Type 0
 AreWell Absent = Unit {0}
@@ -58,7 +58,7 @@ are_well odd bytes = by (found_on odd bytes) refl
     by (Open w) is = record { none = found_no_rotation odd bytes w is; limit = has_limit odd bytes w is }
 
 -- the journal that counts, if there is one, leads to this state; else it is the opening state
-abbrev Leads : Option Written → State → Type 0
+abbrev pub Leads : Option Written → State → Type 0
 Leads None s = opening ≡ s
 Leads (Some w) s = IsWell w × (outcome w ≡ Ok s)
 
@@ -110,7 +110,7 @@ found_leads (Open w) (Damaged damage) s well well_right is = damaged_beside w.ge
 found_leads (Open w) (Open later) s well well_later is =
     both w later (outcome w) (outcome later) s well well_later refl refl is
 
-journal_leads : (l r : List ℕ) (s : State) → state_on l r ≡ Ok s → Leads (journal_on l r) s
+pub journal_leads : (l r : List ℕ) (s : State) → state_on l r ≡ Ok s → Leads (journal_on l r) s
 unfolding state_on standing journal_on
 journal_leads l r s is =
     found_leads (found_on true l) (found_on false r) s (are_well true l) (are_well false r) is

@@ -10,6 +10,7 @@ pub mod FirstPlace
 pub mod Formed
 pub mod Generations
 pub mod Hints
+mod ImageTables
 pub mod Keeping
 pub mod OneByte
 pub mod Past

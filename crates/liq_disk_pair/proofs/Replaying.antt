@@ -1,14 +1,19 @@
 -- What a replay comes to, record by record.
-use Rattle.std.proofs.Common.{◌≡◌, ℕ, ◌+◌, List, [], ◌∷◌, ◌++◌, Result, Ok, Err, refl, sym, ◌∙◌, ap, subst, arith}
+use Rattle.std.proofs.Common.{◌≡◌, ℕ, ◌+◌, List, [], ◌∷◌, ◌++◌, length, Result, Ok, Err, refl, sym, ◌∙◌, ap, subst, arith}
 use Rattle.liq_types.specs.declared.requests.Command.{Command}
+use Rattle.liq_types.specs.Image.{IsLimit}
 use Rattle.liq_types.specs.State.{State, opening_with}
 use Rattle.liq_types.specs.WellFormed.{IsWellFormed}
 use Rattle.liq_rule_step.specs.Step.{Ruling, Refused, Repeated, Allowed, after, ruling}
 use Rattle.liq_rule_step.proofs.AlikeReplies.{alike_itself, after_alike}
+use Rattle.liq_rule_sound.specs.SoundState.{IsSoundState}
+use Rattle.liq_rule_sound.proofs.SoundStart.{opening_sound, started_sound}
+use Rattle.liq_rule_sound.proofs.SoundStep.{after_sound}
 use Rattle.liq_journal.specs.declared.damage.Damage.{Damage}
 use Rattle.liq_journal.specs.Written.{Written, and_then}
 use Rattle.liq_disk_pair.specs.Replay.{base_of, outcome, replay, replay_from, replayed}
 use Rattle.liq_disk_pair.proofs.Basing.{Begins, base_then, begins, ok_same, opens, outcome_first, sound_formed, starts}
+use Rattle.liq_disk_pair.proofs.ImageTables.{tables_read}
 
 -- ---- one record
 
@@ -110,3 +115,28 @@ pub outcome_formed : (w : Written) (end : State) → outcome w ≡ Ok end → Is
 outcome_formed w end came =
     let from = leads_from w end came in
     replay_formed 1 from.base end w.commands (base_formed w from.base from.begun) from.came
+
+-- ---- sound states, of a journal whose limit is one of two
+
+base_sound : (w : Written) (s : State) → IsLimit w.limit → base_of w ≡ Ok s → IsSoundState s
+base_sound w s known came = by (begins w s came)
+  where
+    by : Begins w s → IsSoundState s
+    by (opens first is) = subst (λ (t : State). IsSoundState t) (sym is) (opening_sound w.limit known)
+    by (starts i read is) = subst (λ (t : State). IsSoundState t) (sym is.state_is) (started_sound i (record {
+      rules = is.sound;
+      tables = tables_read (length w.checkpoint) w.checkpoint i read;
+    }))
+
+replay_sound : (index : ℕ) (s end : State) (cs : List Command) → IsSoundState s → replay index s cs ≡ Ok end
+    → IsSoundState end
+replay_sound index s end [] sound came =
+    subst (λ (t : State). IsSoundState t) (ok_same s end (sym (replay_none index s) ∙ came)) sound
+replay_sound index s end (c ∷ cs) sound came =
+    let a = first_accepted index s end c cs came in
+    replay_sound (index + 1) (after s c) end cs (after_sound s sound c a.allowed) a.rest
+
+pub outcome_sound : (w : Written) (end : State) → IsLimit w.limit → outcome w ≡ Ok end → IsSoundState end
+outcome_sound w end known came =
+    let from = leads_from w end came in
+    replay_sound 1 from.base end w.commands (base_sound w from.base known from.begun) from.came

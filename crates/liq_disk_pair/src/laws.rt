@@ -11,6 +11,7 @@ ghost use Rattle.liq_types.specs.State.{State, opening_with};
 ghost use Rattle.liq_types.specs.WellFormed.{IsWellFormed};
 ghost use Rattle.liq_rule_step.specs.Image.{IsSameState, image};
 ghost use Rattle.liq_rule_step.specs.Step.{Allowed, after, ruling, run};
+ghost use Rattle.liq_rule_sound.specs.SoundState.{IsSoundState};
 ghost use Rattle.liq_checkpoint.specs.Reading.{image_at};
 ghost use Rattle.liq_checkpoint.specs.Spelling.{spelling};
 ghost use Rattle.liq_journal.specs.declared.damage.Damage.{Damage};
@@ -36,10 +37,10 @@ pub fn what_is_found_decides()
         → found_on false b ≡ found_on false r → limit_on a b ≡ limit_on l r }
 {}
 
-/// The state for which two disks stand is well formed: its table and its lists belong together, as
-/// the rules leave them.
-pub fn states_on_disks_are_well_formed()
-    ensures { (l r : List ℕ) → (s : State) → state_on l r ≡ Ok s → IsWellFormed s }
+/// The state for which two disks stand is sound, as the rules reach them: it is well formed, its
+/// tables are in order, and its image meets the rules beside its count of records.
+pub fn states_on_disks_are_sound()
+    ensures { (l r : List ℕ) → (s : State) → state_on l r ≡ Ok s → IsSoundState s }
 {}
 
 /// The state with which a journal begins is well formed, of the journal's generation and of the
