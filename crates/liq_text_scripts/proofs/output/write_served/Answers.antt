@@ -5,6 +5,7 @@ use Rattle.liq_outside.specs.declared.failed.Failed.{Failed}
 use Rattle.liq_text_scripts.specs.Output.{served}
 use Rattle.liq_text_scripts.specs.Sending.{Sends, replies_text, history_text}
 use Rattle.liq_text_scripts.proofs.Sent.{sends_more, sends_cut, sends_fault, all_written, part_written}
+use Rattle.liq_text_scripts.proofs.output.write_served.Given.{Over}
 use Rattle.liq_text_scripts.proofs.output.write_served.Goals as goal
 
 abbrev title : List ℕ
@@ -32,6 +33,20 @@ flushed : (result : Result (Unit {0}) Failed) (history : List Entry) (w w1 w2 : 
 flushed result history w w1 w2 before mid after sent flush =
     subst (λ (t : List ℕ). Sends result w t w2 before after) (append-nil (served history)) (sends_more result w
     (served history) w1 [] w2 before mid after sent flush)
+
+-- all parts were sent, and what waited of them is written, as far as the result says
+all_sent : (g : Over) (c : goal.After-flush g) → Sends c.flush.result c.args.outbox.now
+    (served (map g.E.ShownEntry.entry c.args.entries.now)) c.flush.new.self (g.K.Sink.at c.args.out.now).held
+    (g.K.Sink.at c.flush.new.out).held
+all_sent g c =
+    let at = g.K.Sink.at in
+    let history = map g.E.ShownEntry.entry c.args.entries.now in
+    flushed c.flush.result history c.args.outbox.now c.send_entries.new.outbox c.flush.new.self
+    (at c.args.out.now).held (at c.send_entries.new.out).held (at c.flush.new.out).held
+    (sent_served (Ok tt) history c.args.outbox.now c.send_replies.new.outbox c.send.new.self c.send_entries.new.outbox
+    (at c.args.out.now).held (at c.send_replies.new.out).held (at c.send.new.out).held (at c.send_entries.new.out).held
+    c.in_ok-send_replies.ensures.sends c.in_ok-send.ensures.sends c.in_ok-send_entries.ensures.sends)
+    c.flush.ensures.sends
 
 pub returns-in_err-send_replies-clause-err : goal.returns-in_err-send_replies-clause-err
 returns-in_err-send_replies-clause-err g c =
@@ -89,12 +104,7 @@ returns-clause-ok g c =
     let history = map g.E.ShownEntry.entry c.args.entries.now in
     all_written c.flush.result c.args.outbox.now (served history) c.flush.new.self (at c.args.out.now).held
     (at c.flush.new.out).held c.requires c.flush.ensures.empty
-    (flushed c.flush.result history c.args.outbox.now c.send_entries.new.outbox c.flush.new.self
-    (at c.args.out.now).held (at c.send_entries.new.out).held (at c.flush.new.out).held
-    (sent_served (Ok tt) history c.args.outbox.now c.send_replies.new.outbox c.send.new.self c.send_entries.new.outbox
-    (at c.args.out.now).held (at c.send_replies.new.out).held (at c.send.new.out).held (at c.send_entries.new.out).held
-    c.in_ok-send_replies.ensures.sends c.in_ok-send.ensures.sends c.in_ok-send_entries.ensures.sends)
-    c.flush.ensures.sends)
+    (all_sent g c)
 
 pub returns-clause-err : goal.returns-clause-err
 returns-clause-err g c =
@@ -102,9 +112,4 @@ returns-clause-err g c =
     let history = map g.E.ShownEntry.entry c.args.entries.now in
     part_written c.flush.result c.args.outbox.now (served history) c.flush.new.self (at c.args.out.now).held
     (at c.flush.new.out).held c.requires
-    (flushed c.flush.result history c.args.outbox.now c.send_entries.new.outbox c.flush.new.self
-    (at c.args.out.now).held (at c.send_entries.new.out).held (at c.flush.new.out).held
-    (sent_served (Ok tt) history c.args.outbox.now c.send_replies.new.outbox c.send.new.self c.send_entries.new.outbox
-    (at c.args.out.now).held (at c.send_replies.new.out).held (at c.send.new.out).held (at c.send_entries.new.out).held
-    c.in_ok-send_replies.ensures.sends c.in_ok-send.ensures.sends c.in_ok-send_entries.ensures.sends)
-    c.flush.ensures.sends)
+    (all_sent g c)
