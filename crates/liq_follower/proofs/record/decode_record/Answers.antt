@@ -1,4 +1,4 @@
-use Rattle.liq_journal.proofs.Testing.{not_rotate}
+use Rattle.liq_types.proofs.Verbs.{not_rotate}
 use Rattle.liq_follower.proofs.Tests.{spells, spells_none, spells_rotation}
 use Rattle.liq_follower.proofs.record.decode_record.Goals as goal
 
