@@ -1,6 +1,6 @@
 -- The rows of a table from a key on, as a loop over all keys meets and sends them.
-use Rattle.std.proofs.Common.{◌≡◌, ℕ, ◌+◌, ◌<◌, ◌≤◌, Bool, true, false, cond, [], ◌∷◌, Option, Some, None, ◌⊎◌, inl, inr, refl, sym, ap, ap₂, subst, ◌∙◌, arith}
-use Rattle.std.specs.Prelude.{filter, map, nat_le, option_map}
+use Rattle.std.proofs.Common.{◌≡◌, ℕ, ◌+◌, ◌<◌, ◌≤◌, Bool, true, false, cond, [], ◌∷◌, Option, Some, None, Result, ◌⊎◌, inl, inr, refl, sym, ap, ap₂, subst, ◌∙◌, arith}
+use Rattle.std.specs.Prelude.{OnOk, filter, map, nat_le, option_map}
 use Rattle.std.specs.List.{AllByRecursion}
 use Rattle.std.specs.Map.{keys_of}
 use Rattle.std.specs.Ordering.{nat_cmp, is_eq}
@@ -8,12 +8,14 @@ use Rattle.std.specs.declared.cmp.Ordering.TheVariants.{Less}
 use Rattle.std.proofs.lemmas.Bool.{cases_lt}
 use Rattle.std.proofs.lemmas.Bool.Decides.{nat_tests}
 use Rattle.std.proofs.lemmas.Map.Keys.{sorted_head, sorted_tail}
-use Rattle.serde.specs.Event.{Log, Logs, seq_ends}
+use Rattle.std.proofs.lemmas.Result.{on_ok_weaker}
+use Rattle.serde.specs.Event.{Log, Logs, seq_begins, seq_ends}
 use Rattle.serde_json.specs.Data.{Data, Items}
 use Rattle.serde_json.specs.Events.{SendsItems, SendsValue}
 use Rattle.serde_json.specs.View.{items_of}
 use Rattle.liq_types.specs.Tables.{Table, at}
 use Rattle.liq_types.specs.WellFormed.{Ascends}
+use Rattle.liq_report.specs.Sent.{SendsList}
 
 module _ {X : Type 0} where
   -- the rows from a key on
@@ -157,6 +159,14 @@ module _ {X : Type 0} (data_of : ℕ × X → Data) (table : Table X) where
   rest_ended end key le below old new h =
       subst (λ (rows : Table X). SendsItems (items_of (map data_of rows)) old new)
       (sym (from_end end key le table below)) h
+
+  -- the list is sent, where its end is sent behind the last row
+  pub list_sent : {T E : Type 0} (ended : Result T E) (end key : ℕ) → end ≤ key
+      → AllByRecursion (λ y. y < end) (keys_of table) → (old first last new : Log) → Logs old first (seq_begins None)
+      → ((closed : Log) → SendsItems (rest key) last closed → SendsItems (items_of (map data_of table)) first closed)
+      → OnOk ended (Logs last new seq_ends) → OnOk ended (SendsList (map data_of table) old new)
+  list_sent ended end key le below old first last new begun all sent =
+      on_ok_weaker ended (λ h. (first, begun, all new (rest_ended end key le below last new h))) sent
 
 mapped_none : {X V : Type 0} (f : X → V) (o : Option X) → None ≡ option_map f o → o ≡ None
 mapped_none f None h = refl

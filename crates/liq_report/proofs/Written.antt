@@ -18,7 +18,7 @@ use Rattle.liq_stability.specs.Words.{pool_words}
 use Rattle.liq_report.specs.declared.objects.Totals.{Totals}
 use Rattle.liq_report.specs.Report.{deposit_text, deposits_text, pool_text, report_text, trove_text, troves_text}
 use Rattle.liq_report.specs.Texts.{list_text, object_text, string_text}
-use Rattle.liq_report.specs.Values.{count, deposit_of, deposits_data, members_by, object_by, pool_data, position, report_data, standing, totals_data, totals_of, trove_of, troves_data}
+use Rattle.liq_report.specs.Values.{count, deposit_of, deposits_data, members_by, members_of_totals, object_by, pool_data, position, report_data, standing, totals_data, totals_of, trove_of, troves_data}
 
 -- ---- lists
 
@@ -60,9 +60,10 @@ members_behind m (n ∷ ns) =
     ap (λ (t : List ℕ). quoted m.0 ++ 58 ∷ (compact_text m.1 ++ 44 ∷ t)) (members_behind n ns)
     ∙ sym (append_assoc (named m) (44 ∷ later) (125 ∷ []) ∙ append_assoc (quoted m.0) (58 ∷ compact_text m.1) behind)
 
-object_written : (m : List ℕ × Data) (ms : List (List ℕ × Data)) → compact_text (object_by (m ∷ ms))
-    ≡ 123 ∷ (join_with_byte 44 (map named (m ∷ ms)) ++ 125 ∷ [])
-object_written m ms = ap (λ (t : List ℕ). 123 ∷ t) (members_behind m ms)
+object_written : (ms : List (List ℕ × Data)) → compact_text (object_by ms)
+    ≡ 123 ∷ (join_with_byte 44 (map named ms) ++ 125 ∷ [])
+object_written [] = refl
+object_written (m ∷ ms) = ap (λ (t : List ℕ). 123 ∷ t) (members_behind m ms)
 
 -- ---- digits
 
@@ -106,41 +107,21 @@ deposit_written : (s : State) (row : ℕ × DepositEntry) → compact_text (depo
 unfolding serde_json_on_literals
 deposit_written s row =
     let p = position s row.0 in
-    object_written (codes "account", count row.0) ((codes "balance", count p.0) ∷ (codes "gain", count p.1) ∷ [])
+    object_written ((codes "account", count row.0) ∷ (codes "balance", count p.0) ∷ (codes "gain", count p.1) ∷ [])
 
 trove_written : (s : State) (row : ℕ × Trove) → compact_text (trove_of s row) ≡ trove_text (sums_words s) row
 unfolding serde_json_on_literals
 trove_written s row =
     let t = standing s row.1 in
-    object_written (codes "account", count row.0) ((codes "coll", count t.0) ∷ (codes "debt", count t.1)
+    object_written ((codes "account", count row.0) ∷ (codes "coll", count t.0) ∷ (codes "debt", count t.1)
     ∷ (codes "stake", count t.2) ∷ [])
 
 abbrev pub totals_text : Totals → List ℕ
-totals_text t = object_text (
-    (codes "base", decimal t.base)
-    ∷ (codes "coll", decimal t.coll)
-    ∷ (codes "debt", decimal t.debt)
-    ∷ (codes "fee_minute", decimal t.fee_minute)
-    ∷ (codes "minute", decimal t.minute)
-    ∷ (codes "mode", decimal t.mode)
-    ∷ (codes "price", decimal t.price)
-    ∷ (codes "records", decimal t.records)
-    ∷ (codes "stakes", decimal t.stakes)
-    ∷ (codes "troves", decimal t.troves) ∷ [])
+totals_text t = object_text (members_of_totals decimal t)
 
 totals_written : (t : Totals) → compact_text (totals_data t) ≡ totals_text t
 unfolding serde_json_on_literals
-totals_written t =
-    object_written (codes "base", count t.base) (
-    (codes "coll", count t.coll)
-    ∷ (codes "debt", count t.debt)
-    ∷ (codes "fee_minute", count t.fee_minute)
-    ∷ (codes "minute", count t.minute)
-    ∷ (codes "mode", count t.mode)
-    ∷ (codes "price", count t.price)
-    ∷ (codes "records", count t.records)
-    ∷ (codes "stakes", count t.stakes)
-    ∷ (codes "troves", count t.troves) ∷ [])
+totals_written t = object_written (members_of_totals count t)
 
 words_written : (w : PoolWords) → compact_text (pool_data w) ≡ object_text (
     (codes "epoch", decimal w.epoch)
@@ -149,7 +130,7 @@ words_written : (w : PoolWords) → compact_text (pool_data w) ≡ object_text (
     ∷ (codes "sum", string_text (decimal w.sum)) ∷ [])
 unfolding serde_json_on_literals
 words_written w =
-    object_written (codes "epoch", count w.epoch) ((codes "p", string (decimal w.p)) ∷ (codes "scale", count w.scale)
+    object_written ((codes "epoch", count w.epoch) ∷ (codes "p", string (decimal w.p)) ∷ (codes "scale", count w.scale)
     ∷ (codes "sum", string (decimal w.sum)) ∷ [])
     ∙ ap₂ (λ (a b : List ℕ). object_text ((codes "epoch", decimal w.epoch) ∷ (codes "p", string_text a) ∷ (
       codes "scale",
@@ -194,7 +175,7 @@ whole_by : (deposits pool system troves : Data) → compact_text (object_by (
     ∷ (codes "troves", compact_text troves) ∷ [])
 unfolding serde_json_on_literals
 whole_by deposits pool system troves =
-    object_written (codes "deposits", deposits) ((codes "pool", pool) ∷ (codes "system", system) ∷ (
+    object_written ((codes "deposits", deposits) ∷ (codes "pool", pool) ∷ (codes "system", system) ∷ (
       codes "troves",
       troves,
     ) ∷ [])

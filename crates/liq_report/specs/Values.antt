@@ -57,18 +57,22 @@ pool_data words = object_by (
     ∷ (codes "scale", count words.scale)
     ∷ (codes "sum", string (decimal words.sum)) ∷ [])
 
+-- the totals by their names, each number as it is to be seen
+abbrev pub members_of_totals : {X : Type 0} → (ℕ → X) → Totals → List (List ℕ × X)
+members_of_totals seen t =
+    (codes "base", seen t.base)
+    ∷ (codes "coll", seen t.coll)
+    ∷ (codes "debt", seen t.debt)
+    ∷ (codes "fee_minute", seen t.fee_minute)
+    ∷ (codes "minute", seen t.minute)
+    ∷ (codes "mode", seen t.mode)
+    ∷ (codes "price", seen t.price)
+    ∷ (codes "records", seen t.records)
+    ∷ (codes "stakes", seen t.stakes)
+    ∷ (codes "troves", seen t.troves) ∷ []
+
 abbrev pub totals_data : Totals → Data
-totals_data t = object_by (
-    (codes "base", count t.base)
-    ∷ (codes "coll", count t.coll)
-    ∷ (codes "debt", count t.debt)
-    ∷ (codes "fee_minute", count t.fee_minute)
-    ∷ (codes "minute", count t.minute)
-    ∷ (codes "mode", count t.mode)
-    ∷ (codes "price", count t.price)
-    ∷ (codes "records", count t.records)
-    ∷ (codes "stakes", count t.stakes)
-    ∷ (codes "troves", count t.troves) ∷ [])
+totals_data t = object_by (members_of_totals count t)
 
 -- ---- what a reply tells
 

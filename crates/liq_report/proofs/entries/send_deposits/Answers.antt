@@ -1,12 +1,11 @@
 use Rattle.std.proofs.Common.{ℕ, ◌+◌, subst}
-use Rattle.std.proofs.lemmas.Result.{on_ok_weaker}
 use Rattle.serde_json.specs.Events.{SendsItems}
 use Rattle.liq_types.specs.declared.amounts.TheConstants.{ACCOUNTS}
 use Rattle.liq_types.specs.State.{DepositEntry}
 use Rattle.liq_rule_sound.proofs.SoundTests.{sound_facts}
 use Rattle.liq_core.specs.Core.{state_of}
 use Rattle.liq_report.specs.Values.{deposit_data, deposit_of, position}
-use Rattle.liq_report.proofs.Rows.{rest, rest_ended, rest_whole, rest_with, rest_without}
+use Rattle.liq_report.proofs.Rows.{list_sent, rest, rest_whole, rest_with, rest_without}
 use Rattle.liq_report.proofs.entries.send_deposits.Goals as goal
 use Rattle.liq_report.proofs.entries.send_deposits.Goals.{in-Some+in_ok-send_deposit, in_default}
 
@@ -38,12 +37,8 @@ loop-account-preserved g c end h =
 pub returns : goal.returns
 returns g c =
     let s = state_of c.args.protocol.now in
-    let first = g.S.Serializer.written c.begin_seq.new.self in
-    let end = g.S.Serializer.written c.end_seq.new.self in
-    on_ok_weaker c.end_seq.result (λ ended. (
-      first,
-      c.in_ok-begin_seq.ensures,
-      c.loop-account.invariant end (rest_ended (deposit_of s) s.deposits ACCOUNTS c.loop-account.account
-          c.loop-account-test.false (sound_facts s c.protocols_are_sound_states.ensures).stands.deposit_keys
-          (g.S.Serializer.written c.loop-account.out) end ended),
-    )) c.end_seq.ensures
+    let written = g.S.Serializer.written in
+    list_sent (deposit_of s) s.deposits c.end_seq.result ACCOUNTS c.loop-account.account c.loop-account-test.false
+    (sound_facts s c.protocols_are_sound_states.ensures).stands.deposit_keys
+    (written c.args.out.now) (written c.begin_seq.new.self) (written c.loop-account.out) (written c.end_seq.new.self)
+    c.in_ok-begin_seq.ensures c.loop-account.invariant c.end_seq.ensures

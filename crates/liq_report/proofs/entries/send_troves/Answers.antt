@@ -1,12 +1,11 @@
 use Rattle.std.proofs.Common.{ℕ, ◌+◌, subst}
-use Rattle.std.proofs.lemmas.Result.{on_ok_weaker}
 use Rattle.serde_json.specs.Events.{SendsItems}
 use Rattle.liq_types.specs.declared.amounts.TheConstants.{ACCOUNTS}
 use Rattle.liq_types.specs.declared.figures.Trove.{Trove}
 use Rattle.liq_troves.specs.StakeSums.{trove_rows}
 use Rattle.liq_core.specs.Core.{state_of}
 use Rattle.liq_report.specs.Values.{standing, trove_data, trove_of}
-use Rattle.liq_report.proofs.Rows.{rest, rest_ended, rest_whole, rest_with, rest_without}
+use Rattle.liq_report.proofs.Rows.{list_sent, rest, rest_whole, rest_with, rest_without}
 use Rattle.liq_report.proofs.Stands.{trove_keys, troves_ascend}
 use Rattle.liq_report.proofs.entries.send_troves.Goals as goal
 use Rattle.liq_report.proofs.entries.send_troves.Goals.{in-Some+in_ok-send_trove, in_default}
@@ -39,12 +38,8 @@ loop-account-preserved g c end h =
 pub returns : goal.returns
 returns g c =
     let s = state_of c.args.protocol.now in
-    let first = g.S.Serializer.written c.begin_seq.new.self in
-    let end = g.S.Serializer.written c.end_seq.new.self in
-    on_ok_weaker c.end_seq.result (λ ended. (
-      first,
-      c.in_ok-begin_seq.ensures,
-      c.loop-account.invariant end (rest_ended (trove_of s) (trove_rows s) ACCOUNTS c.loop-account.account
-          c.loop-account-test.false (trove_keys s c.protocols_are_sound_states.ensures)
-          (g.S.Serializer.written c.loop-account.out) end ended),
-    )) c.end_seq.ensures
+    let written = g.S.Serializer.written in
+    list_sent (trove_of s) (trove_rows s) c.end_seq.result ACCOUNTS c.loop-account.account c.loop-account-test.false
+    (trove_keys s c.protocols_are_sound_states.ensures)
+    (written c.args.out.now) (written c.begin_seq.new.self) (written c.loop-account.out) (written c.end_seq.new.self)
+    c.in_ok-begin_seq.ensures c.loop-account.invariant c.end_seq.ensures
