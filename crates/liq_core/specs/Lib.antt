@@ -1,3 +1,4 @@
+pub mod CallAccounts
 pub mod Core
 pub mod Effects
 pub mod Entries

@@ -16,6 +16,7 @@
 
 mod accounts;
 mod borrowing;
+mod call_accounts;
 mod claims;
 mod depositors;
 mod effects;
@@ -36,6 +37,7 @@ mod standing;
 mod told;
 mod turns;
 
+pub use call_accounts::{CallAccounts, accounts_of};
 pub use engine::Protocol;
 pub use hints::unhinted;
 pub use image::ImageFault;

@@ -4,6 +4,7 @@ ghost use Rattle.std.specs.Prelude.{◌≡◌, [], ◌∷◌, map};
 ghost use Rattle.liq_ledger.specs.Refusals.{ruled};
 ghost use Rattle.liq_rule_step.specs.Step.{accounts, in_range};
 
+use crate::call_accounts::{CallAccounts, accounts_of};
 use liq_types::amounts::ACCOUNTS;
 use liq_types::{Call, Refusal};
 
@@ -11,22 +12,10 @@ use liq_types::{Call, Refusal};
 pub(crate) fn check_accounts(call: &Call) -> Result<(), Refusal>
     ensures { result ≡ ruled (map in_range (accounts call.now)) }
 {
-    match *call {
-        Call::Price(_) | Call::Advance(_) | Call::Rotate => Ok(()),
-        Call::Send(first, second, _) | Call::Liquidate(first, second) => {
-            check_both(first, second)
-        }
-        Call::Fund(account, _)
-        | Call::Take(account, _)
-        | Call::Open(account, ..)
-        | Call::Adjust(account, ..)
-        | Call::Close(account)
-        | Call::Provide(account, _)
-        | Call::Withdraw(account, _)
-        | Call::GainToTrove(account, _)
-        | Call::LiquidateLowest(account, _)
-        | Call::Redeem(account, ..)
-        | Call::Claim(account) => check_account(account),
+    match accounts_of(call) {
+        CallAccounts::Nobody => Ok(()),
+        CallAccounts::One(account) => check_account(account),
+        CallAccounts::Both(first, second) => check_both(first, second),
     }
 }
 
