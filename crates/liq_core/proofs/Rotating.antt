@@ -59,14 +59,12 @@ turned_core core sound c is =
     turned_image (state_of core) c is ∙ ap (λ (i : Image). turned i c.client (reply_row (state_of core) c))
     (image_back core sound)
 
--- and the length of its checkpoint, by a protocol's own tables
-pub checkpoint_is : (p : Inside) (core : Core) → core_of p ≡ core → IsSound p → (c : Command) → c.call ≡ Rotate
-    → checkpoint_length (image (after (state_of core) c)) ≡ checkpoint_length (turned (core_of p).image c.client
-    (reply_row (state_of core) c))
-checkpoint_is p core view sound c is =
-    subst (λ (k : Core). checkpoint_length (image (after (state_of k) c))
-    ≡ checkpoint_length (turned (core_of p).image c.client (reply_row (state_of k) c))) view
-    (ap checkpoint_length (turned_core (core_of p) sound.image c is))
+-- and the length of its checkpoint: its clients alone have another row
+pub checkpoint_is : (core : Core) → IsSoundImage core.image core.records → (c : Command) → c.call ≡ Rotate
+    → checkpoint_length (record core.image {
+      clients = put core.image.clients c.client (reply_row (state_of core) c);
+    }) ≡ checkpoint_length (image (after (state_of core) c))
+checkpoint_is core sound c is = sym (ap checkpoint_length (turned_core core sound c is))
 
 -- ---- what is planned
 

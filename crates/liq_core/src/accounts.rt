@@ -2,9 +2,11 @@
 //! checkpoint is.
 
 ghost use Rattle.std.specs.Prelude.{◌≡◌, ◌<◌, ◌^◌, IfOk, drop, length};
+ghost use Rattle.liq_types.specs.declared.figures.Client.{Client as client_row};
 ghost use Rattle.liq_types.specs.Length.{checkpoint_length};
 ghost use Rattle.liq_types.specs.Ranked.{first_of, from_last};
 ghost use Rattle.liq_types.specs.State.{State};
+ghost use Rattle.liq_types.specs.Tables.{Table};
 ghost use Rattle.liq_order.specs.Listed.{AreDistinct};
 ghost use Rattle.liq_rule_step.specs.Queries.{next_number};
 ghost use Rattle.liq_core.specs.Core.{StandsFor};
@@ -52,13 +54,23 @@ impl Protocol {
         ensures length { result ≡ checkpoint_length self.now.image }
         ensures few { result < 2 ^ 80 }
     {
+        self.checkpoint_with(self.clients.count())
+    }
+
+    /// How many bytes a checkpoint has of an image with so many clients, and else the protocol's own
+    /// rows.
+    pub(crate) fn checkpoint_with(&self, clients: u64) -> u128
+        ensures length { (rows : Table client_row) → clients ≡ length rows
+            → result ≡ checkpoint_length (record self.now.image { clients = rows }) }
+        ensures few { result < 2 ^ 80 }
+    {
         let rows = RowCounts {
             wallets: self.wallets.count(),
             troves: self.troves.count(),
             surplus_rows: self.surplus.count(),
             finished: self.pool.finished_count(),
             deposits: self.pool.count(),
-            clients: self.clients.count(),
+            clients,
         };
         rows.checkpoint_bytes()
     }

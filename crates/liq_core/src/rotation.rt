@@ -23,7 +23,7 @@ use crate::turns::{Forecast, Planned};
 use liq_core_limits::clients_with;
 use liq_tables::Reserved;
 use liq_types::amounts::{CHECKPOINT_BYTES_MOST, GENERATIONS_MOST};
-use liq_types::{Call, Client, ClientRows, Command, Done, Image, NoMemory, Refusal, RowCounts};
+use liq_types::{Call, Client, ClientRows, Command, Done, Image, NoMemory, Refusal};
 
 impl Protocol {
     /// What a rotation comes to: its reply has the generation that begins.
@@ -72,15 +72,7 @@ impl Protocol {
         requires { command.now.call ≡ Rotate }
         ensures { result ≡ checkpoint_length (image (after (state_of self.now) command.now)) }
     {
-        let rows = RowCounts {
-            wallets: self.wallets.count(),
-            troves: self.troves.count(),
-            surplus_rows: self.surplus.count(),
-            finished: self.pool.finished_count(),
-            deposits: self.pool.count(),
-            clients: clients_with(&self.clients, command.client),
-        };
-        rows.checkpoint_bytes()
+        self.checkpoint_with(clients_with(&self.clients, command.client))
     }
 
     /// The image that a planned rotation leaves: what the checkpoint of the next generation holds,
