@@ -50,7 +50,7 @@ module _ (end : State) where
   replay_few (c ∷ cs) index s none few h = by (ruling s c) refl h (λ less k. replay_few cs (index + 1) (after s c)
       (λ i d lt. none (suc i) d (omega arith)) less k) where
         stays : is_rotate c.call ≡ false
-        stays = (none zero c (omega arith))
+        stays = none zero c (omega arith)
 
         counted : (after s c).records ≡ s.records + 1
         counted = after-records s c stays
