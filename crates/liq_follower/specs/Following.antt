@@ -1,12 +1,12 @@
 -- A follower, and the bytes that it has taken.
-use Rattle.std.specs.Prelude.{◌≡◌, ◌≢◌, ◌⊎◌, ◌<◌, ℕ, ◌-◌, ◌^◌, List, [], ◌∷◌, ◌++◌, length, min, Option, Some, None}
+use Rattle.std.specs.Prelude.{◌≡◌, ◌≢◌, ◌⊎◌, ◌<◌, ◌≤◌, ℕ, ◌-◌, ◌^◌, List, [], ◌∷◌, ◌++◌, length, min, Option, Some, None}
 use Rattle.liq_types.specs.State.{State, opening, opening_with}
 use Rattle.liq_core.specs.Core.{Core, StandsFor}
 use Rattle.liq_follower.specs.declared.phase.Phase.{Phase}
 use Rattle.liq_follower.specs.declared.phase.Phase.TheVariants.{Start, Header, Gate, Inside, Shut, Damaged, Rotated}
 use Rattle.liq_follower.specs.declared.answers.FedEnd.{FedEnd}
 use Rattle.liq_follower.specs.declared.answers.FedEnd.TheVariants as end
-use Rattle.liq_follower.specs.Fed.{AreDamagedAt, AreTurnedTo, EndsWhole, IsBegun, LeadTo, begun_limit}
+use Rattle.liq_follower.specs.Fed.{AreDamagedAt, AreTurnedTo, Completes, EndsWhole, IsBegun, LackOne, LeadTo, begun_limit}
 
 -- what contracts see of a follower: its protocol, where in the journal it is, the bytes of a header
 -- or a record that isn't whole, and how many bytes it has taken
@@ -53,6 +53,20 @@ IsInPhase (Rotated generation) held bytes core = AreTurnedTo generation bytes
 
 abbrev pub IsAt : List ℕ → Followed → Type 0
 IsAt bytes f = IsInPhase f.phase f.held bytes f.core
+
+-- so many bytes of a piece, and at least one
+abbrev pub IsSomeOf : List ℕ → ℕ → Type 0
+IsSomeOf piece n = (1 ≤ n) × (n ≤ length piece)
+
+-- what was known of the bytes is known of them with these behind them
+abbrev pub Adds : Followed → List ℕ → Followed → Type 0
+Adds old more new = (bytes : List ℕ) → IsAt bytes old → IsAt (bytes ++ more) new
+
+-- It is known of the same bytes still, and there is no memory for what this byte completes behind
+-- them.
+abbrev pub LacksMemory : Followed → ℕ → Followed → Type 0
+LacksMemory old byte new =
+    (bytes : List ℕ) → IsAt bytes old → IsAt bytes new × LackOne bytes × Completes byte bytes
 
 -- how feeding has ended for good, if it has
 abbrev pub stopped_in : Phase → Option FedEnd

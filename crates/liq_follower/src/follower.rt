@@ -5,7 +5,7 @@ ghost use Rattle.std.specs.Prelude.{◌≡◌, ◌≤◌, ◌<◌, ◌+◌, ◌-
 ghost use Rattle.std.specs.Prelude.{true, false, None, IfOk, OnErr, OnOk, slice_index};
 ghost use Rattle.liq_follower.specs.declared.phase.Phase.TheVariants as phase;
 ghost use Rattle.liq_follower.specs.Fed.{AreOver, Completes, EndsWith, GoOn, LackOne};
-ghost use Rattle.liq_follower.specs.Following.{IsAt, IsFed, StandsBeforeLast, stopped_in};
+ghost use Rattle.liq_follower.specs.Following.{Adds, IsFed, IsSomeOf, LacksMemory, StandsBeforeLast, stopped_in};
 ghost use Rattle.liq_follower.specs.Judging.{phase_of};
 
 use crate::answers::{Fed, FedEnd};
@@ -181,7 +181,7 @@ impl Follower {
     fn keep(&mut self, piece: &[u8])
         requires inside { self.old.phase ≡ phase.Inside }
         requires room { length self.old.held + length piece.now < 128 }
-        ensures at { (bytes : List ℕ) → IsAt bytes self.old → IsAt (bytes ++ piece.now) self.new }
+        ensures at { Adds self.old piece.now self.new }
         ensures added { self.new ≡ record self.old { held = self.old.held ++ piece.now } }
     {
         self.held.extend(piece);
@@ -204,7 +204,7 @@ impl Follower {
         requires some { 1 ≤ length piece.now }
         requires goes { stopped_in self.old.phase ≡ None }
         ensures going { (bytes : List ℕ) → IsFed bytes self.old → GoOn bytes }
-        ensures count { IfOk result (λ n. (1 ≤ n) × (n ≤ length piece.now)) }
+        ensures count { IfOk result (IsSomeOf piece.now) }
         ensures fed { IfOk result (λ n. (bytes : List ℕ) → IsFed bytes self.old
             → IsFed (bytes ++ take n piece.now) self.new) }
         ensures memory { OnErr result ((bytes : List ℕ) → IsFed bytes self.old
@@ -242,11 +242,9 @@ impl Follower {
     fn take(&mut self, piece: &[u8]) -> Result<usize, NoMemory>
         requires some { 1 ≤ length piece.now }
         requires goes { stopped_in self.old.phase ≡ None }
-        ensures count { IfOk result (λ n. (1 ≤ n) × (n ≤ length piece.now)) }
-        ensures at { IfOk result (λ n. (bytes : List ℕ) → IsAt bytes self.old
-            → IsAt (bytes ++ take n piece.now) self.new) }
-        ensures memory { OnErr result ((bytes : List ℕ) → IsAt bytes self.old
-            → IsAt bytes self.new × LackOne bytes × Completes (slice_index piece.now 0) bytes) }
+        ensures count { IfOk result (IsSomeOf piece.now) }
+        ensures at { IfOk result (λ n. Adds self.old (take n piece.now) self.new) }
+        ensures memory { OnErr result (LacksMemory self.old (slice_index piece.now 0) self.new) }
         ensures taken { self.new.taken ≡ self.old.taken }
     {
         match self.phase {
@@ -270,7 +268,7 @@ impl Follower {
     // Takes the gate of the header.
     fn start(&mut self, byte: u8)
         requires { self.old.phase ≡ phase.Start }
-        ensures at { (bytes : List ℕ) → IsAt bytes self.old → IsAt (bytes ++ byte ∷ []) self.new }
+        ensures at { Adds self.old (byte ∷ []) self.new }
         ensures taken { self.new.taken ≡ self.old.taken }
     {
         if byte != 1 {
@@ -285,7 +283,7 @@ impl Follower {
     // Takes a byte of the header, and tests it once it is whole.
     fn header(&mut self, byte: u8)
         requires { self.old.phase ≡ phase.Header }
-        ensures at { (bytes : List ℕ) → IsAt bytes self.old → IsAt (bytes ++ byte ∷ []) self.new }
+        ensures at { Adds self.old (byte ∷ []) self.new }
         ensures taken { self.new.taken ≡ self.old.taken }
     {
         self.held.push(byte);
@@ -300,7 +298,7 @@ impl Follower {
     // Takes the gate of a record.
     fn gate(&mut self, byte: u8)
         requires { self.old.phase ≡ phase.Gate }
-        ensures at { (bytes : List ℕ) → IsAt bytes self.old → IsAt (bytes ++ byte ∷ []) self.new }
+        ensures at { Adds self.old (byte ∷ []) self.new }
         ensures taken { self.new.taken ≡ self.old.taken }
     {
         self.held.clear();
@@ -315,11 +313,9 @@ impl Follower {
     fn inside(&mut self, piece: &[u8]) -> Result<usize, NoMemory>
         requires some { 1 ≤ length piece.now }
         requires inside { self.old.phase ≡ phase.Inside }
-        ensures count { IfOk result (λ n. (1 ≤ n) × (n ≤ length piece.now)) }
-        ensures at { IfOk result (λ n. (bytes : List ℕ) → IsAt bytes self.old
-            → IsAt (bytes ++ take n piece.now) self.new) }
-        ensures memory { OnErr result ((bytes : List ℕ) → IsAt bytes self.old
-            → IsAt bytes self.new × LackOne bytes × Completes (slice_index piece.now 0) bytes) }
+        ensures count { IfOk result (IsSomeOf piece.now) }
+        ensures at { IfOk result (λ n. Adds self.old (take n piece.now) self.new) }
+        ensures memory { OnErr result (LacksMemory self.old (slice_index piece.now 0) self.new) }
         ensures taken { self.new.taken ≡ self.old.taken }
     {
         let missing = BODY_AND_DIGEST - 1 - self.held.len();
@@ -336,10 +332,8 @@ impl Follower {
     fn complete(&mut self, last: u8) -> Result<(), NoMemory>
         requires inside { self.old.phase ≡ phase.Inside }
         requires full { length self.old.held ≡ 127 }
-        ensures at { OnOk result ((bytes : List ℕ) → IsAt bytes self.old
-            → IsAt (bytes ++ last ∷ []) self.new) }
-        ensures memory { OnErr result ((bytes : List ℕ) → IsAt bytes self.old
-            → IsAt bytes self.new × LackOne bytes × Completes last bytes) }
+        ensures at { OnOk result (Adds self.old (last ∷ []) self.new) }
+        ensures memory { OnErr result (LacksMemory self.old last self.new) }
         ensures taken { self.new.taken ≡ self.old.taken }
     {
         let index = self.guided.records().saturating_add(1);
