@@ -1,17 +1,17 @@
 //! The accepted commands, read back from the disk that is taken.
-ghost use Rattle.std.specs.Prelude.{◌≡◌, ◌≤◌, ◌-◌, Some, List, ℕ, length, take, slice_get, false, IfOk, IfErr};
+ghost use Rattle.std.specs.Prelude.{◌≡◌, ◌≤◌, Some, List, ℕ, length, take, false, IfOk, IfErr};
 ghost use Rattle.std.specs.List.{All};
 ghost use Rattle.liq_types.specs.declared.requests.Command.{Command};
 ghost use Rattle.liq_journal.specs.Bodies.{IsJournalOf};
 ghost use Rattle.liq_outside.specs.Disk.{Looked};
 ghost use Rattle.liq_types.specs.Verbs.{is_rotate};
 ghost use Rattle.liq_journal.specs.Written.{Written};
-ghost use Rattle.liq_disk_records.specs.Reading.{CountsReading, IsReadable, IsRecordNumber};
+ghost use Rattle.liq_disk_records.specs.Reading.{CountsReading, IsCommandThere, IsReadable, IsReadableThere, IsRecordNumber};
 ghost use Rattle.liq_store.specs.Answering.{IsUnreadable};
 ghost use Rattle.liq_store.specs.Within.{HasRecords};
 
 use liq_disk_records::AcceptedFault;
-use liq_journal::{Journal, LookFault};
+use liq_journal::Journal;
 use liq_outside::Disk;
 use liq_types::Command;
 use liq_wire::decode;
@@ -22,25 +22,15 @@ pub fn read_command<D: Disk>(journal: &mut Journal<D>, index: u64) -> Result<Com
     requires there { IsRecordNumber journal.old.count index }
     ensures looked { Looked D.at journal.old.disk journal.new.disk }
     ensures same { journal.new ≡ record journal.old { disk = journal.new.disk } }
-    ensures command { IfOk result (λ c. (held : List ℕ) (w : Written)
-        → (D.at journal.old.disk).seen ≡ Some held
-        → IsJournalOf journal.old.generation journal.old.start held w → index ≤ length w.commands
-        → slice_get w.commands (index - 1) ≡ Some c) }
+    ensures command { IfOk result (IsCommandThere D.at journal.old index) }
     ensures no_rotation { IfOk result (λ c. is_rotate c.call ≡ false) }
     ensures damaged { IfErr result
         (IsUnreadable journal.old.generation journal.old.start journal.old.count) }
-    ensures readable { IfErr result (λ why. (held : List ℕ) (w : Written)
-        → (D.at journal.old.disk).seen ≡ Some held
-        → IsJournalOf journal.old.generation journal.old.start held w → index ≤ length w.commands
-        → IsReadable why) }
+    ensures readable { IfErr result (IsReadableThere D.at journal.old index) }
     ensures cause { CountsReading result (D.at journal.old.disk).faults
         (D.at journal.new.disk).faults }
 {
-    let body = match journal.body(index) {
-        Ok(body) => body,
-        Err(LookFault::DiskFault) => return Err(AcceptedFault::DiskFault),
-        Err(LookFault::Damaged(damage)) => return Err(AcceptedFault::Damaged(damage)),
-    };
+    let body = journal.body(index)?;
     let Ok(command) = decode(&body) else {
         unreachable!()
     };

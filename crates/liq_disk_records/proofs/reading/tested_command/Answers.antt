@@ -1,4 +1,14 @@
+use Rattle.liq_disk_records.proofs.Faults.{met_counts, met_readable}
 use Rattle.liq_disk_records.proofs.reading.tested_command.Goals as goal
 
-pub returns-in-Ok-clause-no_rotation : goal.returns-in-Ok-clause-no_rotation
-returns-in-Ok-clause-no_rotation g c = c.in-Ok.ensures.command.1.no_rotation
+pub returns-in_err-command-clause-readable : goal.returns-in_err-command-clause-readable
+returns-in_err-command-clause-readable g c =
+    met_readable g.D.Disk.at c.args.journal.now c.args.index c.from_residual.result _ c.from_residual.ensures.1
+    c.in_err-command.ensures.accepted
+
+pub returns-in_err-command-clause-cause : goal.returns-in_err-command-clause-cause
+returns-in_err-command-clause-cause g c =
+    met_counts c.from_residual.result _ _ _ c.from_residual.ensures.1 c.in_err-command.ensures.cause
+
+pub returns-clause-no_rotation : goal.returns-clause-no_rotation
+returns-clause-no_rotation g c = c.in_ok-command.ensures.command.1.no_rotation
