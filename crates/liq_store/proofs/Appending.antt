@@ -7,7 +7,6 @@ use Rattle.liq_types.specs.declared.events.ListChange.{ListChange}
 use Rattle.liq_types.specs.declared.replies.Answer.{Answer}
 use Rattle.liq_types.specs.declared.replies.Answer.TheVariants as answer
 use Rattle.liq_types.specs.declared.requests.Command.{Command}
-use Rattle.liq_types.specs.declared.requests.Request.{Request}
 use Rattle.liq_types.specs.declared.requests.Request.TheVariants.{Do}
 use Rattle.liq_types.specs.State.{State}
 use Rattle.liq_core.specs.Core.{Core, StandsFor}
@@ -205,14 +204,12 @@ module _ {D : Type 0} (at : D → DiskAt) (side : Side) (taken new : JournalOn D
   not_one s stays rotation = let no : true ≡ false = sym rotation ∙ other_stays s c stays in absurd (cc (no))
 
   pub appends_on : {before : List ListChange} (old : Stored D) (stopped : Option ℕ)
-      → stored side taken b core stopped before ≡ old → (request : Request) → request ≡ Do c → is_rotate c.call ≡ false
+      → stored side taken b core stopped before ≡ old → is_rotate c.call ≡ false
       → new.start ≡ taken.start → GoesOn at taken.disk new.disk → (a : Answer) → (a ≡ answer.NoMemory → ⊥)
       → (next : Core) (later : Option ℕ) (changes : List ListChange)
-      → WritesOn at old request a (stored side new b next later changes)
-  appends_on {before} old stopped same request is stays start time a some next later changes =
-      let new_store = stored side new b next later changes in
-      subst (λ (o : Stored D). WritesOn at o request a new_store) same
-      (subst (λ (q : Request). WritesOn at (stored side taken b core stopped before) q a new_store) (sym is)
+      → WritesOn at old (Do c) a (stored side new b next later changes)
+  appends_on {before} old stopped same stays start time a some next later changes =
+      subst (λ (o : Stored D). WritesOn at o (Do c) a (stored side new b next later changes)) same
       (writes_on at side side core next taken.start new.start stopped later before changes (Do c) a taken.disk b
       new.disk b
       (record {
@@ -231,7 +228,7 @@ module _ {D : Type 0} (at : D → DiskAt) (side : Side) (taken new : JournalOn D
         aside_telling = (λ told. told, λ told. told);
         taken_time = time;
         aside_time = unmoved at b;
-      })))
+      }))
 
   -- ---- the record is on the disk, and the step is made
 

@@ -15,7 +15,7 @@ use Rattle.liq_types.specs.declared.replies.Reply.{Reply}
 use Rattle.liq_types.specs.declared.replies.Answer.TheVariants as answer
 use Rattle.liq_types.specs.State.{State}
 use Rattle.liq_core.specs.Core.{Core, StandsFor}
-use Rattle.liq_rule_step.specs.Step.{Allowed, Ruling, is_allowed, ruling}
+use Rattle.liq_rule_step.specs.Step.{Ruling, is_allowed, ruling}
 use Rattle.liq_journal.specs.Crash.{BeforeOrAfter, CreateLeaves, Stands}
 use Rattle.liq_journal.specs.Settled.{IsSettled, JournalOn}
 use Rattle.liq_types.specs.Verbs.{is_rotate}
@@ -46,23 +46,19 @@ ruled_stays s c r is differs = ap (λ (x : Ruling). is_rotate c.call && is_allow
 pub other_stays : (s : State) (c : Command) → is_rotate c.call ≡ false → is_rotation s (Do c) ≡ false
 other_stays s c stays = ap (λ (b : Bool). b && is_allowed (ruling s c)) stays
 
--- where another ruling is made on a command, it is accepted in no state for which the store stands
-pub none_accepted : (core seen : Core) (request : Request) (c : Command) (r : Ruling) → core ≡ seen → request ≡ Do c
-    → ((s : State) → StandsFor core s → ruling s c ≡ r) → is_allowed r ≡ false → (s : State) → StandsFor seen s
-    → IsAccepted s request → ⊥
-none_accepted core seen request c r same is ruled differs s stands accepted =
-    let here : StandsFor core s = subst (λ (k : Core). StandsFor k s) (sym same) stands in
-    let allowed : r ≡ Allowed = sym (ruled s here) ∙ subst (λ (q : Request). IsAccepted s q) is accepted in
-    let both : false ≡ true = sym differs ∙ ap is_allowed allowed in absurd (cc (both))
+-- where another ruling is made on a command, it isn't accepted
+pub none_accepted : (s : State) (c : Command) (r : Ruling) → ruling s c ≡ r → is_allowed r ≡ false
+    → IsAccepted s (Do c) → ⊥
+none_accepted s c r is differs accepted =
+    let both : false ≡ true = sym differs ∙ ap is_allowed (sym is ∙ accepted) in absurd (cc (both))
 
 -- an accepted command of this verb is a rotation
-pub rotates_then : (s : State) (request : Request) (c : Command)
-    → request ≡ Do c → c.call ≡ Rotate → IsAccepted s request → is_rotation s request ≡ false → ⊥
-rotates_then s request c is call accepted none =
-    let allowed : ruling s c ≡ Allowed = subst (λ (q : Request). IsAccepted s q) is accepted in
+pub rotates_then : (s : State) (c : Command) → c.call ≡ Rotate → IsAccepted s (Do c)
+    → is_rotation s (Do c) ≡ false → ⊥
+rotates_then s c call accepted none =
     let rotation : is_rotation s (Do c) ≡ true =
-    ap (λ (r : Ruling). is_rotate c.call && is_allowed r) allowed ∙ ap (λ (k : Call). is_rotate k && true) call in
-    let no : true ≡ false = sym rotation ∙ ap (is_rotation s) (sym is) ∙ none in absurd (cc (no))
+    ap (λ (r : Ruling). is_rotate c.call && is_allowed r) accepted ∙ ap (λ (k : Call). is_rotate k && true) call in
+    let no : true ≡ false = sym rotation ∙ none in absurd (cc (no))
 
 -- the disk that is taken is so much later
 pub taken_later : {D : Type 0} (at : D → DiskAt) (side : Side) (t b t' b' : D) (n : ℕ) → IsLater at n t t'

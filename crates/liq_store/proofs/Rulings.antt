@@ -12,17 +12,16 @@ use Rattle.liq_rule_step.specs.Rules.{call_changes}
 use Rattle.liq_rule_step.specs.Step.{Ruling, after_ruling, ruling, step}
 use Rattle.liq_store.specs.Telling.{told, told_by, told_of}
 
-pub ruled : (core : Core) (s : State) (c : Command) (request : Request) (r : Ruling) (reply : Reply) → request ≡ Do c
-    → ruling s c ≡ r → StandsFor core (after_ruling s c r).0 → (after_ruling s c r).1 ≡ reply
-    → StandsFor core (step s request).0 × ((step s request).1 ≡ reply)
-ruled core s c request r reply is_do is stands said =
-    subst (λ (q : Request). StandsFor core (step s q).0 × ((step s q).1 ≡ reply)) (sym is_do)
-    (subst (λ (x : Ruling). StandsFor core (after_ruling s c x).0 × ((after_ruling s c x).1 ≡ reply)) (sym is)
-    (stands, said))
+pub ruled : (core : Core) (s : State) (c : Command) (r : Ruling) (reply : Reply) → ruling s c ≡ r
+    → StandsFor core (after_ruling s c r).0 → (after_ruling s c r).1 ≡ reply
+    → StandsFor core (step s (Do c)).0 × ((step s (Do c)).1 ≡ reply)
+ruled core s c r reply is stands said =
+    subst (λ (x : Ruling). StandsFor core (after_ruling s c x).0 × ((after_ruling s c x).1 ≡ reply)) (sym is)
+    (stands, said)
 
-pub told_by_ruling : (s : State) (c : Command) (request : Request) (r : Ruling) → request ≡ Do c → ruling s c ≡ r
-    → told_of s request ≡ told_by r (call_changes s c.call)
-told_by_ruling s c request r is_do is = ap (told_of s) is_do ∙ ap (λ (x : Ruling). told_by x (call_changes s c.call)) is
+pub told_by_ruling : (s : State) (c : Command) (r : Ruling) → ruling s c ≡ r
+    → told_of s (Do c) ≡ told_by r (call_changes s c.call)
+told_by_ruling s c r is = ap (λ (x : Ruling). told_by x (call_changes s c.call)) is
 
 -- where it tells nothing the changes stay
 pub none_told : (s : State) (request : Request) (a : Answer) (before now : List ListChange) → now ≡ before

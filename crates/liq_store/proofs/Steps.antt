@@ -7,7 +7,6 @@ use Rattle.liq_types.specs.declared.replies.Reply.TheVariants.{Said}
 use Rattle.liq_types.specs.declared.requests.Call.{Call}
 use Rattle.liq_types.specs.declared.requests.Call.TheVariants.{Open, Adjust, GainToTrove, Redeem, Rotate}
 use Rattle.liq_types.specs.declared.requests.Command.{Command}
-use Rattle.liq_types.specs.declared.requests.Request.{Request}
 use Rattle.liq_types.specs.declared.requests.Request.TheVariants.{Do}
 use Rattle.liq_types.specs.State.{State}
 use Rattle.liq_core.specs.Core.{Core, StandsFor}
@@ -29,14 +28,13 @@ pub prepared_steps : (done : Core) (s : State) (c : Command) (plan : Plan) → (
 prepared_steps done s c plan is stands = subst (StandsFor done) (after_same s c.client c.number c.call)
     (stepped done s (unhinted c) plan is stands)
 
-pub replied : (done : Core) (s : State) (c : Command) (plan : Plan) (request : Request) (reply : Done) → request ≡ Do c
+pub replied : (done : Core) (s : State) (c : Command) (plan : Plan) (reply : Done)
     → plan.command ≡ unhinted c → StandsFor done (step s (Do plan.command)).0 → (step s (Do plan.command)).1
     ≡ Said reply
-    → StandsFor done (step s request).0 × ((step s request).1 ≡ Said reply)
-replied done s c plan request reply is_do is stands said =
-    subst (λ (q : Request). StandsFor done (step s q).0 × ((step s q).1 ≡ Said reply)) (sym is_do)
-    (subst (λ (r : State × Reply). StandsFor done r.0 × (r.1 ≡ Said reply)) (ap (λ (k : Command). step s (Do k)) is
-    ∙ sym (hints_idle s c)) (stands, said))
+    → StandsFor done (step s (Do c)).0 × ((step s (Do c)).1 ≡ Said reply)
+replied done s c plan reply is stands said =
+    subst (λ (r : State × Reply). StandsFor done r.0 × (r.1 ≡ Said reply)) (ap (λ (k : Command). step s (Do k)) is
+    ∙ sym (hints_idle s c)) (stands, said)
 
 -- what it changes in the ordered list
 changes_same : (s : State) (call : Call) → call_changes s (unhinted_call call) ≡ call_changes s call
@@ -46,12 +44,11 @@ changes_same s (GainToTrove account hint) = refl
 changes_same s (Redeem account lusd bound hint) = refl
 changes_same s _ = refl
 
-pub prepared_told : (s : State) (c : Command) (plan : Plan) (request : Request) → request ≡ Do c
-    → (plan.command ≡ unhinted c) × IsPlan s plan → plan.changes ≡ told_of s request
-prepared_told s c plan request is_do is =
+pub prepared_told : (s : State) (c : Command) (plan : Plan) → (plan.command ≡ unhinted c) × IsPlan s plan
+    → plan.changes ≡ told_of s (Do c)
+prepared_told s c plan is =
     is.1.changes ∙ ap (λ (k : Command). call_changes s k.call) is.0 ∙ changes_same s c.call
     ∙ ap (λ (r : Ruling). told_by r (call_changes s c.call)) (sym (prepared_allowed s c plan is))
-    ∙ ap (told_of s) (sym is_do)
 
 -- a rotation has no hint words
 pub unhinted_rotation : (c : Command) → c.call ≡ Rotate → unhinted c ≡ c

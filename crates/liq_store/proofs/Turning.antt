@@ -9,7 +9,6 @@ use Rattle.liq_types.specs.declared.replies.Answer.{Answer}
 use Rattle.liq_types.specs.declared.replies.Answer.TheVariants as answer
 use Rattle.liq_types.specs.declared.replies.Reply.{Reply}
 use Rattle.liq_types.specs.declared.requests.Command.{Command}
-use Rattle.liq_types.specs.declared.requests.Request.{Request}
 use Rattle.liq_types.specs.declared.requests.Request.TheVariants.{Do}
 use Rattle.liq_types.specs.State.{State}
 use Rattle.liq_core.specs.Core.{Core, SameContent, StandsFor}
@@ -256,29 +255,27 @@ module _ {D : Type 0} (at : D → DiskAt) (side : Side) (taken : JournalOn D) (b
     }
 
     -- after a fault the same disk is taken
-    pub turning_failed : (old : Stored D) → stored side taken b core stopped before ≡ old → (request : Request)
-        → request ≡ Do c → (next : Core) (later : Option ℕ) (changes : List ListChange)
-        → WritesOn at old request answer.DiskFault (stored side taken now next later changes)
-    turning_failed old same request is next later changes =
-        subst (λ (o : Stored D). WritesOn at o request answer.DiskFault (stored side taken now next later changes)) same
-        (subst (λ (q : Request). WritesOn at (stored side taken b core stopped before) q answer.DiskFault
-        (stored side taken now next later changes)) (sym is)
+    pub turning_failed : (old : Stored D) → stored side taken b core stopped before ≡ old
+        → (next : Core) (later : Option ℕ) (changes : List ListChange)
+        → WritesOn at old (Do c) answer.DiskFault (stored side taken now next later changes)
+    turning_failed old same next later changes =
+        subst (λ (o : Stored D). WritesOn at o (Do c) answer.DiskFault (stored side taken now next later changes)) same
         (writes_on at side side core next taken.start taken.start stopped later before changes (Do c) answer.DiskFault
         taken.disk b taken.disk now
-        (writes answer.DiskFault side taken.start (λ s stands. refl) (λ s stands. refl) (λ none. absurd (cc (none))))))
+        (writes answer.DiskFault side taken.start (λ s stands. refl) (λ s stands. refl) (λ none. absurd (cc (none)))))
 
     -- after a reply the other one
-    pub turning_done : (old : Stored D) → stored side taken b core stopped before ≡ old → (request : Request)
-        → request ≡ Do c → (reply : Reply) (next : Core) (later : Option ℕ) (changes : List ListChange)
+    pub turning_done : (old : Stored D) → stored side taken b core stopped before ≡ old
+        → (reply : Reply) (next : Core) (later : Option ℕ) (changes : List ListChange)
         → (generation limit start count : ℕ) → start ≡ start_of (beginning (taken.generation + 1) bytes)
-        → WritesOn at old request (answer.Reply reply) (stored (other side) (record {
+        → WritesOn at old (Do c) (answer.Reply reply) (stored (other side) (record {
           disk = now;
           generation = generation;
           limit = limit;
           start = start;
           count = count;
         }) taken.disk next later changes)
-    turning_done old same request is reply next later changes generation limit start count known =
+    turning_done old same reply next later changes generation limit start count known =
         let new = stored (other side) (record {
           disk = now;
           generation = generation;
@@ -286,9 +283,7 @@ module _ {D : Type 0} (at : D → DiskAt) (side : Side) (taken : JournalOn D) (b
           start = start;
           count = count;
         }) taken.disk next later changes in
-        subst (λ (o : Stored D). WritesOn at o request (answer.Reply reply) new) same
-        (subst (λ (q : Request). WritesOn at (stored side taken b core stopped before) q (answer.Reply reply) new)
-        (sym is)
+        subst (λ (o : Stored D). WritesOn at o (Do c) (answer.Reply reply) new) same
         (turned_on at side core next taken.start start stopped later before changes (Do c) (answer.Reply reply)
         taken.disk b now
         (writes (answer.Reply reply) (other side) start
@@ -298,4 +293,4 @@ module _ {D : Type 0} (at : D → DiskAt) (side : Side) (taken : JournalOn D) (b
         ∙ ap (λ (l : List ℕ). start_of (beginning (s.generation + 1) l)) (turns.rotation s stands).checkpoint_is
         ∙ sym (ap (λ (b : Bool). if b then start_of (rotation_of s c)
         else taken.start) (rotation_is s c (beginning (s.generation + 1) bytes) (turns.rotation s stands))))
-        (λ none. absurd (cc (none))))))
+        (λ none. absurd (cc (none)))))

@@ -11,6 +11,7 @@ use Rattle.liq_journal.specs.Bodies.{IsBodyFault, body_at}
 use Rattle.liq_disk_records.specs.declared.answers.AcceptedFault.{AcceptedFault}
 use Rattle.liq_disk_records.specs.declared.answers.AcceptedFault.TheVariants as accepted
 use Rattle.liq_rule_step.specs.Memory.{IsAccepted, TakesMemory}
+use Rattle.liq_store.specs.Stored.{Stored}
 
 -- A request in this state, and the protocol after it, of a store that was not stopped: the step's
 -- reply; or no memory, where it may be asked for; or a disk's fault, where an accepted command was
@@ -21,6 +22,11 @@ Answers s request (answer.Reply reply) core = StandsFor core (step s request).0
 Answers s request answer.NoMemory core = StandsFor core s × TakesMemory s request
 Answers s request answer.DiskFault core = StandsFor core s × IsAccepted s request
 Answers s request _ core = ⊥
+
+-- the same of a store before a call and after it, in each state for which it stands
+abbrev pub AnswersByStep : {D : Type 0} → Stored D → Request → Answer → Stored D → Type 0
+AnswersByStep old request answer new =
+    (s : State) → StandsFor old.core s → Answers s request answer new.core
 
 -- A record that was read is no record: its number is among those of the accepted commands, and its
 -- bytes, where the journal has it, have another digest than the one behind them, or are no command.

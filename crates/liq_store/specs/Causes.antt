@@ -8,6 +8,7 @@ use Rattle.liq_disk_records.specs.declared.answers.AcceptedFault.{AcceptedFault}
 use Rattle.liq_disk_records.specs.declared.answers.AcceptedFault.TheVariants as accepted
 use Rattle.liq_store.specs.declared.answers.StoreWhy.{StoreWhy}
 use Rattle.liq_store.specs.declared.answers.StoreWhy.TheVariants as why
+use Rattle.liq_store.specs.Stored.{Stored}
 
 -- the counts of the left and the right disk
 pub record Faults : Type 0 where
@@ -16,6 +17,10 @@ pub record Faults : Type 0 where
 
 abbrev pub counts_of : {D : Type 0} → (D → DiskAt) → D → D → Faults
 counts_of at left right = record { left = (at left).faults; right = (at right).faults }
+
+-- those of a store's disks
+abbrev pub faults_of : {D : Type 0} → (D → DiskAt) → Stored D → Faults
+faults_of at store = counts_of at store.left store.right
 
 -- neither count of faults fell, and one of them rose
 pub record OneRose (before after : Faults) : Type 0 where
@@ -49,6 +54,10 @@ stopped_by (Some first) faults = Some first
 abbrev pub stopped_after : Option ℕ → Answer → Faults → Option ℕ
 stopped_after stopped answer.DiskFault faults = stopped_by stopped faults
 stopped_after stopped _ faults = stopped
+
+-- it is so over a call with this answer
+abbrev pub StopsAfter : {D : Type 0} → (D → DiskAt) → Stored D → Answer → Stored D → Type 0
+StopsAfter at old answer new = new.stopped ≡ stopped_after old.stopped answer (faults_of at new)
 
 abbrev pub stopped_after_reading : {T : Type 0} → Option ℕ → Result T AcceptedFault → Faults
     → Option ℕ

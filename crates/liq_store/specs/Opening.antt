@@ -1,13 +1,15 @@
 -- What an opening finds, and what it leaves.
-use Rattle.std.specs.Prelude.{◌≡◌, ◌≢◌, ℕ, List, Some, None, Result, Ok, Err, Bool}
+use Rattle.std.specs.Prelude.{◌≡◌, ◌≢◌, ℕ, List, Some, None, IfSome, Result, Ok, Err, Bool}
 use Rattle.liq_types.specs.declared.requests.Command.{Command}
 use Rattle.liq_types.specs.State.{State}
 use Rattle.liq_outside.specs.At.{DiskAt}
 use Rattle.liq_core.specs.Core.{StandsFor}
-use Rattle.liq_journal.specs.Written.{Open, Written, found_on, start_of}
+use Rattle.liq_journal.specs.Opened.{IsUnshut}
+use Rattle.liq_journal.specs.Written.{Absent, Open, Written, found_on, start_of}
+use Rattle.liq_disk_pair.specs.declared.side.Side.{Side}
 use Rattle.liq_disk_pair.specs.Kept.{IsKept}
 use Rattle.liq_disk_pair.specs.Pair.{commands_on, state_on}
-use Rattle.liq_disk_pair.specs.Sides.{has_odd}
+use Rattle.liq_disk_pair.specs.Sides.{has_odd, other}
 use Rattle.liq_disk_pair.specs.Unfinished.{IsRecovered}
 use Rattle.liq_store.specs.declared.answers.StoreFault.{StoreFault}
 use Rattle.liq_store.specs.declared.answers.StoreWhy.{StoreWhy}
@@ -50,6 +52,12 @@ pub record OpensOn {D : Type 0} (at : D → DiskAt) (left right : D) (store : St
       → (at left).seen ≡ Some l → (at right).seen ≡ Some r
       → (at store.left).seen ≡ Some a → (at store.right).seen ≡ Some b
       → state_on a b ≡ state_on l r
+
+-- the disk beside this side has no other byte than 0 at place 0, if it has one, where no journal is
+-- open on it
+abbrev pub IsShutBeside : {D : Type 0} → (D → DiskAt) → Side → D → Type 0
+IsShutBeside at side disk =
+    IfSome (at disk).seen (λ now. found_on (has_odd (other side)) now ≡ Absent → IsUnshut now → ⊥)
 
 -- why nothing was opened: a damage is the first of the pair
 abbrev pub IsWhyOf : List ℕ → List ℕ → StoreWhy → Type 0

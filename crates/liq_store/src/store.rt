@@ -1,40 +1,37 @@
 //! A store: two disks, the protocol that they stand for, and what nobody has followed yet of the
 //! list's changes. Each command is planned and given room, then written, then made.
-ghost use Rattle.std.specs.Prelude.{◌≡◌, ◌≢◌, ◌↔◌, ◌+◌, ◌++◌, [], min, Some, None, Ok, Err, List, ℕ, false};
+ghost use Rattle.std.specs.Prelude.{◌≡◌, ◌≢◌, ◌↔◌, ◌+◌, [], min, Some, None, Ok, Err, List, ℕ, false};
 ghost use Rattle.std.specs.Prelude.{length, take, IfOk, IfErr, IfSome, IsSome, true};
 ghost use Rattle.std.specs.List.{All};
 ghost use Rattle.liq_outside.specs.Disk.{GoesOn, LeavesOnly, LeftNow, Looked, Only};
 ghost use Rattle.liq_outside.specs.Faults.{count_most};
 ghost use Rattle.liq_outside.specs.Showings.{Notes};
 ghost use Rattle.liq_types.specs.declared.requests.Command.{Command};
-ghost use Rattle.liq_types.specs.declared.requests.Query.{Query};
-ghost use Rattle.liq_types.specs.declared.requests.Request.TheVariants.{Ask};
-ghost use Rattle.liq_types.specs.State.{State, opening};
+ghost use Rattle.liq_types.specs.declared.requests.Request.TheVariants.{Do};
+ghost use Rattle.liq_types.specs.State.{State};
 ghost use Rattle.liq_core.specs.Core.{StandsFor};
-ghost use Rattle.liq_core.specs.Entries.{told_whole};
-ghost use Rattle.liq_rule_step.specs.View.{all_followed, view_of};
 ghost use Rattle.liq_journal.specs.Causes.{Counted};
 ghost use Rattle.liq_journal.specs.declared.damage.Damage.{Damage};
 ghost use Rattle.liq_journal.specs.Opened.{IsUnshut, OpenLeaves};
 ghost use Rattle.liq_types.specs.Verbs.{is_rotate};
-ghost use Rattle.liq_journal.specs.Written.{Absent, Open, Written, found_on};
+ghost use Rattle.liq_journal.specs.Written.{Open, Written, found_on};
 ghost use Rattle.liq_disk_pair.specs.declared.side.Side.{Side};
 ghost use Rattle.liq_disk_pair.specs.Kept.{IsKept};
 ghost use Rattle.liq_disk_pair.specs.Pair.{StandFor, state_on};
 ghost use Rattle.liq_disk_pair.specs.Sides.{has_odd, on, other};
 ghost use Rattle.liq_disk_pair.specs.Unfinished.{IsRecovered, LeftLeaves};
 ghost use Rattle.liq_disk_records.specs.Reading.{IsReadable};
-ghost use Rattle.liq_store.specs.Answering.{Answers, IsUnreadable};
+ghost use Rattle.liq_store.specs.Answering.{AnswersByStep, IsUnreadable};
 ghost use Rattle.liq_store.specs.Beginning.{BeginsLeft, Creates, IsEarlier, IsStoodOn, IsUnbegun};
 ghost use Rattle.liq_store.specs.Calling.{AppendsOnce, WritesOn};
-ghost use Rattle.liq_store.specs.Causes.{CausesAccepted, CausesAnswer, stopped_after, stopped_after_reading};
+ghost use Rattle.liq_store.specs.Causes.{CausesAccepted, CausesAnswer, StopsAfter, faults_of, stopped_after_reading};
 ghost use Rattle.liq_store.specs.Judging.{disk_of};
 ghost use Rattle.liq_store.specs.Keeping.{IsAtRest, IsInOrder, LeavesPairs};
-ghost use Rattle.liq_store.specs.Opening.{OpensOn, left_after, right_after};
+ghost use Rattle.liq_store.specs.Opening.{IsShutBeside, OpensOn, left_after, right_after};
 ghost use Rattle.liq_store.specs.declared.standing.Stood.TheVariants.{Holding};
 ghost use Rattle.liq_store.specs.Standing.{OnlyShuts};
 ghost use Rattle.liq_store.specs.Stored.{disk_beside, taken_disk};
-ghost use Rattle.liq_store.specs.Telling.{told};
+ghost use Rattle.liq_store.specs.Telling.{LeadsToList, TellsChanges, TellsList};
 ghost use Rattle.liq_store.specs.Within.{IsWithin, stored};
 
 use crate::answers::{StoreFault, StoreWhy};
@@ -124,13 +121,10 @@ impl<D: Disk> Store<D> {
         ensures order { IfOk result (IsInOrder D.at) }
         // The words of which keys are made, and then each trove in the list's order: who follows
         // them from nothing has the list.
-        ensures told { IfOk result (λ store. store.changes
-            ≡ told_whole store.core.image store.core.list) }
-        ensures followed { IfOk result (λ store. (s : State) → StandsFor store.core s
-            → all_followed (view_of opening) store.changes ≡ view_of s) }
+        ensures told { IfOk result (λ store. TellsList store.core store.changes) }
+        ensures followed { IfOk result (λ store. LeadsToList store.core store.changes) }
         // A disk on which none is open has no other byte than 0 at place 0, if it has one.
-        ensures shut { IfOk result (λ store. IfSome (D.at (disk_beside store)).seen
-            (λ now. found_on (has_odd (other store.side)) now ≡ Absent → IsUnshut now → ⊥)) }
+        ensures shut { IfOk result (λ store. IsShutBeside D.at store.side (disk_beside store)) }
 
         // Where nothing is opened and no disk met a fault nothing is pending: both disks are synced
         // before either is judged.
@@ -190,18 +184,14 @@ impl<D: Disk> Store<D> {
             × (self.new ≡ self.old) }
 
         // One that isn't replies by the step. Without memory or after a fault there is no step.
-        ensures step { self.old.stopped ≡ None → (s : State) → StandsFor self.old.core s
-            → Answers s request.now result self.new.core }
+        ensures step { self.old.stopped ≡ None
+            → AnswersByStep self.old request.now result self.new }
 
-        ensures stops { self.new.stopped ≡ stopped_after self.old.stopped result
-            (record { left = (D.at self.new.left).faults; right = (D.at self.new.right).faults }) }
+        ensures stops { StopsAfter D.at self.old result self.new }
         // An accepted command that is answered tells its changes, and nothing else tells any.
-        ensures told { (s : State) → StandsFor self.old.core s
-            → self.new.changes ≡ self.old.changes ++ told s request.now result }
+        ensures told { TellsChanges self.old request.now result self.new }
 
-        ensures cause { CausesAnswer result
-            (record { left = (D.at self.old.left).faults; right = (D.at self.old.right).faults })
-            (record { left = (D.at self.new.left).faults; right = (D.at self.new.right).faults }) }
+        ensures cause { CausesAnswer result (faults_of D.at self.old) (faults_of D.at self.new) }
 
         // Only an accepted command is written. A stop leaves two disks that are kept for the state
         // before the call or after it; after a reply, by `order`, for that after it.
@@ -212,34 +202,24 @@ impl<D: Disk> Store<D> {
         if let Some(faults) = self.stopped {
             return Answer::Stopped { faults };
         }
-        if let Request::Ask(query) = request {
-            return Answer::Reply(self.protocol.query(query));
+        match request {
+            Request::Do(command) => self.carry_out(command, hint),
+            Request::Ask(query) => Answer::Reply(self.protocol.query(query)),
         }
-        self.carry_out(request, hint)
     }
 
     // The same of a command, where the store isn't stopped: apart, so that what its plan takes is
     // neither cleared nor moved for a query.
-    fn carry_out(&mut self, request: &Request, hint: &Hint) -> Answer
+    fn carry_out(&mut self, command: &Command, hint: &Hint) -> Answer
         requires going { self.old.stopped ≡ None }
-        requires command { (query : Query) → request.now ≢ Ask query }
-        ensures step { (s : State) → StandsFor self.old.core s
-            → Answers s request.now result self.new.core }
-        ensures stops { self.new.stopped ≡ stopped_after self.old.stopped result
-            (record { left = (D.at self.new.left).faults; right = (D.at self.new.right).faults }) }
-        ensures told { (s : State) → StandsFor self.old.core s
-            → self.new.changes ≡ self.old.changes ++ told s request.now result }
-        ensures cause { CausesAnswer result
-            (record { left = (D.at self.old.left).faults; right = (D.at self.old.right).faults })
-            (record { left = (D.at self.new.left).faults; right = (D.at self.new.right).faults }) }
-        ensures disks { WritesOn D.at self.old request.now result self.new }
-        ensures appended { AppendsOnce D.at self.old request.now result self.new }
+        ensures step { AnswersByStep self.old (Do command.now) result self.new }
+        ensures stops { StopsAfter D.at self.old result self.new }
+        ensures told { TellsChanges self.old (Do command.now) result self.new }
+        ensures cause { CausesAnswer result (faults_of D.at self.old) (faults_of D.at self.new) }
+        ensures disks { WritesOn D.at self.old (Do command.now) result self.new }
+        ensures appended { AppendsOnce D.at self.old (Do command.now) result self.new }
         ensures order { IsInOrder D.at self.new }
     {
-        let command = match request {
-            Request::Do(command) => command,
-            Request::Ask(_) => unreachable!(),
-        };
         let (planned, hints) = match prepare(&mut self.protocol, &mut self.changes, command, hint) {
             Prepared::Ready(planned, hints) => (planned, hints),
             Prepared::Again(done) => return Answer::Reply(Reply::Said(done)),
@@ -329,10 +309,8 @@ impl<D: Disk> Store<D> {
           stopped = self.new.stopped;
         } }
         ensures stops { self.new.stopped ≡ stopped_after_reading self.old.stopped result
-            (record { left = (D.at self.new.left).faults; right = (D.at self.new.right).faults }) }
-        ensures cause { CausesAccepted result
-            (record { left = (D.at self.old.left).faults; right = (D.at self.old.right).faults })
-            (record { left = (D.at self.new.left).faults; right = (D.at self.new.right).faults }) }
+            (faults_of D.at self.new) }
+        ensures cause { CausesAccepted result (faults_of D.at self.old) (faults_of D.at self.new) }
         ensures order { IsInOrder D.at self.new }
     {
         match read_commands(self.alloc, &mut self.taken) {
@@ -413,12 +391,9 @@ fn begin_told<D: Disk>(
     requires right { IsStoodOn D.at false right }
     ensures opened { IfOk result (OpensOn D.at (disk_of left) (disk_of right)) }
     ensures order { IfOk result (IsInOrder D.at) }
-    ensures told { IfOk result (λ store. store.changes
-        ≡ told_whole store.core.image store.core.list) }
-    ensures followed { IfOk result (λ store. (s : State) → StandsFor store.core s
-        → all_followed (view_of opening) store.changes ≡ view_of s) }
-    ensures shut { IfOk result (λ store. IfSome (D.at (disk_beside store)).seen
-        (λ now. found_on (has_odd (other store.side)) now ≡ Absent → IsUnshut now → ⊥)) }
+    ensures told { IfOk result (λ store. TellsList store.core store.changes) }
+    ensures followed { IfOk result (λ store. LeadsToList store.core store.changes) }
+    ensures shut { IfOk result (λ store. IsShutBeside D.at store.side (disk_beside store)) }
     ensures left { BeginsLeft D.at left right (left_after result) }
     ensures right { right_after result ≡ disk_of right }
     ensures cause { IfErr result (IsUnbegun D.at (disk_of left) (disk_of right)) }
@@ -436,10 +411,8 @@ fn begin_told<D: Disk>(
 fn with_list<D: Disk>(store: Store<D>) -> Result<Store<D>, StoreFault<D>>
     ensures store { IfOk result (λ listed. listed ≡ record store { changes = listed.changes }) }
     ensures order { IfOk result (IsInOrder D.at) }
-    ensures told { IfOk result (λ listed. listed.changes
-        ≡ told_whole store.core.image store.core.list) }
-    ensures followed { IfOk result (λ listed. (s : State) → StandsFor store.core s
-        → all_followed (view_of opening) listed.changes ≡ view_of s) }
+    ensures told { IfOk result (λ listed. TellsList store.core listed.changes) }
+    ensures followed { IfOk result (λ listed. LeadsToList store.core listed.changes) }
     ensures err { IfErr result (λ e. (e.left ≡ store.left) × (e.right ≡ store.right)
         × (e.why ≡ StoreWhy.NoMemory)) }
 {
@@ -464,8 +437,7 @@ fn begin<D: Disk>(alloc: Global, left: Stood<D>, right: Stood<D>) -> Result<Stor
     requires right { IsStoodOn D.at false right }
     ensures opened { IfOk result (OpensOn D.at (disk_of left) (disk_of right)) }
     ensures order { IfOk result (IsInOrder D.at) }
-    ensures shut { IfOk result (λ store. IfSome (D.at (disk_beside store)).seen
-        (λ now. found_on (has_odd (other store.side)) now ≡ Absent → IsUnshut now → ⊥)) }
+    ensures shut { IfOk result (λ store. IsShutBeside D.at store.side (disk_beside store)) }
     ensures fault { IfErr result (λ e. e.why ≡ StoreWhy.DiskFault) }
     ensures left { BeginsLeft D.at left right (left_after result) }
     ensures right { right_after result ≡ disk_of right }
@@ -513,8 +485,7 @@ fn go_on<D: Disk>(
     ensures opened { OpensOn D.at (on side taken.disk (disk_of aside))
         (on side (disk_of aside) taken.disk) result }
     ensures order { IsInOrder D.at result }
-    ensures shut { IfSome (D.at (disk_beside result)).seen
-        (λ now. found_on (has_odd (other side)) now ≡ Absent → IsUnshut now → ⊥) }
+    ensures shut { IsShutBeside D.at side (disk_beside result) }
 {
     begin_on(alloc, side, taken, disk_of(aside), protocol)
 }
@@ -548,8 +519,7 @@ fn begin_anew<D: Disk>(alloc: Global, left: D, right: D) -> Result<Store<D>, Sto
     requires rests { IsAtRest D.at right }
     ensures opened { IfOk result (OpensOn D.at left right) }
     ensures order { IfOk result (IsInOrder D.at) }
-    ensures shut { IfOk result (λ store. IfSome (D.at (disk_beside store)).seen
-        (λ now. found_on (has_odd (other store.side)) now ≡ Absent → IsUnshut now → ⊥)) }
+    ensures shut { IfOk result (λ store. IsShutBeside D.at store.side (disk_beside store)) }
     ensures fault { IfErr result (λ e. e.why ≡ StoreWhy.DiskFault) }
     ensures left { Creates D.at left (left_after result) }
     ensures right { right_after result ≡ right }

@@ -1,10 +1,12 @@
-use Rattle.std.proofs.Common.{refl, ap, subst}
+use Rattle.std.proofs.Common.{refl, ap, subst, sym}
 use Rattle.liq_types.specs.declared.replies.Answer.TheVariants as answer
 use Rattle.liq_types.specs.declared.requests.Request.{Request}
 use Rattle.liq_rule_step.specs.Memory.{IsAccepted}
-use Rattle.liq_store.specs.Calling.{WritesOn}
+use Rattle.liq_store.specs.Answering.{AnswersByStep}
+use Rattle.liq_store.specs.Calling.{AppendsOnce, WritesOn}
 use Rattle.liq_store.specs.Rotating.{is_rotation}
 use Rattle.liq_store.specs.Stored.{Stored}
+use Rattle.liq_store.specs.Telling.{TellsChanges}
 use Rattle.liq_store.proofs.Calling.{reply_stays, stays_on}
 use Rattle.liq_store.proofs.store.Store.call.Goals as goal
 
@@ -32,3 +34,21 @@ returns-in-Some-clause-disks g c =
 pub returns-in-Ask-clause-appended : goal.returns-in-Ask-clause-appended
 returns-in-Ask-clause-appended g c s stands accepted none =
     absurd (subst (λ (q : Request). IsAccepted s q) c.in-Ask.is accepted)
+
+-- ---- a command is carried out
+
+pub returns-in-Do-clause-step : goal.returns-in-Do-clause-step
+returns-in-Do-clause-step g c goes = subst (λ (q : Request). AnswersByStep c.args.self.now q c.carry_out.result
+    c.carry_out.new.self) (sym c.in-Do.is) c.carry_out.ensures.step
+
+pub returns-in-Do-clause-told : goal.returns-in-Do-clause-told
+returns-in-Do-clause-told g c = subst (λ (q : Request). TellsChanges c.args.self.now q c.carry_out.result
+    c.carry_out.new.self) (sym c.in-Do.is) c.carry_out.ensures.told
+
+pub returns-in-Do-clause-disks : goal.returns-in-Do-clause-disks
+returns-in-Do-clause-disks g c = subst (λ (q : Request). WritesOn g.D.Disk.at c.args.self.now q c.carry_out.result
+    c.carry_out.new.self) (sym c.in-Do.is) c.carry_out.ensures.disks
+
+pub returns-in-Do-clause-appended : goal.returns-in-Do-clause-appended
+returns-in-Do-clause-appended g c = subst (λ (q : Request). AppendsOnce g.D.Disk.at c.args.self.now q
+    c.carry_out.result c.carry_out.new.self) (sym c.in-Do.is) c.carry_out.ensures.appended
