@@ -3,16 +3,17 @@ use Rattle.std.proofs.Common.{◌≡◌, ℕ, ◌<◌, List, [], Option, Result,
 use Rattle.std.specs.Prelude.{◌⊎◌}
 use Rattle.liq_types.specs.declared.events.PoolEvent.{PoolEvent}
 use Rattle.liq_types.specs.declared.requests.Command.{Command}
+use Rattle.liq_types.specs.Image.{IsLimit}
 use Rattle.liq_types.specs.State.{State, opening_with}
-use Rattle.liq_types.specs.WellFormed.{IsWellFormed}
 use Rattle.liq_rule_step.specs.Events.{events}
+use Rattle.liq_rule_sound.specs.SoundState.{IsSoundState}
 use Rattle.liq_journal.specs.declared.damage.Damage.{Damage}
 use Rattle.liq_journal.specs.Written.{Written}
 use Rattle.liq_disk_pair.specs.declared.side.Side.{Side}
 use Rattle.liq_disk_pair.specs.Replay.{replay}
 use Rattle.liq_disk_pair.proofs.Basing.{outcome_first}
 use Rattle.liq_disk_pair.proofs.Generations.{HaveNoRotation, outcome_generation, outcome_limit}
-use Rattle.liq_disk_pair.proofs.Replaying.{opening_formed, outcome_formed}
+use Rattle.liq_disk_pair.proofs.Replaying.{outcome_sound}
 use Rattle.liq_store.specs.declared.answers.StoreWhy.{StoreWhy}
 use Rattle.liq_store.specs.declared.answers.StoreWhy.TheVariants as why
 use Rattle.liq_text_audit.specs.declared.fault.ReviewFault.{ReviewFault}
@@ -47,9 +48,12 @@ unopened_none why.NoMemory = tt
 module _ (what : Text) (rotated : (s : State) (commands : List Command) (held : Option (List ℕ))
     → 1 < s.generation → WritesTold what s commands (Err (Rotated s.generation)) held held) where
   stops_some : (halt : Halt) (held : Option (List ℕ)) → StopsWhole halt → WritesSome what (Err halt) held held
-  stops_some (Rotated generation) held later =
-      let s : State = record (opening_with 0) { generation = generation } in
-      inl (s, [], opening_formed 0, rotated s [] held later)
+  stops_some (Rotated generation) held (s, sound, later, is) = inl (
+    s,
+    [],
+    sound,
+    subst (λ (n : ℕ). WritesTold what s [] (Err (Rotated n)) held held) (sym is) (rotated s [] held later),
+  )
   stops_some DiskFault held none = inr (tt, refl)
   stops_some (Damaged side number) held none = inr (tt, refl)
   stops_some NoMemory held none = inr (tt, refl)
@@ -78,12 +82,12 @@ review_damaged : (told : List PoolEvent) (came : Result State Damage) (damage : 
     → review_of told came ≡ Err (review.Refused damage.index (replay_code damage.what))
 review_damaged told came damage is = ap (review_of told) is
 
-module _ (limit : ℕ) (commands : List Command) (none : HaveNoRotation commands) where
-  -- They lead to it. It is of the limit, and well formed.
+module _ (limit : ℕ) (known : IsLimit limit) (commands : List Command) (none : HaveNoRotation commands) where
+  -- They lead to it. It is of the limit, and sound.
   record Came (s : State) : Type 0 where
     limit_is : s.limit ≡ limit
     leads : LeadTo commands s
-    formed : IsWellFormed s
+    sound : IsSoundState s
 
   came : (s : State) → replay 1 (opening_with limit) commands ≡ Ok s → Came s
   came s is =
@@ -96,7 +100,7 @@ module _ (limit : ℕ) (commands : List Command) (none : HaveNoRotation commands
           outcome_generation w s none so,
           subst (λ (l : ℕ). replay 1 (opening_with l) commands ≡ Ok s) (sym same) is,
         );
-        formed = outcome_formed w s so;
+        sound = outcome_sound w s known so;
       }
 
   pub review_some : (end : End) (before now : Option (List ℕ))
@@ -114,7 +118,7 @@ module _ (limit : ℕ) (commands : List Command) (none : HaveNoRotation commands
       inl (
         s,
         commands,
-        state.formed,
+        state.sound,
         audit_reviewed s commands end before now state.leads
             (subst (λ (l : ℕ). WritesText (reviewed l commands) end before now) (sym state.limit_is) so.0) so.1,
       )
@@ -140,7 +144,7 @@ module _ (limit : ℕ) (commands : List Command) (none : HaveNoRotation commands
       inl (
         s,
         commands,
-        state.formed,
+        state.sound,
         answers_written s commands asked end before now state.leads
             (subst (λ (l : ℕ). WritesText (Ok (asked_text asked l commands)) end before now) (sym state.limit_is)
             wrote),

@@ -2,7 +2,7 @@
 use Rattle.std.specs.Prelude.{ℕ, ◌≡◌, ◌≢◌, ◌⊎◌, List, [], ◌∷◌, Contains, Option, Ok, Err}
 use Rattle.liq_types.specs.declared.requests.Command.{Command}
 use Rattle.liq_types.specs.State.{State}
-use Rattle.liq_types.specs.WellFormed.{IsWellFormed}
+use Rattle.liq_rule_sound.specs.SoundState.{IsSoundState}
 use Rattle.liq_word_exit.specs.declared.halts.Halt.TheVariants.{BadLine, Damaged, DiskFault, Limit}
 use Rattle.liq_word_exit.specs.declared.halts.Halt.TheVariants.{NoMemory, ReadFault, Rotated}
 use Rattle.liq_word_exit.specs.Statuses.{End, status_of}
@@ -45,18 +45,18 @@ FindsNone (Err (Damaged side number)) = Unit {0}
 FindsNone (Err NoMemory) = Unit {0}
 FindsNone _ = ⊥
 
--- Whatever the disks tell, the text is written of some state that is well formed, and of some
--- commands; or nothing is.
+-- Whatever the disks tell, the text is written of some sound state, as the rules reach them, and of
+-- some commands; or nothing is.
 abbrev pub WritesSome : Text → End → Option (List ℕ) → Option (List ℕ) → Type 0
 WritesSome what end before now =
-    ((s : State) × (commands : List Command) × IsWellFormed s
+    ((s : State) × (commands : List Command) × IsSoundState s
     × WritesTold what s commands end before now)
     ⊎ (FindsNone end × (now ≡ before))
 
 -- So it is once the last line is written, where the word stopped.
 abbrev pub EndsSome : Text → End → Type 0 → Option (List ℕ) → Option (List ℕ) → Type 0
 EndsSome what end fault before now =
-    ((s : State) × (commands : List Command) × IsWellFormed s
+    ((s : State) × (commands : List Command) × IsSoundState s
     × EndsTelling what s commands end fault before now)
     ⊎ (FindsNone end × TellsAll [] end fault before now)
 

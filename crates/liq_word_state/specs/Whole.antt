@@ -2,6 +2,7 @@
 use Rattle.std.specs.Prelude.{ℕ, ◌≡◌, ◌<◌, ◌≤◌, List, Some, Result, Ok, Err}
 use Rattle.liq_types.specs.declared.requests.Command.{Command}
 use Rattle.liq_types.specs.State.{State, opening_with}
+use Rattle.liq_rule_sound.specs.SoundState.{IsSoundState}
 use Rattle.liq_core.specs.Core.{StandsFor}
 use Rattle.liq_outside.specs.At.{DiskAt}
 use Rattle.liq_outside.specs.Disk.{Looked}
@@ -45,8 +46,9 @@ FindsWhole s commands (Err DiskFault) = Unit {0}
 FindsWhole s commands (Err NoMemory) = Unit {0}
 FindsWhole s commands (Err _) = ⊥
 
--- why all commands are not found: the journal is of a later generation than the first; or it came
--- to no state
+-- why all commands are not found: the journal is of a later generation than the first, that of some
+-- sound state; or it came to no state
 abbrev pub StopsWhole : Halt → Type 0
-StopsWhole (Rotated generation) = 1 < generation
+StopsWhole (Rotated generation) =
+    (s : State) × IsSoundState s × (1 < s.generation) × (generation ≡ s.generation)
 StopsWhole halt = FindsNone (Err halt)

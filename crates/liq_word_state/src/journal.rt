@@ -44,6 +44,8 @@ pub(crate) fn whole_journal<D: Disk>(store: &mut Store<D>) -> Result<Whole, Halt
 {
     let generation = store.protocol().generation();
     if !has_all_commands(generation) {
+        // odd: law called
+        protocols_are_sound_states(store.protocol());
         return Err(Halt::Rotated(generation));
     }
     let limit = limit_of(store.protocol());

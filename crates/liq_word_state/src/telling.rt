@@ -14,7 +14,7 @@ use crate::answers::{Asked, write_answers};
 use crate::audit::write_audit;
 use crate::report::write_report;
 use crate::state::write_standing;
-use liq_core::laws::protocols_stand;
+use liq_core::laws::{protocols_are_sound_states, protocols_stand};
 use liq_disk_pair::laws::{commands_lead_to_the_state, journals_keep_their_limit};
 use liq_outside::{Disk, Sink};
 use liq_store::Store;
@@ -62,8 +62,7 @@ pub fn tell_on<K: Sink, D: Disk>(
         (λ l r side damage. StopsDamaged D.at left right l r side damage result.end
         (Rose (K.at out.old).faults (K.at out.new).faults) (K.at out.old).held (K.at out.new).held
         result.left result.right) }
-    // Whatever the disks tell, it is told of some well-formed state and of some commands, or
-    // nothing is.
+    // Whatever the disks tell, it is told of some sound state and of some commands, or nothing is.
     ensures some { EndsSome what result.end (Rose (K.at out.old).faults (K.at out.new).faults)
         (K.at out.old).held (K.at out.new).held }
     ensures ends { MayEnd what result.end }
@@ -118,8 +117,10 @@ fn write_told<K: Sink, D: Disk>(
     ensures sink { WriteCause result (K.at out.old).faults (K.at out.new).faults }
     ensures disks { OnlyLooks D.at store.old store.new result }
 {
+    let protocol = store.protocol();
     // odd: law called
-    protocols_stand(store.protocol());
+    protocols_stand(protocol);
+    protocols_are_sound_states(protocol);
     match what {
         Text::State => write_standing(alloc, store.protocol(), out),
         Text::Report => write_report(alloc, store.protocol(), out),

@@ -19,7 +19,7 @@ returns-in-Ok-clause-no_source g c = by_sink _ c.write_text.result ReadFault c.w
 
 pub returns-in-Ok-clause-some : goal.returns-in-Ok-clause-some
 returns-in-Ok-clause-some g c =
-    answered_some c.args.limit c.args.commands.now c.requires.no_rotation c.args.asked.now c.write_text.result _ _
-    c.in-Ok.ensures.whole
+    answered_some c.args.limit c.requires.limit c.args.commands.now c.requires.no_rotation c.args.asked.now
+    c.write_text.result _ _ c.in-Ok.ensures.whole
     (text_written (Ok (asked_text c.args.asked.now c.args.limit c.args.commands.now)) _ c.write_text.result _ _
     (ap Ok (sym (c.deref.ensures.value ∙ c.in-Ok.ensures.text))) c.write_text.ensures.ok c.write_text.ensures.err)

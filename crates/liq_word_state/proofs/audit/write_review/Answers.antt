@@ -50,12 +50,12 @@ returns-in-Err-clause-sink g c =
 
 pub returns-in-Ok-clause-some : goal.returns-in-Ok-clause-some
 returns-in-Ok-clause-some g c =
-    review_some c.args.limit c.args.commands.now c.requires.no_rotation c.write_text.result _ _
+    review_some c.args.limit c.requires.limit c.args.commands.now c.requires.no_rotation c.write_text.result _ _
     (λ index code refused. absurd (cc (c.in-Ok.ensures.text, refused))) (returns-in-Ok-clause-written g c)
 
 pub returns-in-Err-clause-some : goal.returns-in-Err-clause-some
 returns-in-Err-clause-some g c =
     let held = (g.K.Sink.at c.args.out.now).held in
     subst (λ (halt : Halt). WritesSome which.Audit (Err halt) held held) (sym c.halt_on.ensures)
-    (unreviewed_some c.args.limit c.args.commands.now c.requires.no_rotation c.args.side c.in-Err.fault held
-    c.in-Err.ensures.fault)
+    (unreviewed_some c.args.limit c.requires.limit c.args.commands.now c.requires.no_rotation c.args.side
+    c.in-Err.fault held c.in-Err.ensures.fault)

@@ -44,29 +44,29 @@ returns-in-Report-clause-ends g c = may_end c.args.what.now c.write_report.resul
 pub returns-in-State-clause-some : goal.returns-in-State-clause-some
 returns-in-State-clause-some g c =
     let wrote = c.write_standing in
-    let s = state_of c.protocol.result.now in
+    let s = state_of c.protocol-protocol.result.now in
     subst (λ (what : Text). WritesSome what wrote.result (g.K.Sink.at c.args.out.now).held
     (g.K.Sink.at wrote.new.out).held) (sym c.in-State.is)
     (inl (
       s,
       [],
-      c.protocols_stand.ensures.formed,
+      c.protocols_are_sound_states.ensures,
       wrote.ensures.written s (subst (λ (core : Core). StandsFor core s)
-          (c.protocol.ensures ∙ sym c.protocol-in-State.ensures) c.protocols_stand.ensures),
+          (c.protocol-protocol.ensures ∙ sym c.protocol-in-State.ensures) c.protocols_stand.ensures),
     ))
 
 pub returns-in-Report-clause-some : goal.returns-in-Report-clause-some
 returns-in-Report-clause-some g c =
     let wrote = c.write_report in
-    let s = state_of c.protocol.result.now in
+    let s = state_of c.protocol-protocol.result.now in
     subst (λ (what : Text). WritesSome what wrote.result (g.K.Sink.at c.args.out.now).held
     (g.K.Sink.at wrote.new.out).held) (sym c.in-Report.is)
     (inl (
       s,
       [],
-      c.protocols_stand.ensures.formed,
+      c.protocols_are_sound_states.ensures,
       wrote.ensures.written s (subst (λ (core : Core). StandsFor core s)
-          (c.protocol.ensures ∙ sym c.protocol-in-Report.ensures) c.protocols_stand.ensures),
+          (c.protocol-protocol.ensures ∙ sym c.protocol-in-Report.ensures) c.protocols_stand.ensures),
     ))
 
 pub returns-in-Audit-clause-some : goal.returns-in-Audit-clause-some
