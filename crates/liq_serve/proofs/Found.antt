@@ -6,12 +6,13 @@ use Rattle.liq_outside.specs.Faults.{Rose}
 use Rattle.liq_types.specs.declared.amounts.TheConstants.{LIM}
 use Rattle.liq_types.specs.State.{State, opening}
 use Rattle.liq_types.specs.declared.requests.Command.{Command}
+use Rattle.liq_rule_sound.proofs.SoundStart.{opening_sound}
 use Rattle.liq_journal.specs.declared.damage.Damage.{Damage}
 use Rattle.liq_journal.specs.declared.damage.What.TheVariants.{Form}
 use Rattle.liq_disk_pair.specs.declared.side.Side.{Side}
 use Rattle.liq_disk_pair.specs.declared.side.Side.TheVariants.{Left}
 use Rattle.liq_disk_pair.specs.Pair.{commands_on, state_on}
-use Rattle.liq_disk_pair.proofs.Replaying.{opening_formed}
+use Rattle.liq_disk_pair.proofs.Formed.{state_sound}
 use Rattle.liq_word_exit.specs.declared.halts.Halt.{Halt}
 use Rattle.liq_word_exit.specs.declared.halts.Halt.TheVariants.{BadLine, ReadFault, WriteFault, DiskFault, Damaged, DamagedInput, NoMemory, Limit, Rotated}
 use Rattle.liq_word_exit.specs.Causes.{DisksGoOn}
@@ -20,7 +21,7 @@ use Rattle.liq_word_exit.specs.Output.{last}
 use Rattle.liq_word_exit.specs.Statuses.{End, status_of}
 use Rattle.liq_word_exit.specs.Stops.{Adds, StopsDamaged}
 use Rattle.liq_word_exit.specs.Outside.{Outside}
-use Rattle.liq_word_exit.proofs.Opened.{some_of, state_formed}
+use Rattle.liq_word_exit.proofs.Opened.{some_of}
 use Rattle.liq_word_state.specs.declared.telling.Text.{Text}
 use Rattle.liq_word_state.specs.Told.{EndsSome, EndsTelling, FindsNone}
 use Rattle.liq_serve.specs.Top.{Finds, Tells, TellsFound, TellsState}
@@ -92,7 +93,7 @@ module _
       (end : End) (Q : Type 0) (P : State → List Command → Type 0) (l r : List ℕ) (start : State)
       → (disk_at before.left).seen ≡ Some l → (disk_at before.right).seen ≡ Some r → state_on l r ≡ Ok start
       → Finds source_at sink_at disk_at before after end Q P → P start (commands_on l r)
-  found_of end Q P l r start told_l told_r is (inl (s, commands, formed, p, so)) =
+  found_of end Q P l r start told_l told_r is (inl (s, commands, sound, p, so)) =
       let known = so l r told_l told_r in
       let same : s ≡ start = cc (sym known.0 ∙ is) in
       subst (λ (t : State). P t (commands_on l r)) same
@@ -104,7 +105,7 @@ module _
   pub finds_any : (end : End) (Q : Type 0) (P : State → List Command → Type 0) → P opening []
       → Untold disk_at before.left before.right → Finds source_at sink_at disk_at before after end Q P
   finds_any end Q P p none =
-      inl (opening, [], opening_formed LIM, p, of_untold disk_at before.left before.right none _)
+      inl (opening, [], opening_sound LIM (inr refl), p, of_untold disk_at before.left before.right none _)
 
   -- a state and its commands, or a damage; or not both disks told
   pub finds_by :
@@ -123,7 +124,7 @@ module _
       (λ start is. inl (
         start,
         commands_on l r,
-        state_formed l r start is,
+        state_sound l r start is,
         stood l r start told_l told_r is,
         of_told disk_at before.left before.right
             (λ a b. (state_on a b ≡ Ok start) × (commands_on a b ≡ commands_on l r)) l r told_l told_r (is, refl),
@@ -221,10 +222,10 @@ module _
               → EndsSome what end (Rose (sink_at before.sink).faults (sink_at after.sink).faults)
               (sink_at before.sink).held (sink_at after.sink).held
               → TellsFound source_at sink_at disk_at before after end P
-          by none (inl (s, commands, formed, h)) = inl (
+          by none (inl (s, commands, sound, h)) = inl (
             s,
             commands,
-            formed,
+            sound,
             (text_of s commands h, of_untold disk_at before.left before.right none _),
             of_untold disk_at before.left before.right none _,
           )

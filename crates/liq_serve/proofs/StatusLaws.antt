@@ -158,7 +158,7 @@ module _
         ⊎ Answers source_at sink_at disk_at before after serves.asked serves.history serves.fault end))
         → Contains (statuses_of word.Serve) (status_of end)
     by (inl (stopped, none, no_fault, (left, right, (number, stopping)))) = of_stopping end number stopping
-    by (inr (whole, inl (none, fault, inl (s, commands, formed, (status, stay), so)))) =
+    by (inr (whole, inl (none, fault, inl (s, commands, sound, (status, stay), so)))) =
         of_unopened (status_of end) status
     by (inr (whole, inl (none, fault, inr (side, damage, q, told, ends, so)))) =
         (of_damage (status_of end) (damage_known disk_at after.left after.right side damage end ends)).1.1
@@ -166,7 +166,7 @@ module _
 
   state_known : (text : State → List ℕ) (end : End) → TellsState source_at sink_at disk_at before after text end
       → Contains (statuses_of word.State) (status_of end)
-  state_known text end (same, inl (s, commands, formed, ((it, (status, is), told), stay), so)) =
+  state_known text end (same, inl (s, commands, sound, ((it, (status, is), told), stay), so)) =
       of_state (status_of end) status
   state_known text end (same, inr (side, damage, q, told, ends, so)) =
       (of_damage (status_of end) (damage_known disk_at after.left after.right side damage end ends)).0
@@ -175,7 +175,7 @@ module _
       → TellsFound source_at sink_at disk_at before after end
       (λ s commands text. IsAuditOf s commands end text)
       → Contains (statuses_of word.Audit) (status_of end)
-  audit_known end (inl (s, commands, formed, ((text, audit, told), stay), so)) = of_audit s commands end text audit
+  audit_known end (inl (s, commands, sound, ((text, audit, told), stay), so)) = of_audit s commands end text audit
   audit_known end (inr (side, damage, q, told, ends, so)) =
       (of_damage (status_of end) (damage_known disk_at after.left after.right side damage end ends)).1.0
 

@@ -9,9 +9,9 @@ use Rattle.liq_types.specs.declared.requests.Command.{Command}
 use Rattle.liq_types.specs.declared.requests.Request.{Request}
 use Rattle.liq_types.specs.declared.requests.Request.TheVariants.{Do}
 use Rattle.liq_types.specs.State.{State, opening}
-use Rattle.liq_types.specs.WellFormed.{IsWellFormed}
 use Rattle.liq_rule_step.specs.History.{Entry, IsLegal, own_entries, requests_of, state_after}
 use Rattle.liq_rule_step.specs.Step.{Allowed, ruling}
+use Rattle.liq_rule_sound.specs.SoundState.{IsSoundState}
 use Rattle.liq_text_lines.specs.Reading.{Reads, ReadsAtMost, taken_most}
 use Rattle.liq_text_lines.specs.Writing.{Writes}
 use Rattle.liq_journal.specs.declared.damage.Damage.{Damage}
@@ -83,11 +83,11 @@ module _ {S K D : Type 0} (source_at : S → SourceAt) (sink_at : K → SinkAt) 
   abbrev pub OfTold : (List ℕ → List ℕ → Type 0) → Type 0
   OfTold P = OfBoth disk_at before.left before.right P
 
-  -- What a word finds on the disks: a state that is well formed, and commands, of which P holds. Or
-  -- one has a first damage; then Q holds, and a last line alone is written. Disks that told their
-  -- bytes stood for just that state, by just these commands, or had just that damage.
+  -- What a word finds on the disks: a state that is sound, and commands, of which P holds. Or one
+  -- has a first damage; then Q holds, and a last line alone is written. Disks that told their bytes
+  -- stood for just that state, by just these commands, or had just that damage.
   abbrev pub Finds : End → Type 0 → (State → List Command → Type 0) → Type 0
-  Finds end Q P = ((start : State) × (commands : List Command) × IsWellFormed start
+  Finds end Q P = ((start : State) × (commands : List Command) × IsSoundState start
       × P start commands × OfTold (λ l r. (state_on l r ≡ Ok start) × (commands_on l r ≡ commands)))
       ⊎ ((side : Side) × (damage : Damage) × Q × Tells [] [] end
       × EndsDamaged disk_at side damage end after.left after.right
