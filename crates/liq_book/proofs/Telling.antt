@@ -98,6 +98,19 @@ module _ {D : Type 0} (base : State) where
             ∙ ap (λ (es : List Entry). view_of (state_after base es)) (sym none.0);
       }
 
+  -- a call without a reply publishes nothing, whatever changes were let go before it
+  pub nothing_published :
+      (first old new : Stored D) (entries : List Entry) (halt now : Option Halt) (request : Request) (a : Answer)
+      (published waiting : List Given) → Publishes first entries halt published waiting
+      → (old.changes ≡ first.changes) ⊎ ((entries ≡ []) × (old.changes ≡ []))
+      → ((reply : Reply) → a ≡ answer.Reply reply → ⊥)
+      → new.changes ≡ old.changes ++ told (state_after base entries) request a
+      → Publishes new entries now published waiting
+  nothing_published first old new entries halt now request a published waiting h forgotten without tells =
+      nothing_more old new entries halt now published waiting
+      (nothing_more first old entries halt halt published waiting h forgotten)
+      (inl (nothing_told old new (state_after base entries) request a without tells))
+
   -- an entry, with what its call told
   pub entry_more : (old new : Stored D) (entries : List Entry) (e : Entry) (halt now : Option Halt)
       (published waiting : List Given) → Publishes old entries halt published waiting
