@@ -1,12 +1,14 @@
 -- One turn of a run, and what a part of a run shows at its end.
 use Rattle.std.specs.Prelude.{ℕ, ◌≡◌, ◌+◌, [], List, Option, Result, Err, Bool}
-use Rattle.liq_outside.specs.At.{DiskAt, SinkAt}
+use Rattle.liq_outside.specs.At.{DiskAt, SinkAt, SourceAt}
+use Rattle.liq_outside.specs.declared.disk.Disk.{Ghosts}
 use Rattle.liq_store.specs.Causes.{counts_of}
 use Rattle.liq_store.specs.Stored.{Stored}
 use Rattle.liq_word_exit.specs.declared.halts.Halt.{Halt}
 use Rattle.liq_word_exit.specs.declared.halts.Halt.TheVariants.{ReadFault, DiskFault}
 use Rattle.liq_word_exit.specs.Causes.{DiskCause, ReadCause, WriteCause}
 use Rattle.liq_text_lines.specs.Reading.{unread, ReadsFew}
+use Rattle.liq_word_run.specs.declared.run.Run.{Run}
 use Rattle.liq_word_run.specs.Calls.{GoOn, IsStopped, KeepsAround}
 use Rattle.liq_word_run.specs.Passing.{Begun, IsPastOf, IsStoppedPastOf}
 use Rattle.liq_word_run.specs.Progress.{Answered, Comes, Ends, Turns}
@@ -23,6 +25,11 @@ pub record Reached (D : Type 0) : Type 0 where
 abbrev pub run_at : {D : Type 0} → Stored D → List ℕ → List ℕ → Option (List ℕ) → SinkAt → Reached D
 run_at store taken waiting left sink =
     record { store = store; taken = taken; left = left; waiting = waiting; sink = sink }
+
+-- the place of this run, whose source and sink are so
+abbrev pub place_of :
+    {D : Type 0} {d : Ghosts D} → Run D d → SourceAt → SinkAt → Reached D
+place_of run source sink = run_at run.store run.reader run.waiting.items source.left sink
 
 module _ {D : Type 0} (at : D → DiskAt) (begun : Begun D) (told : Option (List ℕ)) where
   -- A run that began so, and whose source told this, answered n lines.
@@ -84,3 +91,11 @@ pub record PartShows
   pub stopped : IsStopped result new.stopped
   pub time : GoOn at old new
   pub disks : DiskCause result (counts_of at old.left old.right) (counts_of at new.left new.right)
+
+-- the same of a run, whose source and sink were and are so
+abbrev pub RunShows :
+    {D T : Type 0} {d : Ghosts D} → (D → DiskAt) → Run D d → SourceAt → SinkAt
+    → Run D d → SourceAt → SinkAt → Result T Halt → Type 0
+RunShows at old source_old sink_old new source_new sink_new result =
+    PartShows at old.store new.store new.waiting.items source_old.faults source_new.faults
+    sink_old.faults sink_new.faults result

@@ -11,7 +11,6 @@ ghost use Rattle.liq_word_run.specs.declared.run.Next.TheVariants.{Line};
 ghost use Rattle.liq_word_run.specs.Calls.{GoOn, IsStopped, KeepsAround};
 ghost use Rattle.liq_word_run.specs.Passing.{Begun, BeginsNone, BeginsRun, IsPastOf, Passes};
 ghost use Rattle.liq_word_run.specs.Progress.{RequestOn, ReadsRequest, Answers, GivesBack, Written};
-ghost use Rattle.liq_word_run.specs.Turns.{HasCome, HasEnded, PartShows, TakesTurn, run_at};
 ghost use Rattle.liq_core.specs.Core.{StandsFor};
 ghost use Rattle.liq_disk_pair.specs.Pair.{state_on};
 ghost use Rattle.liq_store.specs.Causes.{Faults, counts_of};
@@ -70,7 +69,13 @@ fn next_request<S: Source>(
 {
     match whole {
         Some(size) => taken_request(reader, size, before),
-        None => read_request(reader, line, input, before),
+        None => match reader.next_line(input, line) {
+            Err(Failed) => Err(Halt::ReadFault),
+            Ok(LineEnd::Nothing) => Ok(Next::End),
+            Ok(LineEnd::TooLong) => Err(Halt::bad_line(before)),
+            Ok(LineEnd::Ended) => Ok(Next::Line(request_on(line, before)?)),
+            Ok(LineEnd::Unended) => Ok(Next::LastLine(request_on(line, before)?)),
+        },
     }
 }
 
@@ -109,32 +114,6 @@ fn taken_request(reader: &mut Reader, size: usize, before: u64) -> Result<Next, 
     match request {
         Ok(request) => Ok(Next::Line(request)),
         Err(halt) => Err(halt),
-    }
-}
-
-/// The same of a line that was not taken whole.
-fn read_request<S: Source>(
-    reader: &mut Reader,
-    line: &mut Vec<u8>,
-    input: &mut S,
-    before: u64,
-) -> Result<Next, Halt>
-    requires few { before < LINES_MOST }
-    requires room { LINE_BYTES ≤ vec_capacity line.old }
-    ensures request { ReadsRequest (unread reader.old (S.at input.old).left)
-        (unread reader.new (S.at input.new).left) reader.new (before + 1) result }
-    ensures few { ReadsAtMost (LINE_BYTES + 1) (unread reader.old (S.at input.old).left)
-        (unread reader.new (S.at input.new).left) }
-    ensures held { length reader.new ≤ READ_BYTES }
-    ensures capacity { vec_capacity line.new ≡ vec_capacity line.old }
-    ensures cause { ReadCause result (S.at input.old).faults (S.at input.new).faults }
-{
-    match reader.next_line(input, line) {
-        Err(Failed) => Err(Halt::ReadFault),
-        Ok(LineEnd::Nothing) => Ok(Next::End),
-        Ok(LineEnd::TooLong) => Err(Halt::bad_line(before)),
-        Ok(LineEnd::Ended) => Ok(Next::Line(request_on(line, before)?)),
-        Ok(LineEnd::Unended) => Ok(Next::LastLine(request_on(line, before)?)),
     }
 }
 
@@ -214,6 +193,8 @@ pub struct Run<D: Disk> {
 }
 
 impl<D: Disk> Run<D> {
+    ghost use Rattle.liq_word_run.specs.Turns.{HasCome, HasEnded, RunShows, TakesTurn, place_of, run_at};
+
     /// A run over the store of two disks, which the sink is shown then. Where it is not opened the
     /// disks are handed back.
     pub fn open<K: Sink>(
@@ -295,8 +276,7 @@ impl<D: Disk> Run<D> {
         ensures run { (begun : Begun D) → begun.held ≡ (K.at out.old).held
             → IsPastOf D.at begun [] self.old.store (K.at out.old).shown
             → HasEnded D.at begun (S.at input.old).left
-            (run_at self.new.store self.new.reader self.new.waiting.items
-            (S.at input.new).left (K.at out.new)) result }
+            (place_of self.new (S.at input.new) (K.at out.new)) result }
         ensures few { ReadsAtMost (taken_most LINES_MOST)
             (S.at input.old).left (S.at input.new).left }
         ensures source { ReadCause result (S.at input.old).faults (S.at input.new).faults }
@@ -319,13 +299,11 @@ impl<D: Disk> Run<D> {
         ensures run { (begun : Begun D) → begun.held ≡ (K.at out.old).held
             → IsPastOf D.at begun [] self.old.store (K.at out.old).shown
             → HasCome D.at begun (S.at input.old).left
-            (run_at self.new.store self.new.reader self.new.waiting.items
-            (S.at input.new).left (K.at out.new)) result }
+            (place_of self.new (S.at input.new) (K.at out.new)) result }
         ensures few { ReadsAtMost (taken_most LINES_MOST)
             (S.at input.old).left (S.at input.new).left }
-        ensures shows { PartShows D.at self.old.store self.new.store self.new.waiting.items
-            (S.at input.old).faults (S.at input.new).faults
-            (K.at out.old).faults (K.at out.new).faults result }
+        ensures shows { RunShows D.at self.old (S.at input.old) (K.at out.old)
+            self.new (S.at input.new) (K.at out.new) result }
     {
         for answered in 0..LINES_MOST {
             if !self.answer_line(input, out, answered)? {
@@ -372,14 +350,10 @@ impl<D: Disk> Run<D> {
     ) -> Result<bool, Halt>
         requires few { answered < LINES_MOST }
         requires going { self.old.store.stopped ≡ None }
-        ensures turn { TakesTurn D.at answered
-            (run_at self.old.store self.old.reader self.old.waiting.items
-            (S.at input.old).left (K.at out.old))
-            (run_at self.new.store self.new.reader self.new.waiting.items
-            (S.at input.new).left (K.at out.new)) result }
-        ensures shows { PartShows D.at self.old.store self.new.store self.new.waiting.items
-            (S.at input.old).faults (S.at input.new).faults
-            (K.at out.old).faults (K.at out.new).faults result }
+        ensures turn { TakesTurn D.at answered (place_of self.old (S.at input.old) (K.at out.old))
+            (place_of self.new (S.at input.new) (K.at out.new)) result }
+        ensures shows { RunShows D.at self.old (S.at input.old) (K.at out.old)
+            self.new (S.at input.new) (K.at out.new) result }
     {
         let whole = self.reader.whole_line();
         if let Some(query) = next_query(&mut self.reader, whole) {
@@ -397,17 +371,13 @@ impl<D: Disk> Run<D> {
         out: &mut K,
         answered: u64,
     ) -> Result<bool, Halt>
-        requires whole { IfSome whole (λ size. IsWholeLine size self.old.reader) }
         requires few { answered < LINES_MOST }
+        requires whole { IfSome whole (λ size. IsWholeLine size self.old.reader) }
         requires going { self.old.store.stopped ≡ None }
-        ensures turn { TakesTurn D.at answered
-            (run_at self.old.store self.old.reader self.old.waiting.items
-            (S.at input.old).left (K.at out.old))
-            (run_at self.new.store self.new.reader self.new.waiting.items
-            (S.at input.new).left (K.at out.new)) result }
-        ensures shows { PartShows D.at self.old.store self.new.store self.new.waiting.items
-            (S.at input.old).faults (S.at input.new).faults
-            (K.at out.old).faults (K.at out.new).faults result }
+        ensures turn { TakesTurn D.at answered (place_of self.old (S.at input.old) (K.at out.old))
+            (place_of self.new (S.at input.new) (K.at out.new)) result }
+        ensures shows { RunShows D.at self.old (S.at input.old) (K.at out.old)
+            self.new (S.at input.new) (K.at out.new) result }
     {
         catch_up(whole, &mut self.waiting, out)?;
         match next_request(&mut self.reader, whole, &mut self.line, input, answered)? {
