@@ -10,7 +10,7 @@ returns-in-State-clause-written g c held w s told found stands from_one leads =
     let wrote = c.write_standing in
     subst (λ (what : Text). WritesTold what s w.commands wrote.result (g.K.Sink.at c.args.out.now).held
     (g.K.Sink.at wrote.new.out).held) (sym c.in-State.is)
-    (wrote.ensures.written s (subst (λ (core : Core). StandsFor core s) (sym c.protocol-in-State.ensures) stands))
+    (wrote.ensures.written s (subst (λ (core : Core). StandsFor core s) (sym c.protocol.ensures) stands))
 
 pub returns-in-Report-clause-written : goal.returns-in-Report-clause-written
 returns-in-Report-clause-written g c held w s told found stands from_one leads =
@@ -52,7 +52,7 @@ returns-in-State-clause-some g c =
       [],
       c.protocols_are_sound_states.ensures,
       wrote.ensures.written s (subst (λ (core : Core). StandsFor core s)
-          (c.protocol-protocol.ensures ∙ sym c.protocol-in-State.ensures) c.protocols_stand.ensures),
+          (c.protocol-protocol.ensures ∙ sym c.protocol.ensures) c.protocols_stand.ensures),
     ))
 
 pub returns-in-Report-clause-some : goal.returns-in-Report-clause-some
