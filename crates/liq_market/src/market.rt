@@ -81,8 +81,12 @@ impl Market {
         ensures err { OnErr result (IsSame self.old self.new) }
     {
         match request {
-            // odd: steps counted
-            Request::Do(command) => self.carry_out::<Brand>(command, Blank::new(1)),
+            // A command is planned without its own hint words, which come behind the guide's hint.
+            Request::Do(command) => {
+                let words = words_of(&command.call);
+                // odd: steps counted
+                self.make::<Brand>(&unhinted(command), words, Blank::new(1))
+            }
             Request::Ask(query) => Ok(self.ask(query)),
         }
     }
@@ -258,22 +262,8 @@ impl Market {
         }
     }
 
-    // Answers a command. It is planned without its own hint words, which come behind the guide's
-    // hint. Its steps are counted on a ledger of their own.
-    fn carry_out<L: Ledger>(&mut self, command: &Command, blank: Blank) -> Result<Reply, NoMemory>
-        requires name { blank.name ≡ L.name }
-        requires parts { blank.parts ≡ L.parts }
-        requires one { L.parts ≡ 1 }
-        ensures answered { (s : State) → StandsFor self.old.core s
-            → Answers s (Do command.now) result self.new.core }
-        ensures touched { (s : State) → StandsFor self.old.core s
-            → OnOk result (self.new.touched ≡ touched_after s (Do command.now) self.old.touched) }
-        ensures err { OnErr result (IsSame self.old self.new) }
-    {
-        self.make::<L>(&unhinted(command), words_of(&command.call), blank)
-    }
-
-    // Answers a command with these hint words in place of its own.
+    // Answers a command with these hint words in place of its own. Its steps are counted on a ledger
+    // of their own.
     fn make<L: Ledger>(
         &mut self,
         command: &Command,
