@@ -1,5 +1,6 @@
 mod Forking
 mod Loading
+mod Making
 mod Moves
 mod Opening
 mod Unhinted
