@@ -6,6 +6,7 @@ ghost use Rattle.std.specs.Prelude.{vec_capacity, vec_len};
 ghost use Rattle.liq_rule_step.specs.Step.{accounts};
 ghost use Rattle.liq_market.specs.Touching.{moved, others, touched};
 
+use liq_core::{CallAccounts, accounts_of};
 use liq_types::{Call, ListChange};
 
 /// The most accounts that a call names.
@@ -33,23 +34,13 @@ fn note_named(all: &mut Vec<u32>, call: &Call)
     ensures few { vec_len all.new ≤ NAMED_MOST }
     ensures capacity { vec_capacity all.new ≡ vec_capacity all.old }
 {
-    match *call {
-        Call::Price(_) | Call::Advance(_) | Call::Rotate => {}
-        Call::Send(first, second, _) | Call::Liquidate(first, second) => {
+    match accounts_of(call) {
+        CallAccounts::Nobody => {}
+        CallAccounts::One(account) => all.push_reserved(account),
+        CallAccounts::Both(first, second) => {
             all.push_reserved(first);
             all.push_reserved(second);
         }
-        Call::Fund(account, _)
-        | Call::Take(account, _)
-        | Call::Open(account, ..)
-        | Call::Adjust(account, ..)
-        | Call::Close(account)
-        | Call::Provide(account, _)
-        | Call::Withdraw(account, _)
-        | Call::GainToTrove(account, _)
-        | Call::LiquidateLowest(account, _)
-        | Call::Redeem(account, ..)
-        | Call::Claim(account) => all.push_reserved(account),
     }
 }
 
