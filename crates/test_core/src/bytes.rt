@@ -54,20 +54,30 @@ pub fn checkpoint(
         Version::One => Vec::from_slice(alloc, b"LIQSTAT1")?,
         Version::Two => Vec::from_slice(alloc, b"LIQSTAT2")?,
     };
-    for (widths, line) in WORDS.iter().zip(told.words) {
-        put_line(&mut out, widths, line)?;
-    }
-    for (table, (widths, rows)) in ROWS.iter().zip(told.tables).enumerate() {
-        let last = if table == CLIENTS { client } else { "" };
-        put_table(&mut out, widths, rows, last)?;
-    }
+    put_image(&mut out, told, client)?;
     Ok(out)
+}
+
+fn put_image(out: &mut Vec<u8>, told: &Told, client: &str) -> Result<(), AllocError> {
+    for at in 0..WORDS.len() {
+        put_line(out, WORDS[at], told.words[at])?;
+    }
+    for table in 0..ROWS.len() {
+        let last = if table == CLIENTS { client } else { "" };
+        put_table(out, ROWS[table], told.tables[table], last)?;
+    }
+    Ok(())
 }
 
 fn put_table(out: &mut Vec<u8>, widths: &[u64], rows: &str, last: &str) -> Result<(), AllocError> {
     let count = rows.lines().count().saturating_add(last.lines().count());
     put(out, 8, count as u64)?;
-    for row in rows.lines().chain(last.lines()) {
+    put_rows(out, widths, rows)?;
+    put_rows(out, widths, last)
+}
+
+fn put_rows(out: &mut Vec<u8>, widths: &[u64], rows: &str) -> Result<(), AllocError> {
+    for row in rows.lines() {
         put_line(out, widths, row)?;
     }
     Ok(())

@@ -2,10 +2,14 @@
 //! turned, and its fields and counts overwritten. The places that are told come from outside:
 //! scripts/checkpoint-places writes `tables.rt`.
 
+ghost use Rattle.liq_types.specs.Image.{IsLimit};
+ghost use Rattle.liq_types.specs.Soundness.{HasTables};
+
 use crate::checks::{NOWHERE, same};
+use crate::outcomes::{Outcome, of_image};
 use crate::tables::{FIELDS, LENGTH, TURNED, WRITTEN};
-use liq_checkpoint::{ImageBytes, decode, encode};
-use liq_types::NoMemory;
+use liq_checkpoint::{ImageBytes, decode};
+use liq_types::Image;
 use liq_types::amounts::{LIM, LIM_OF_VERSION_1};
 use std::alloc::{AllocError, Global};
 use std::process::Abort;
@@ -90,20 +94,25 @@ fn first_odd_number(alloc: Global, bytes: &[u8]) -> Result<u64, AllocError> {
     Ok(NOWHERE)
 }
 
-// What tells an image from others: its limit, a word, the last row's last number, and how many
-// bytes its checkpoint has that differ.
-fn seen_of(alloc: Global, bytes: &[u8]) -> Result<[u64; 4], NoMemory> {
-    let image = match decode(alloc, bytes) {
-        Ok(image) => image,
-        Err(_) => return Ok([0; 4]),
-    };
+// What tells an image from others: its limit, a word, the last row's last number, and whether its
+// checkpoint is another one.
+fn seen_of(alloc: Global, bytes: &[u8]) -> [u64; 4] {
+    match decode(alloc, bytes) {
+        Ok(image) => seen_in(alloc, &image, bytes),
+        Err(_) => [0; 4],
+    }
+}
+
+fn seen_in(alloc: Global, image: &Image, bytes: &[u8]) -> [u64; 4]
+    requires tables { HasTables image.now }
+    requires limit { IsLimit image.now.limit }
+{
     let last = match image.clients.rows().last() {
         Some(row) => row.values[5],
         None => 0,
     };
-    let again = encode(alloc, &image)?;
-    let odd = if again.as_slice() == bytes { 0 } else { 1 };
-    Ok([image.limit, image.generation, last, odd])
+    let odd = u64::from(of_image(alloc, image, bytes) != Outcome::Same);
+    [image.limit, image.generation, last, odd]
 }
 
 // A checkpoint under this name is one of an image under this limit.
@@ -114,24 +123,26 @@ fn is_written_and_read(
     limit: u64,
 ) -> Result<(), AllocError> {
     let mut bytes = checkpoint(alloc, name)?;
+    check_bytes(rt, alloc, bytes.as_mut_slice(), limit);
+    bytes.push(0)?;
+    same(rt, place_in(alloc, &bytes), LENGTH, "a byte behind");
+    Ok(())
+}
+
+// What is told of the bytes, whole and turned.
+fn check_bytes(rt: &impl Abort, alloc: Global, bytes: &mut [u8], limit: u64) {
     same(rt, bytes.len() as u64, LENGTH, "its length");
-    let seen = match seen_of(alloc, &bytes) {
-        Ok(seen) => seen,
-        Err(_) => [0; 4],
-    };
+    let seen = seen_of(alloc, bytes);
     same(rt, seen[0], limit, "the limit");
     same(rt, seen[1], 2, "the generation");
     same(rt, seen[2], 7, "the last client's last value");
     same(rt, seen[3], 0, "the bytes that are written");
-    let cut = first_odd_cut(alloc, &bytes);
+    let cut = first_odd_cut(alloc, bytes);
     same(rt, cut, NOWHERE, "cut at each byte");
-    let turned = first_odd_turn(alloc, bytes.as_mut_slice());
+    let turned = first_odd_turn(alloc, bytes);
     same(rt, turned, NOWHERE, "each byte turned");
-    let number = first_odd_number(alloc, &bytes)?;
+    let number = first_odd_number(alloc, bytes).unwrap_or(NOWHERE - 1);
     same(rt, number, NOWHERE, "other numbers");
-    bytes.push(0)?;
-    same(rt, place_in(alloc, &bytes), LENGTH, "a byte behind");
-    Ok(())
 }
 
 #[test]

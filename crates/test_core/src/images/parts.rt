@@ -1,8 +1,8 @@
 //! A sound image: its rows, which can be changed, and its words.
 
 use liq_types::{
-    ClientRow, ClientRows, DepositRow, DepositRows, FinishedRows, FinishedSum, Image, ImageRow,
-    ImageRows, NoMemory, SurplusRow, SurplusRows, TroveRow, TroveRows, WalletRow, WalletRows,
+    ClientRow, DepositRow, FinishedSum, Image, ImageRow, ImageRows, NoMemory, SurplusRow, TroveRow,
+    WalletRow,
 };
 use std::alloc::Global;
 
@@ -118,17 +118,34 @@ pub const SOUND: Rows = Rows {
     ],
 };
 
-/// The image of these rows, with the sound image's words. Of the sound image many numbers are the
-/// greatest that its rules let them be: what is pending is all of the default pool, the sum is the
-/// most beside its product, and so are a finished sum, a deposit's amount and each deposit's mark.
+/// The image of these rows, with the sound image's words.
 pub fn image_of(alloc: Global, rows: &Rows) -> Result<Image, NoMemory> {
-    let wallets = table(alloc, &rows.wallets)?;
-    let troves = table(alloc, &rows.troves)?;
-    let surplus_rows = table(alloc, &rows.surplus_rows)?;
-    let finished = table(alloc, &rows.finished)?;
-    let deposits = table(alloc, &rows.deposits)?;
-    let clients = table(alloc, &rows.clients)?;
-    Ok(Image {
+    let mut image = words(alloc);
+    put_rows(&mut image, rows)?;
+    Ok(image)
+}
+
+fn put_rows(image: &mut Image, rows: &Rows) -> Result<(), NoMemory> {
+    put(&mut image.wallets, &rows.wallets)?;
+    put(&mut image.troves, &rows.troves)?;
+    put(&mut image.surplus_rows, &rows.surplus_rows)?;
+    put(&mut image.finished, &rows.finished)?;
+    put(&mut image.deposits, &rows.deposits)?;
+    put(&mut image.clients, &rows.clients)
+}
+
+fn put<R: ImageRow>(table: &mut ImageRows<R>, rows: &[R]) -> Result<(), NoMemory> {
+    for row in rows {
+        table.push(*row)?;
+    }
+    Ok(())
+}
+
+/// The sound image's words, and no rows. Of the sound image many numbers are the greatest that its
+/// rules let them be: what is pending is all of the default pool, the sum is the most beside its
+/// product, and so are a finished sum, a deposit's amount and each deposit's mark.
+pub fn words(alloc: Global) -> Image {
+    Image {
         price: 1_000_000_000,
         minute: 100,
         base: 5_000_000_000_000_000,
@@ -155,30 +172,11 @@ pub fn image_of(alloc: Global, rows: &Rows) -> Result<Image, NoMemory> {
         sum: 5_500_000_000_000_000_000,
         total: 5_000_000_000,
         pool_coll: 1_000_000_000,
-        wallets,
-        troves,
-        surplus_rows,
-        finished,
-        deposits,
-        clients,
-    })
-}
-
-// A table of these rows.
-fn table<R: ImageRow>(alloc: Global, rows: &[R]) -> Result<ImageRows<R>, NoMemory> {
-    let mut table = ImageRows::new(alloc);
-    for row in rows {
-        table.push(*row)?;
+        wallets: ImageRows::new(alloc),
+        troves: ImageRows::new(alloc),
+        surplus_rows: ImageRows::new(alloc),
+        finished: ImageRows::new(alloc),
+        deposits: ImageRows::new(alloc),
+        clients: ImageRows::new(alloc),
     }
-    Ok(table)
-}
-
-/// Takes all rows out of the image.
-pub fn empty(alloc: Global, image: &mut Image) {
-    image.wallets = WalletRows::new(alloc);
-    image.troves = TroveRows::new(alloc);
-    image.surplus_rows = SurplusRows::new(alloc);
-    image.finished = FinishedRows::new(alloc);
-    image.deposits = DepositRows::new(alloc);
-    image.clients = ClientRows::new(alloc);
 }

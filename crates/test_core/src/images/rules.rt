@@ -1,8 +1,8 @@
 //! The eleven rules, each on both sides of its bounds, and their order.
 
 use crate::checks::{NOWHERE, same};
-use crate::images::parts::{SOUND, empty, image_of};
-use crate::images::turns::{NONE, Turn, changed, first_odd, rule_of, told};
+use crate::images::parts::{SOUND, image_of, words};
+use crate::images::turns::{NONE, Turn, change_words, first_odd, rule_of, told};
 use Turn::{
     ActiveColl, ActiveDebt, Also, Base, Brought, ClientKind, ClientNumber, ClientValues,
     DefaultColl, DefaultDebt, DepositAccount, DepositAmount, DepositEpoch, DepositP, DepositScale,
@@ -542,11 +542,11 @@ const OPENING: [Turn; 23] = [
 ];
 
 /// The first rule that the opening image breaks, with this product.
-fn told_of_opening(alloc: Global, p: u128) -> Result<u8, NoMemory> {
-    let mut image = changed(alloc, &OPENING)?;
-    empty(alloc, &mut image);
+fn told_of_opening(alloc: Global, p: u128) -> u8 {
+    let mut image = words(alloc);
+    change_words(&mut image, &OPENING);
     image.p = p;
-    Ok(rule_of(&image))
+    rule_of(&image)
 }
 
 /// Products, and what is told of each.
@@ -559,32 +559,45 @@ const PRODUCTS: [(u128, u8); 3] = [
 #[test]
 fn the_opening_image_is_sound(rt: HostRuntime) {
     for (p, want) in &PRODUCTS {
-        let rule = told_of_opening(rt.alloc(), *p).unwrap_or(u8::MAX);
+        let rule = told_of_opening(rt.alloc(), *p);
         same(&rt, u64::from(rule), u64::from(*want), "the opening image");
     }
 }
 
 /// How many entries each table of the sound image has.
-fn entry_counts(alloc: Global) -> Result<[usize; 6], NoMemory> {
-    let image = image_of(alloc, &SOUND)?;
-    counts_of(alloc, &image)
+const ENTRIES: [u64; 6] = [2, 2, 2, 3, 3, 2];
+
+/// How many entries are made of each table.
+fn entry_counts(alloc: Global) -> [u64; 6] {
+    match image_of(alloc, &SOUND) {
+        Ok(image) => counts_of(alloc, &image),
+        Err(_) => [u64::MAX; 6],
+    }
 }
 
-fn counts_of(alloc: Global, image: &Image) -> Result<[usize; 6], NoMemory> {
-    Ok([
-        entries::wallets(alloc, &image.wallets)?.len(),
-        entries::troves(alloc, &image.troves)?.len(),
-        entries::surplus(alloc, &image.surplus_rows)?.len(),
-        entries::finished_sums(alloc, &image.finished)?.len(),
-        entries::deposits(alloc, &image.deposits)?.len(),
-        entries::clients(alloc, &image.clients)?.len(),
-    ])
+fn counts_of(alloc: Global, image: &Image) -> [u64; 6] {
+    [
+        count(entries::wallets(alloc, &image.wallets)),
+        count(entries::troves(alloc, &image.troves)),
+        count(entries::surplus(alloc, &image.surplus_rows)),
+        count(entries::finished_sums(alloc, &image.finished)),
+        count(entries::deposits(alloc, &image.deposits)),
+        count(entries::clients(alloc, &image.clients)),
+    ]
+}
+
+/// How many there are, where there was memory for them.
+fn count<T: Drop>(made: Result<Vec<T>, NoMemory>) -> u64 {
+    match made {
+        Ok(made) => made.len() as u64,
+        Err(_) => u64::MAX,
+    }
 }
 
 #[test]
 fn entries_are_those_of_the_rows(rt: HostRuntime) {
-    let counts = entry_counts(rt.alloc()).unwrap_or([usize::MAX; 6]);
-    for (count, want) in counts.iter().zip([2, 2, 2, 3, 3, 2]) {
-        same(&rt, *count as u64, want, "entries");
+    let counts = entry_counts(rt.alloc());
+    for at in 0..ENTRIES.len() {
+        same(&rt, counts[at], ENTRIES[at], "entries");
     }
 }

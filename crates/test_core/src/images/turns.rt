@@ -113,17 +113,22 @@ pub fn first_odd(alloc: Global, turns: &[Turn]) -> u64 {
     NOWHERE
 }
 
-/// The sound image, changed so.
-pub fn changed(alloc: Global, changes: &[Turn]) -> Result<Image, NoMemory> {
+// The sound image, changed so.
+fn changed(alloc: Global, changes: &[Turn]) -> Result<Image, NoMemory> {
     let mut rows = SOUND;
     for change in changes {
         change_row(&mut rows, *change);
     }
     let mut image = image_of(alloc, &rows)?;
-    for change in changes {
-        change_word(&mut image, *change);
-    }
+    change_words(&mut image, changes);
     Ok(image)
+}
+
+/// Changes words of an image.
+pub fn change_words(image: &mut Image, changes: &[Turn]) {
+    for change in changes {
+        change_word(image, *change);
+    }
 }
 
 fn change_word(image: &mut Image, change: Turn) {
