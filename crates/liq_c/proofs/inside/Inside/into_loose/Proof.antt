@@ -1,20 +1,18 @@
 -- `into_loose` takes it back.
-use Rattle.std.proofs.Common.{◌≡◌, List, [], ◌∷◌, ◌++◌, refl, sym, subst}
+use Rattle.std.proofs.Common.{◌≡◌, [], ◌∷◌, refl}
 use mir.Val.{Val, vptr}
-use base.Logic.{SProp, ent, emp, id⊢}
-use prog.Wp.{WpFn}
-use types.Kit.{‵, raw, ◌⊛◌, ◌$◌, ◌∵◌, !, qed, by, move, keep, split, fsplit, fjoin, suffices, use0}
-use types.Run.{stop, fld, of_opd, no_more, and_then, returns, enter}
-use types.ByLocal.{alloc_all, pass_all, free_all, look_at, get, get_in, sets}
-use types.Part.{agg, sub, whole}
+use base.Logic.{emp}
+use types.Kit.{‵, raw, ◌⊛◌, ◌$◌, ◌∵◌, !, qed, by, move, keep, split, fsplit, fjoin, use0}
+use types.Run.{of_opd, no_more, and_then, returns}
+use types.ByLocal.{alloc_all, pass_all, free_all, look_at, get, sets}
+use types.Part.{agg}
 use contract.Monad.{fact, fact_i}
-use contract.Running.{tables}
 use denote.RattleType.{owns}
 use denote.RawPtr.{block_ptr}
 use denote.Signature.{types_at, plain}
 use denote.Steps.{nothing, heard}
 use denote.Triple.Entry.{alive}
-use denote.Triple.Walked.{Stays, stay_dropped, walk_of}
+use denote.Triple.Walked.{Stays, stay_dropped}
 use Rattle.core.proofs.alloc.Calls.{Goes-blank}
 use Rattle.std.specs.Prelude.{Some, true}
 use Rattle.liq_c.specs.Held.{is_full}
@@ -26,6 +24,7 @@ use Rattle.liq_market.specs.contracts.market.Market.{the_row as CR}
 use Rattle.liq_c.specs.contracts.inside.Inside.{the_row as IR}
 use Rattle.liq_c.proofs.Values.{both, loose_good, loose_in}
 use Rattle.liq_c.proofs.Insides.{full_some, inside_out}
+use Rattle.liq_c.proofs.Walks.{enter_with, field_in}
 use Rattle.liq_c.specs.contracts.inside.Inside.into_loose.{ended, clauses}
 use Rattle.liq_c.specs.contracts.inside.Inside.into_loose.Key.{name as #self}
 use Rattle.liq_c.proofs.inside.Inside.into_loose.Statement.{statement}
@@ -33,24 +32,20 @@ use Rattle.liq_c.proofs.inside.Inside.into_loose.Code as code
 
 pub into_loose_spec : {M : Type 1} → statement M
 into_loose_spec 𝓤 𝓛 𝓜 𝓡 wired =
-    let H = 𝓛.H in let 𝓣 = tables 𝓤 H 𝓜 𝓡 𝓡.env in let En = ended in let c = clauses 𝓛 𝓜.mem 𝓡.returns in
+    let H = 𝓛.H in let En = ended in let c = clauses 𝓛 𝓜.mem 𝓡.returns in
     let fn = code.function in
     let hs : Stays En.signature.params En.kept = (stay_dropped (plain (λ _. IR)) En.kept.0, tt) in
     proved_at 𝓛 En hs c 𝓜 𝓡 (Goes-blank 𝓛 0 (plain (λ _. IR)) En.kept.0 (λ κs x f. tt), tt) #self fn
     (code.unfolded 𝓤 H 𝓜 𝓡 wired) (λ z are.
-    let v = z.0.3.0 in let a = v.alloc in let Post : Val → SProp 𝓤 = (walk_of 𝓛 En hs c).post z in
-    let Run : List Val → SProp 𝓤 = λ ws. WpFn 𝓤 H 𝓣.C 𝓣.Λ fn ws Post in
+    let v = z.0.3.0 in let a = v.alloc in
     qed 𝓛 ((raw (alive 𝓛 En.signature z.0.0 z.0.1) ⊛ ‵ (owns (types_at En.signature.params z.0.0) z.0.3 z.0.4))
     ∷ raw (fact 𝓤 (is_full v.held ≡ true)) ∷ []) ∵ move ! (1 ∷ []) $
     heard ! (is_full v.held ≡ true) (λ full. let x = (full_some v.held full).0 in
     let is : v.held ≡ Some x = (full_some v.held full).1 in split ! $ move ! (1 ∷ []) $ fsplit ! $
     inside_out ! v x z.0.4.0 is (λ b o h e ws fits.
     let w : Val = both (vptr b o) h in let typed = loose_good CR GR GL ghosts b o h fits in
-    suffices ! (Run (w ∷ [])) (subst (λ (us : List Val). ent 𝓤 (Run (w ∷ [])) (Run us)) (sym (λ i. ws i ++ []))
-    (id⊢ 𝓤 (Run (w ∷ [])))) $
-    enter ! 𝓣.C 𝓣.Λ fn (w ∷ []) Post $ alloc_all ! (λ l. pass_all ! refl (typed, tt) $
-    sets ! (of_opd ! (get_in ! (fld ! refl (stop !)) (sub ! 0 refl (whole !)))) refl (tt, tt) $
-    sets ! (of_opd ! (get_in ! (fld ! refl (stop !)) (sub ! 1 refl (whole !)))) refl fits $
+    enter_with ! fn w z.0.4.0 ws $ alloc_all ! (λ l. pass_all ! refl (typed, tt) $
+    sets ! (field_in ! 0 refl refl refl) refl (tt, tt) $ sets ! (field_in ! 1 refl refl refl) refl fits $
     sets ! (of_opd ! (get ! refl)) refl (tt, tt) $
     sets ! (agg ! (and_then ! (get ! refl) (and_then ! (get ! refl) (no_more !)))) refl typed $
     loose_in CR GR GL ghosts ! b o h a x $
