@@ -1,6 +1,11 @@
 -- How a call ends, for C.
-use Rattle.std.specs.Prelude.{◌≡◌, ℕ, nat_lt, Option, Some, None, if◌then◌else◌}
+use Rattle.std.specs.Prelude.{◌≡◌, ℕ, nat_lt, List, length}
+use Rattle.std.specs.Prelude.{Option, Some, None, if◌then◌else◌}
+use Rattle.liq_types.specs.State.{State}
+use Rattle.liq_core.specs.Core.{StandsFor}
+use Rattle.liq_replies96.specs.declared.reply.Reply96.{Reply96}
 use Rattle.liq_market.specs.Content.{Content}
+use Rattle.liq_batch.specs.Batch.{Answered, Way}
 use Rattle.liq_batch.specs.declared.batch.Batch.{Batch}
 use Rattle.liq_batch.specs.declared.batch.Fault.{Fault}
 use Rattle.liq_batch.specs.declared.batch.Fault.TheVariants as faults
@@ -43,7 +48,22 @@ Ends (Some m) new items result Unwritten Leaves =
     (after : Content) × (new ≡ Some after)
     × ((batch : Batch) × (result ≡ told batch items) × Leaves m after batch)
 
--- how a call ends that answers a text of lines: the same
+-- how a call ends that answers items in this way, and writes the replies over old ones
+abbrev pub EndsBy : {X : Type 0} → Way X → (held left : Option Content) → List X → Done
+    → (old new : List Reply96) → Type 0
+EndsBy way held left items result old new =
+    Ends held left (length items) result (new ≡ old)
+    (λ m after batch. (s : State) → StandsFor m.core s → Answered way s items batch m after old new)
+
+-- the same where the market stays as it was
+abbrev pub EndsUnchanged : {X : Type 0} → Way X → (held left : Option Content) → List X → Done
+    → (old new : List Reply96) → Type 0
+EndsUnchanged way held left items result old new =
+    Ends held left (length items) result (new ≡ old)
+    (λ m after batch. (after ≡ m)
+    × ((s : State) → StandsFor m.core s → Answered way s items batch m m old new))
+
+-- how a call ends that answers a text of lines
 abbrev pub EndsText : (old new : Option Content) → TextDone → Type 0
     → (Content → Content → Lines → Type 0) → Type 0
 EndsText None new result Unwritten Leaves =

@@ -3,10 +3,10 @@
 ghost use Rattle.std.specs.Prelude.{◌≡◌, length};
 ghost use Rattle.liq_types.specs.State.{State};
 ghost use Rattle.liq_core.specs.Core.{StandsFor};
-ghost use Rattle.liq_batch.specs.Batch.{Answered, asking, doing, previewing};
+ghost use Rattle.liq_batch.specs.Batch.{asking, doing, previewing};
 ghost use Rattle.liq_batch.specs.Numbering.{Numbers};
 ghost use Rattle.liq_batch.specs.Texts.{AnsweredText};
-ghost use Rattle.liq_c.specs.Statuses.{Ends, EndsText};
+ghost use Rattle.liq_c.specs.Statuses.{Ends, EndsBy, EndsText, EndsUnchanged};
 
 use crate::slot::Slot;
 use crate::statuses::{Done, TextDone};
@@ -22,10 +22,8 @@ pub extern "C" fn liq_do(
     commands: &[Command96],
     replies: &mut [Reply96],
 ) -> Done
-    ensures { Ends slot.old.inside.held slot.new.inside.held (length commands.now) result
-        (replies.new ≡ replies.old)
-        (λ m after batch. (s : State) → StandsFor m.core s → Answered doing
-        s commands.now batch m after replies.old replies.new) }
+    ensures { EndsBy doing slot.old.inside.held slot.new.inside.held commands.now result
+        replies.old replies.new }
 {
     let Some(mut market) = slot.take(alloc) else {
         return Done::NONE;
@@ -65,10 +63,8 @@ pub extern "C" fn liq_ask(
     queries: &[Query64],
     replies: &mut [Reply96],
 ) -> Done
-    ensures { Ends slot.old.inside.held slot.new.inside.held (length queries.now) result
-        (replies.new ≡ replies.old)
-        (λ m after batch. (after ≡ m) × ((s : State) → StandsFor m.core s → Answered asking
-        s queries.now batch m m replies.old replies.new)) }
+    ensures { EndsUnchanged asking slot.old.inside.held slot.new.inside.held queries.now result
+        replies.old replies.new }
 {
     let Some(market) = slot.take(alloc) else {
         return Done::NONE;
@@ -86,10 +82,8 @@ pub extern "C" fn liq_preview(
     commands: &[Command96],
     replies: &mut [Reply96],
 ) -> Done
-    ensures { Ends slot.old.inside.held slot.new.inside.held (length commands.now) result
-        (replies.new ≡ replies.old)
-        (λ m after batch. (after ≡ m) × ((s : State) → StandsFor m.core s → Answered previewing
-        s commands.now batch m m replies.old replies.new)) }
+    ensures { EndsUnchanged previewing slot.old.inside.held slot.new.inside.held commands.now result
+        replies.old replies.new }
 {
     let Some(market) = slot.take(alloc) else {
         return Done::NONE;
