@@ -262,8 +262,8 @@ impl Market {
         }
     }
 
-    // Answers a command with these hint words in place of its own. Its steps are counted on a ledger
-    // of their own.
+    // Answers a command with these hint words in place of its own. Its steps are counted on a
+    // ledger of their own.
     fn make<L: Ledger>(
         &mut self,
         command: &Command,
