@@ -21,6 +21,13 @@ use std::marker::Brand;
 use std::sync::Wait;
 use std::thread::Threads;
 
+/// Scripts, and the store over which they can be served.
+struct ServableScripts<D: Disk> {
+    scripts: Vec<Script>,
+    store: Store<D>,
+    ghost servable: { IsServable scripts.items store },
+}
+
 /// Serves the scripts of the sessions from 1 on, all at once, over a store that is open: a book is
 /// made with a seat for each, the sessions run, each asking a finder of its own for a hint before a
 /// call and publishing the list behind one that changed it, all seats come back, and the book is
@@ -42,7 +49,8 @@ pub fn serve_sessions<D: Disk + Send, G: Gate + Sync, R: Threads + Wait + Sync>(
 {
     // odd: law called
     protocols_stand(store.protocol());
-    serve_from::<D, Brand, G, R>(rt, alloc, gate, scripts, store)
+    let asked = ServableScripts { scripts, store };
+    serve_from::<D, Brand, G, R>(rt, alloc, gate, asked)
 }
 
 /// The same, from an origin.
@@ -50,13 +58,12 @@ fn serve_from<D: Disk + Send, O: Origin + Send + Sync, G: Gate + Sync, R: Thread
     rt: &R,
     alloc: Global,
     gate: &G,
-    scripts: Vec<Script>,
-    store: Store<D>,
+    asked: ServableScripts<D>,
 ) -> Served<D>
-    requires servable { IsServable scripts.items store }
-    requires origin { IsAtOrigin D.at O.state O.left O.right store }
-    ensures { Serves D.at O.state O.left O.right scripts.items result }
+    requires origin { IsAtOrigin D.at O.state O.left O.right asked.store }
+    ensures { Serves D.at O.state O.left O.right asked.scripts.items result }
 {
+    let ServableScripts { scripts, store } = asked;
     let count = scripts.len() as u8;
     let (service, seats, finders) = match Service::<D, O>::new(rt, alloc, store, count) {
         Ok(made) => made,

@@ -3,7 +3,7 @@ use Rattle.liq_word_serve.proofs.serving.serve_sessions.Given as goal
 
 abbrev pub ghosts-serve_from : goal.ghosts-serve_from
 ghosts-serve_from g a = record {
-  state = state_of a.store.core;
-  left = g.D.Disk.at a.store.left;
-  right = g.D.Disk.at a.store.right;
+  state = state_of a.asked.store.core;
+  left = g.D.Disk.at a.asked.store.left;
+  right = g.D.Disk.at a.asked.store.right;
 }
