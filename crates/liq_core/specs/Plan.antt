@@ -5,14 +5,16 @@ use Rattle.liq_types.specs.declared.amounts.TheConstants.{ACCOUNTS}
 use Rattle.liq_types.specs.declared.events.ListChange.{ListChange}
 use Rattle.liq_types.specs.declared.events.PoolEvent.{PoolEvent}
 use Rattle.liq_types.specs.declared.replies.Done.{Done}
+use Rattle.liq_types.specs.declared.replies.Reply.TheVariants.{Said}
 use Rattle.liq_types.specs.declared.requests.Call.{Call}
 use Rattle.liq_types.specs.declared.requests.Command.{Command}
+use Rattle.liq_types.specs.declared.requests.Request.TheVariants.{Do}
 use Rattle.liq_types.specs.State.{State}
 use Rattle.liq_core.specs.declared.effects.Effect.{Effect}
 use Rattle.liq_core.specs.declared.turns.Forecast.{Forecast}
 use Rattle.liq_core.specs.Core.{Core, IsWithin, Room, StandsFor}
 use Rattle.liq_rule_step.specs.Rules.{call_events, call_changes}
-use Rattle.liq_rule_step.specs.Step.{Allowed, ruling, done_of}
+use Rattle.liq_rule_step.specs.Step.{Allowed, ruling, done_of, step}
 use Rattle.liq_core.specs.Effects.{IsEffect, room_of}
 use Rattle.liq_core.specs.Told.{events_in, changes_in}
 use Rattle.liq_rule_step.specs.Verbs.{accounts}
@@ -53,6 +55,14 @@ pub record IsPlan (s : State) (plan : Plan) : Type 0 where
 -- the plan was made on what the core stands for
 abbrev pub IsPlannedOn : Core → Plan → Type 0
 IsPlannedOn core plan = (s : State) → StandsFor core s → IsPlan s plan
+
+-- whatever the core stood for, it stands for the state after this command's step
+abbrev pub MakesStep : Core → Command → Core → Type 0
+MakesStep core c next = (s : State) → StandsFor core s → StandsFor next (step s (Do c)).0
+
+-- and this is what that step replies
+abbrev pub RepliesByStep : Core → Command → Done → Type 0
+RepliesByStep core c done = (s : State) → StandsFor core s → (step s (Do c)).1 ≡ Said done
 
 -- room for all that a planned command writes
 abbrev pub room_for : Plan → Room

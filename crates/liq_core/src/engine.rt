@@ -4,7 +4,6 @@ ghost use Rattle.std.specs.Prelude.{◌≡◌, ◌≤◌, ◌<◌, ◌+◌, fals
 ghost use Rattle.std.specs.List.{AllByRecursion, Contains};
 ghost use Rattle.liq_types.specs.declared.requests.Call.{Call};
 ghost use Rattle.liq_types.specs.declared.requests.Request.TheVariants.{Do, Ask};
-ghost use Rattle.liq_types.specs.declared.replies.Reply.TheVariants.{Said};
 ghost use Rattle.liq_types.specs.Image.{IsLimit};
 ghost use Rattle.liq_types.specs.State.{State, opening, opening_with, client_of};
 ghost use Rattle.liq_order.specs.Order.{trove_order};
@@ -115,7 +114,7 @@ const NO_POOLS: Pools = Pools {
 };
 
 impl Protocol {
-    ghost use Rattle.liq_core.specs.Plan.{HasRoom, IsPlannedOn};
+    ghost use Rattle.liq_core.specs.Plan.{HasRoom, IsPlannedOn, MakesStep, RepliesByStep};
     ghost use Rattle.liq_core.specs.Turn.{Plans, IsKept, ForecastsCall};
 
     /// The protocol as it opens: nothing is inside.
@@ -296,10 +295,8 @@ impl Protocol {
     pub fn apply<L: Ledger>(&mut self, planned: Planned, hint: &Hint, steps: &mut Steps<L>) -> Done
         requires planned { IsPlannedOn self.old planned }
         requires room { HasRoom self.old planned }
-        ensures state { (s : State) → StandsFor self.old s
-            → StandsFor self.new (step s (Do planned.command)).0 }
-        ensures reply { (s : State) → StandsFor self.old s → (step s (Do planned.command)).1
-            ≡ Said result }
+        ensures state { MakesStep self.old planned.command self.new }
+        ensures reply { RepliesByStep self.old planned.command result }
         ensures list { (s : State) → StandsFor self.old s
             → self.new.list ≡ trove_order (step s (Do planned.command)).0 }
         ensures few { TakesFew self.new.list (used_hint (words_of planned.command.call) hint.now)

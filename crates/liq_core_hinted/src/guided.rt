@@ -4,10 +4,9 @@ ghost use Rattle.std.specs.Prelude.{◌≡◌, ◌≤◌, ◌+◌, ℕ, length, 
 ghost use Rattle.liq_types.specs.Image.{IsLimit};
 ghost use Rattle.liq_types.specs.State.{State, opening_with};
 ghost use Rattle.liq_types.specs.declared.requests.Command.{Command};
-ghost use Rattle.liq_types.specs.declared.replies.Reply.TheVariants.{Said};
-ghost use Rattle.liq_types.specs.declared.requests.Request.TheVariants.{Do, Ask};
+ghost use Rattle.liq_types.specs.declared.requests.Request.TheVariants.{Ask};
 ghost use Rattle.liq_core.specs.Core.{SameContent, StandsFor};
-ghost use Rattle.liq_core.specs.Plan.{HasRoom, IsPlannedOn};
+ghost use Rattle.liq_core.specs.Plan.{HasRoom, IsPlannedOn, MakesStep, RepliesByStep};
 ghost use Rattle.liq_core.specs.Steps.{last_put, used_hint, words_of};
 ghost use Rattle.liq_list_index.specs.Followed.{all_listed};
 ghost use Rattle.liq_trove_moves.specs.Steps.{TakesFew};
@@ -158,10 +157,8 @@ impl Guided {
     ) -> Done
         requires planned { IsPlannedOn self.old planned }
         requires room { HasRoom self.old planned }
-        ensures state { (s : State) → StandsFor self.old s
-            → StandsFor self.new (step s (Do planned.command)).0 }
-        ensures reply { (s : State) → StandsFor self.old s → (step s (Do planned.command)).1
-            ≡ Said result }
+        ensures state { MakesStep self.old planned.command self.new }
+        ensures reply { RepliesByStep self.old planned.command result }
         ensures list { self.new.list ≡ all_listed self.old.list planned.changes }
         ensures few { TakesFew self.new.list
             (used_hint (words_of planned.command.call) (hint_used hints.now))
