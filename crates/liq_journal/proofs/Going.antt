@@ -4,7 +4,7 @@ use Rattle.std.specs.Prelude.{◌↔◌}
 use Rattle.liq_outside.specs.At.{DiskAt}
 use Rattle.liq_outside.specs.Disk.{Looked}
 use Rattle.liq_outside.specs.Faults.{HasCause}
-use Rattle.liq_outside.proofs.Moments.{joined, unmoved}
+use Rattle.liq_outside.proofs.Moments.{joined}
 use Rattle.liq_journal.specs.Called.{Called, Lasts}
 
 -- what it tells is there as before

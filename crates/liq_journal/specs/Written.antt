@@ -1,12 +1,10 @@
 -- What one disk is: absent, damaged, or open with its generation, its checkpoint and its commands.
 use Rattle.std.specs.Prelude.{◌≡◌, ℕ, ◌+◌, ◌*◌, ◌<◌, Option, Some, None, Result, Ok, Err}
 use Rattle.std.specs.Prelude.{List, [], ◌∷◌, ◌++◌, length, take, drop, get_or}
-use Rattle.std.specs.Prelude.{Bool, true, false, not, nat_lt, if◌then◌else◌}
+use Rattle.std.specs.Prelude.{Bool, not, nat_lt, if◌then◌else◌}
 use Rattle.std.specs.Str.{bytes_eq}
 use Rattle.liq_types.specs.Verbs.{is_rotate}
 use Rattle.liq_types.specs.declared.requests.Command.{Command}
-use Rattle.liq_types.specs.declared.requests.Call.{Call}
-use Rattle.liq_types.specs.declared.requests.Call.TheVariants.{Rotate}
 use Rattle.liq_wire.specs.Fields.{command_of}
 use Rattle.liq_outside.specs.Disk.{overwritten}
 use Rattle.liq_journal.specs.declared.damage.Damage.{Damage}

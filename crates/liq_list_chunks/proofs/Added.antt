@@ -1,8 +1,8 @@
 -- A chunk behind all others.
-use Rattle.std.proofs.Common.{◌≡◌, ◌≤◌, List, [], ◌∷◌, ◌++◌, length, map, refl, sym, ap, ◌∙◌, arith, append_assoc, subst}
+use Rattle.std.proofs.Common.{◌≡◌, List, [], ◌∷◌, ◌++◌, length, map, refl, sym, ap, ◌∙◌, arith, append_assoc}
 use Rattle.std.specs.Prelude.{Vec}
 use Rattle.liq_types.specs.Ranked.{Ranked}
-use Rattle.liq_list_chunks.specs.Chunks.{joined, AreShort}
+use Rattle.liq_list_chunks.specs.Chunks.{joined}
 use Rattle.liq_list_chunks.proofs.Stored.{items_of}
 
 empty_behind : (r : List Ranked) → r ++ [] ≡ r

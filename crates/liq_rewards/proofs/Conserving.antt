@@ -6,7 +6,7 @@ use Rattle.std.proofs.lemmas.List.Sums.{fold-append}
 use Rattle.liq_types.specs.declared.amounts.TheConstants.{RISES_MOST}
 use Rattle.liq_types.specs.declared.events.PoolEvent.{PoolEvent}
 use Rattle.liq_types.specs.declared.events.PoolEvent.TheVariants as event
-use Rattle.liq_types.specs.PlainLedger.{Share, exact_share, den_of, AreOwnedBelow, over_accounts}
+use Rattle.liq_types.specs.PlainLedger.{exact_share, den_of, AreOwnedBelow, over_accounts}
 use Rattle.liq_types.specs.PlainLedger as ledger
 use Rattle.liq_types.specs.State.{opening}
 use Rattle.liq_types.proofs.Accounts.{over-same, over-plus, over-times, over-le, over-none, share_den}

@@ -17,7 +17,7 @@ use Rattle.liq_types.specs.Product.{ScaledProduct, IsWithinRange, TakesPartUpTo,
 use Rattle.liq_types.specs.State.{State, PoolOffset, PoolMark, After, DepositEntry}
 use Rattle.liq_types.specs.Tables.{EpochScale, Table, put, without, map_rows}
 use Rattle.liq_types.specs.Totals.{pool_total}
-use Rattle.liq_types.specs.WellFormed.{IsBefore, IsMoment, IsWellFormed, Ascends}
+use Rattle.liq_types.specs.WellFormed.{IsBefore, IsWellFormed, Ascends}
 use Rattle.liq_types.proofs.Ascending.{none-ascends}
 use Rattle.liq_types.proofs.FinishedSums.{finished-ascend}
 use Rattle.liq_types.proofs.MapRows.{all-put, all-without, all-weaken, map-put, map-without}

@@ -5,7 +5,6 @@ use Rattle.std.specs.Ordering.{nat_cmp, is_eq}
 use Rattle.std.proofs.lemmas.Bool.Decides.{nat_tests}
 use Rattle.liq_types.specs.Tables.{Table, at, put, without}
 use Rattle.liq_types.proofs.Lookups as lookups
-use Rattle.liq_types.proofs.Lookups.{same_key}
 pub use Rattle.liq_types.proofs.Lookups.{is_eq-same, at-put_same, at-without_same}
 
 pub differ : (a b : ℕ) → is_eq (nat_cmp a b) ≡ false → a ≢ b

@@ -1,5 +1,5 @@
 -- A line that was read so far, and what came of the byte behind it.
-use Rattle.std.proofs.Common.{◌≡◌, ◌≤◌, ℕ, List, [], ◌∷◌, ◌++◌, length, Option, Result, Ok, Err, ap, subst, append-nil}
+use Rattle.std.proofs.Common.{◌≡◌, ◌≤◌, ℕ, List, [], ◌∷◌, ◌++◌, length, Option, Result, Ok, Err, subst, append-nil}
 use Rattle.std.specs.Prelude.{IsErrAnd}
 use Rattle.liq_types.specs.declared.amounts.TheConstants.{LINE_BYTES}
 use Rattle.liq_outside.specs.declared.failed.Failed.{Failed}

@@ -1,6 +1,6 @@
 -- An entry that was put into a list: it is found, the list without it is the one before, and what it took.
 use Rattle.std.proofs.Common.{◌≡◌, ℕ, ℤ, ◌+◌, ◌≤◌, Bool, true, false, cond, List, [], ◌∷◌, length, refl, sym, ap, ◌∙◌, subst, Some, None, Option, arith}
-use Rattle.std.specs.Prelude.{◌==◌, not, filter, find, option_map}
+use Rattle.std.specs.Prelude.{◌==◌, filter, find, option_map}
 use Rattle.std.specs.Ordering.{match_ordering}
 use Rattle.std.specs.declared.cmp.Ordering.{Ordering}
 use Rattle.std.specs.declared.cmp.Ordering.TheVariants.{Less, Equal, Greater}

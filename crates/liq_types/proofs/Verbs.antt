@@ -1,5 +1,5 @@
 -- What a call is, whatever its arguments.
-use Rattle.std.proofs.Common.{◌≡◌, Bool, false, refl}
+use Rattle.std.proofs.Common.{◌≡◌, false, refl}
 use Rattle.liq_types.specs.declared.requests.Call.{Call}
 use Rattle.liq_types.specs.declared.requests.Call.TheVariants.{Rotate}
 use Rattle.liq_types.specs.Verbs.{is_rotate}

@@ -10,7 +10,7 @@ use Rattle.liq_types.specs.declared.requests.Request.TheVariants.{Do, Ask}
 use Rattle.liq_types.specs.State.{State}
 use Rattle.liq_types.proofs.Tests.{value_of}
 use Rattle.liq_types.specs.declared.entries.Entry.{Entry}
-use Rattle.liq_rule_step.specs.History.{requests_of, state_after}
+use Rattle.liq_rule_step.specs.History.{requests_of}
 use Rattle.liq_journal.specs.Opened.{OpenLeaves}
 use Rattle.liq_disk_pair.specs.declared.side.Side.{Side}
 use Rattle.liq_disk_pair.specs.declared.side.Side.TheVariants.{Left, Right}

@@ -1,5 +1,5 @@
 -- The two troves of the rows as they are kept.
-use Rattle.std.specs.Prelude.{ℕ, List, [], ◌∷◌, pos}
+use Rattle.std.specs.Prelude.{List, [], ◌∷◌, pos}
 use Rattle.liq_types.specs.declared.figures.Trove.{Trove}
 use Rattle.liq_types.specs.Ranked.{Ranked}
 use Rattle.liq_types.specs.Tables.{Table}

@@ -1,4 +1,4 @@
-use Rattle.std.proofs.Common.{◌∙◌, ◌+◌, List, ℕ, Option, IfSome, Err, refl, sym, subst, ap}
+use Rattle.std.proofs.Common.{◌+◌, ℕ, Option, IfSome, Err, refl, sym, subst, ap}
 use Rattle.liq_disk_header.specs.declared.head.Head.{Head}
 use Rattle.liq_journal.specs.declared.answers.OpenWhy.{OpenWhy}
 use Rattle.liq_journal.specs.Header.{MaybeSoundHeadOf}

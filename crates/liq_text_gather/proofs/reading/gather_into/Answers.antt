@@ -1,5 +1,4 @@
-use Rattle.std.proofs.Common.{◌≡◌, Result, Err, refl, sym, subst}
-use Rattle.std.specs.Prelude.{IsOkUnless}
+use Rattle.std.proofs.Common.{Result, sym, subst}
 use Rattle.liq_text_lines.specs.declared.stops.Stop.{Stop}
 use Rattle.liq_text_lines.specs.declared.stops.Stop.TheVariants.{NoMemory}
 use Rattle.liq_text_lines.proofs.Readings.{takes_none}

@@ -1,5 +1,4 @@
-use Rattle.std.proofs.Common.{◌≡◌, ℕ, zero, suc, [], ◌∷◌, List, sym, subst, pos}
-use Rattle.liq_types.specs.Ranked.{Ranked}
+use Rattle.std.proofs.Common.{[], ◌∷◌, sym, subst, pos}
 use Rattle.liq_order.specs.Listed.{AreDistinct}
 use Rattle.test_parts.proofs.troves.orders.made_at_once.Goals as goal
 

@@ -3,7 +3,7 @@ use Rattle.std.specs.List.Sorted.{IsStrictlySortedBy}
 use Rattle.liq_types.specs.declared.figures.Deposit.{Deposit}
 use Rattle.liq_types.specs.Tables.{Table}
 use Rattle.liq_types.specs.declared.image.FinishedSum.{FinishedSum}
-use Rattle.liq_stability.specs.Kept.{IsSoundPool, IsSoundDeposit, finished_rows}
+use Rattle.liq_stability.specs.Kept.{IsSoundPool, finished_rows}
 use Rattle.test_parts.specs.declared.troves.pools.TheConstants.{RISEN, RISEN_SUM, RISEN_FIRST, RISEN_SECOND}
 use Rattle.test_parts.proofs.troves.pools.risen_anew.Goals as goal
 
