@@ -129,13 +129,11 @@ fn request_on(line: &[u8], before: u64) -> Result<Request, Halt>
 }
 
 /// Answers the input's lines over the store of two disks, from the state for which they stand.
-pub fn answer_input<S: Source, K: Sink, D: Disk>(
-    alloc: Global,
-    input: &mut S,
-    out: &mut K,
-    left: D,
-    right: D,
-) -> Ending<D>
+pub fn run_input<S, K, D>(alloc: Global, input: &mut S, out: &mut K, left: D, right: D) -> Ending<D>
+where
+    S: Source,
+    K: Sink,
+    D: Disk,
     ensures run { OfState D.at left right (λ l r start.
         GivesBack D.at left right start result.end (S.at input.old).left l r (S.at input.new).left
         (K.at out.old).held (K.at out.new).held (K.at out.old).shown (K.at out.new).shown

@@ -9,7 +9,7 @@ ghost use Rattle.liq_word_exit.specs.Disks.{OfDamage, OfState};
 ghost use Rattle.liq_word_exit.specs.Stops.{EndsIn, StopsDamaged};
 ghost use Rattle.liq_text_lines.specs.Reading.{taken_most, ReadsAtMost};
 
-use crate::run::answer_input;
+use crate::run::run_input;
 use liq_outside::{Disk, Sink, Source};
 use liq_word_exit::{Ending, write_last};
 use std::alloc::Global;
@@ -39,7 +39,7 @@ where
     // It goes on in whatever generation.
     ensures goes_on { (generation : ℕ) → result.end ≢ Err (Halt.Rotated generation) }
 {
-    let ending = answer_input(alloc, input, out, left, right);
+    let ending = run_input(alloc, input, out, left, right);
     if let Err(halt) = ending.end {
         write_last(out, halt);
     }

@@ -15,7 +15,7 @@ use Rattle.liq_word_run.proofs.whole.run_on.Goals as goal
 pub returns-in-Err-clause-run : goal.returns-in-Err-clause-run
 returns-in-Err-clause-run g c l r told_l told_r start is =
     let at = g.K.Sink.at in
-    let ran = c.answer_input-ending in
+    let ran = c.run_input-ending in
     let end = ran.result.end in
     let halt = c.in-Err.halt in
     let told = (g.S.Source.at c.args.input.now).left in
@@ -41,7 +41,7 @@ returns-in-Err-clause-run g c l r told_l told_r start is =
 
 pub returns-in_default-clause-run : goal.returns-in_default-clause-run
 returns-in_default-clause-run g c l r told_l told_r start is =
-    let ran = c.answer_input-ending in
+    let ran = c.run_input-ending in
     let out = c.args.out.now in
     let was = g.K.Sink.at out in
     let now = g.K.Sink.at ran.new.out in
@@ -54,7 +54,7 @@ returns-in_default-clause-run g c l r told_l told_r start is =
 pub returns-in-Err-clause-damaged : goal.returns-in-Err-clause-damaged
 returns-in-Err-clause-damaged g c l r told_l told_r side damage is =
     let at = g.K.Sink.at in
-    let ran = c.answer_input-ending in
+    let ran = c.run_input-ending in
     let found = ran.ensures.damaged l r told_l told_r side damage is in
     let halt = c.in-Err.halt in
     let after = c.write_last.new.out in (
@@ -72,7 +72,7 @@ returns-in-Err-clause-damaged g c l r told_l told_r side damage is =
 
 pub returns-in_default-clause-damaged : goal.returns-in_default-clause-damaged
 returns-in_default-clause-damaged g c l r told_l told_r side damage is =
-    let ran = c.answer_input-ending in
+    let ran = c.run_input-ending in
     let found = ran.ensures.damaged l r told_l told_r side damage is in
     let halts = damaged_halts g.D.Disk.at side damage ran.result.end ran.result.left ran.result.right found.2.ends in
     absurd (c.in_default.not-Err halts.0 halts.1)

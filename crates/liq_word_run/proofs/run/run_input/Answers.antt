@@ -12,7 +12,7 @@ use Rattle.liq_word_run.specs.Progress.{GivesBack}
 use Rattle.liq_word_run.specs.Turns.{Reached, run_at}
 use Rattle.liq_word_run.proofs.Leaving.{gives_back, unopened_by}
 use Rattle.liq_word_run.proofs.Passing.{both}
-use Rattle.liq_word_run.proofs.run.answer_input.Goals as goal
+use Rattle.liq_word_run.proofs.run.run_input.Goals as goal
 use Rattle.liq_text_lines.proofs.Readings.{takes_none}
 
 pub returns-in-Err-clause-run : goal.returns-in-Err-clause-run
