@@ -1,7 +1,7 @@
 //! The top call: what the program does, whatever its words are.
 //!
 //! ```text
-//! words --> read_words --> serve -------> serve_on: from `protocol` alone, as it wants threads
+//! words --> read_words --> serve -------> serve_input: from `protocol` alone, as it wants threads
 //!                     |--> other word --> carry_out: the word's own crate
 //!                     `--> none, or no memory to read them: the disks are not asked
 //! each way ends with a status, a last line where it has one, and both disks given back
@@ -32,15 +32,16 @@ ghost use Rattle.liq_word_exit.specs.Stops.{Adds};
 ghost use Rattle.liq_serve.specs.Top.{Ends};
 
 use crate::answers::{StakeForm, TagForm, answer_on};
-use crate::serve::serve_on;
+use crate::serve::end_of;
 use liq_outside::{Disk, Sink, Source};
 use liq_sessions::Gate;
 use liq_word_arguments::{WordsFault, read_words};
-use liq_word_exit::{Ending, Halt, status, write_last, write_usage};
+use liq_word_exit::{Ending, Halt, status, tell_last, write_last, write_usage};
 use liq_word_follow::follow_on;
 use liq_word_gen::tell_load;
 use liq_word_line::Word;
 use liq_word_run::run_on;
+use liq_word_serve::{Finished, serve_input};
 use liq_word_state::{Text, tell_on};
 use std::alloc::Global;
 use std::io::ErrorKind;
@@ -83,7 +84,14 @@ pub fn protocol<S: Source, K: Sink, D: Disk + Send, G: Gate + Sync, R: Threads +
 {
     let read = read_words(alloc, words);
     if is_serve(&read) {
-        return with_status(serve_on(rt, alloc, gate, input, out, left, right));
+        let Finished {
+            left,
+            right,
+            finish,
+        } = serve_input(rt, alloc, gate, input, out, left, right);
+        let end = end_of(finish);
+        tell_last(out, end);
+        return with_status(Ending { end, left, right });
     }
     // odd: answer named
     let ended = answer_words(alloc, words, read, input, out, left, right);
