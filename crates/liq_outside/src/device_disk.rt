@@ -69,7 +69,8 @@ impl<V: Device> Disk for DeviceDisk<V> {
     ghost seen_may_stay = { λ disk held is. tt };
 
     fn length(&mut self) -> Result<u64, Failed>
-        ensures told { IfOk result (λ n. IfSome (of_device V.held self.old) (λ old. n ≡ length old)) }
+        ensures told { IfOk result (λ n.
+            IfSome (of_device V.held self.old) (λ old. n ≡ length old)) }
         ensures same { of_device V.held self.new ≡ of_device V.held self.old }
         ensures moment { self.new.moment ≡ self.old.moment }
         ensures called { IsCall V.failures self.old self.new result }

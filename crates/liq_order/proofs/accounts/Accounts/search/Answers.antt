@@ -14,7 +14,8 @@ told : (c : After-binary_search_by_key) → let answer = c.binary_search_by_key 
 told c =
     let w = c.window-low in
     let found = c.binary_search_by_key in
-    let by_key = found.ensures.position (λ (row : Row). row.0) (answers_always _ _ _ (λ f a r g called. search rules)) in
+    let by_key = found.ensures.position (λ (row : Row). row.0)
+    (answers_always _ _ _ (λ f a r g called. search rules)) in
     let value : c.args.self.now.rows ≡ c.deref.result.now = sym (c.deref.ensures.value
     ∙ ap (λ (p : Rows). p.rows) c.self.view_is) in
     rw value (searched_within c.deref.result.now (rw value at w.ensures.strict) c.args.account w.result.0 w.result.1

@@ -202,8 +202,9 @@ returns-in-No-clause-disks g c = ruled_out g (goal.at.returns-in-No-clause-disks
 
 pub returns-in-Again-clause-appended : goal.returns-in-Again-clause-appended
 returns-in-Again-clause-appended g c s stands accepted none =
-    let so = c.in-Again.ensures.prepared s (here g (goal.at.returns-in-Again-clause-appended g c).After-prepare s stands)
-    in absurd (none_accepted s c.args.command.now (Repeated c.in-Again.done) so refl accepted)
+    let at = (goal.at.returns-in-Again-clause-appended g c).After-prepare in
+    let so = c.in-Again.ensures.prepared s (here g at s stands) in
+    absurd (none_accepted s c.args.command.now (Repeated c.in-Again.done) so refl accepted)
 
 pub returns-in-No-clause-appended : goal.returns-in-No-clause-appended
 returns-in-No-clause-appended g c s stands accepted none =
