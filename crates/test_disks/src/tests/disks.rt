@@ -8,6 +8,11 @@ pub fn disk(alloc: Global, bytes: &[u8], failing: &[u64]) -> Result<MemoryDisk, 
     Ok(MemoryDisk::new(alloc, bytes.to_vec(alloc)?, failing.to_vec(alloc)?))
 }
 
+/// A disk that holds nothing, and none of whose device calls fails.
+pub fn no_bytes(alloc: Global) -> MemoryDisk {
+    MemoryDisk::new(alloc, Vec::new(alloc), Vec::new(alloc))
+}
+
 /// The bytes with another one at a place.
 pub fn changed(alloc: Global, bytes: &[u8], at: u64, byte: u8) -> Result<Vec<u8>, AllocError> {
     let mut bytes = bytes.to_vec(alloc)?;

@@ -20,12 +20,21 @@ pub fn file<F: Files<File = File>>(files: &F, name: &str) -> io::Result<FileDisk
     Ok(FileDisk::new(Some(file)))
 }
 
-/// Makes a journal of two records on the disk; whether each call succeeded.
-pub fn make_two(alloc: Global, disk: FileDisk) -> bool {
+// Makes a journal of two records on the disk; whether each call succeeded.
+fn make_two(alloc: Global, disk: FileDisk) -> bool {
     let created = create(disk);
     let first = append(alloc, created.disk, &fund(1));
     let second = append(alloc, first.disk, &fund(2));
     created.made && first.made && second.made
+}
+
+/// Makes a journal of two records in a new file of this name; whether each call succeeded.
+pub fn make_two_in<F>(files: &F, alloc: Global, name: &str) -> io::Result<bool>
+where
+    F: Files<File = File>,
+{
+    let _ = fs::remove_file(files, name);
+    Ok(make_two(alloc, file(files, name)?))
 }
 
 // How many bytes a disk reads, where they are the first of these: else none.
@@ -66,13 +75,10 @@ fn read_whole(alloc: Global, disk: FileDisk) -> Read {
 
 #[test]
 fn two_records_in_a_file(rt: HostRuntime) -> Result<(), Fail> {
-    let _ = fs::remove_file(&rt, "journal.liq");
-    let made = make_two(rt.alloc(), file(&rt, "journal.liq")?);
+    let made = make_two_in(&rt, rt.alloc(), "journal.liq")?;
     let read = read_whole(rt.alloc(), file(&rt, "journal.liq")?);
-    let is_two = made && read.found == Found::Records(2);
-    shows(&rt, "two records in a file", is_two);
-    let is_whole = read.numbers == [324, 324, 0];
-    shows(&rt, "the file's length, its bytes and no fault", is_whole);
+    let is_right = made && (read.found, read.numbers) == (Found::Records(2), [324, 324, 0]);
+    shows(&rt, "two records, all their bytes and no fault", is_right);
     Ok(())
 }
 

@@ -6,13 +6,12 @@ ghost use Rattle.liq_journal.specs.Crash.{Stands};
 ghost use Rattle.liq_types.specs.Verbs.{is_rotate};
 
 use crate::tests::checks::shows;
-use crate::tests::disks::{TWO_RECORDS, disk};
+use crate::tests::disks::{TWO_RECORDS, no_bytes};
 use crate::tests::journals::fund;
 use liq_journal::Journal;
 use liq_outside::{Disk, MemoryDisk};
 use liq_types::Command;
 use liq_wire::encode;
-use std::test::Fail;
 
 // A new journal with two records, or the disk that failed. Where the disk tells its content, it is
 // then the journal of the two commands.
@@ -64,9 +63,8 @@ fn of_two(disk: MemoryDisk) -> Row {
 }
 
 #[test]
-fn a_creation_and_two_appends(rt: HostRuntime) -> Result<(), Fail> {
-    let row = of_two(disk(rt.alloc(), &[], &[])?);
+fn a_creation_and_two_appends(rt: HostRuntime) {
+    let row = of_two(no_bytes(rt.alloc()));
     let is_two = row.is_right && row.records == 2;
     shows(&rt, "two appends in a row, and their bytes", is_two);
-    Ok(())
 }

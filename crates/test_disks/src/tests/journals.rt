@@ -2,7 +2,7 @@
 ghost use Rattle.std.specs.Prelude.{◌≡◌};
 ghost use Rattle.liq_types.specs.declared.requests.Call.TheVariants.{Fund};
 
-use crate::tests::disks::disk;
+use crate::tests::disks::{disk, no_bytes};
 use crate::tests::found::{Found, of_opening};
 use liq_journal::Journal;
 use liq_outside::Disk;
@@ -94,7 +94,7 @@ pub fn append<D: Disk>(alloc: Global, disk: D, command: &Command) -> Left<D> {
 
 /// The bytes of a journal with so many records.
 pub fn journal(alloc: Global, records: u64) -> Result<Vec<u8>, AllocError> {
-    let mut left = create(disk(alloc, &[], &[])?);
+    let mut left = create(no_bytes(alloc));
     for number in 0..records {
         left = append(alloc, left.disk, &fund(number.saturating_add(1)));
     }

@@ -1,8 +1,8 @@
 //! Looks at a disk, and bodies of records read back.
 
 use crate::tests::checks::{NOWHERE, same, shows};
-use crate::tests::disks::{TWO_RECORDS, byte_at, changed, disk};
-use crate::tests::files::{file, make_two};
+use crate::tests::disks::{TWO_RECORDS, byte_at, changed, disk, no_bytes};
+use crate::tests::files::{file, make_two_in};
 use crate::tests::found::{Found, of_header, of_look};
 use crate::tests::journals::fund;
 use liq_journal::{Journal, Look, look};
@@ -10,7 +10,8 @@ use liq_outside::{Disk, FileDisk, MemoryDisk};
 use liq_types::{Call, Command};
 use liq_wire::encode;
 use std::alloc::{AllocError, Global};
-use std::fs;
+use std::fs::{File, Files};
+use std::io;
 use std::test::Fail;
 
 // What a look finds. Of a journal it tells the generation alone: 1 is told as no records.
@@ -183,19 +184,18 @@ fn bodies_are_read_back(rt: HostRuntime) -> Result<(), Fail> {
 
 // What is found in place of the body of a new journal's only record, which has these bytes.
 fn find_body(disk: MemoryDisk, bytes: &[u8; 96]) -> Found {
-    let Ok(mut journal) = Journal::create(disk, 1, &[]) else {
-        return Found::DiskFault;
-    };
-    if journal.append(bytes).is_err() {
-        return Found::DiskFault;
+    match Journal::create(disk, 1, &[]) {
+        Ok(mut journal) => match journal.append(bytes) {
+            Ok(()) => read_body(&mut journal, 1, bytes),
+            Err(_) => Found::DiskFault,
+        },
+        Err(_) => Found::DiskFault,
     }
-    read_body(&mut journal, 1, bytes)
 }
 
 // Whether a field of the body fits nothing, at this place of the disk.
-fn is_refused(alloc: Global, bytes: &[u8; 96], place: u64) -> Result<bool, AllocError> {
-    let found = find_body(disk(alloc, &[], &[])?, bytes);
-    Ok(found == Found::NoForm { index: 1, place })
+fn is_refused(alloc: Global, bytes: &[u8; 96], place: u64) -> bool {
+    find_body(no_bytes(alloc), bytes) == Found::NoForm { index: 1, place }
 }
 
 fn rotation() -> [u8; 96] {
@@ -213,16 +213,15 @@ fn fund_of_no_account() -> [u8; 96] {
 }
 
 #[test]
-fn a_body_that_is_no_command(rt: HostRuntime) -> Result<(), Fail> {
+fn a_body_that_is_no_command(rt: HostRuntime) {
     let alloc = rt.alloc();
     // Nothing, a rotation, and an account that is none.
     let refused = [
-        is_refused(alloc, &[0; 96], 66)?,
-        is_refused(alloc, &rotation(), 66)?,
-        is_refused(alloc, &fund_of_no_account(), 86)?,
+        is_refused(alloc, &[0; 96], 66),
+        is_refused(alloc, &rotation(), 66),
+        is_refused(alloc, &fund_of_no_account(), 86),
     ];
     shows(&rt, "each is refused", refused == [true; 3]);
-    Ok(())
 }
 
 // What comes of reading a body once the file has another byte at a place, which is written from
@@ -255,27 +254,33 @@ fn bodies_behind_changes(journal: &mut Journal<FileDisk>, other: &mut FileDisk) 
     }
 }
 
-fn see_changes(alloc: Global, disk: FileDisk, other: &mut FileDisk) -> Seen {
+fn see_changes(alloc: Global, disk: FileDisk, mut other: FileDisk) -> Seen {
     match journal_on(alloc, disk) {
-        Some(mut journal) => bodies_behind_changes(&mut journal, other),
+        Some(mut journal) => bodies_behind_changes(&mut journal, &mut other),
         None => NOTHING,
     }
 }
 
+// What is seen of the file of this name.
+fn see_changes_of<F>(files: &F, alloc: Global, name: &str) -> io::Result<Seen>
+where
+    F: Files<File = File>,
+{
+    let other = file(files, name)?;
+    Ok(see_changes(alloc, file(files, name)?, other))
+}
+
 #[test]
 fn bodies_of_a_file_that_was_changed(rt: HostRuntime) -> Result<(), Fail> {
-    let alloc = rt.alloc();
-    let _ = fs::remove_file(&rt, "bodies.liq");
-    let made = make_two(alloc, file(&rt, "bodies.liq")?);
-    let mut other = file(&rt, "bodies.liq")?;
-    let seen = see_changes(alloc, file(&rt, "bodies.liq")?, &mut other);
+    let made = make_two_in(&rt, rt.alloc(), "bodies.liq")?;
+    let Seen { found, faults } = see_changes_of(&rt, rt.alloc(), "bodies.liq")?;
     let expected = [
         Found::Records(1),
         Found::OtherDigest(1),
         Found::Records(2),
         Found::OtherDigest(2),
     ];
-    let is_right = made && (seen.found, seen.faults) == (expected, 0);
+    let is_right = made && (found, faults) == (expected, 0);
     shows(&rt, "bodies that change, and no fault", is_right);
     Ok(())
 }

@@ -1,8 +1,8 @@
 //! Sources and sinks: that each form works over real bytes, and that each fault is counted.
 
 use crate::tests::checks::shows;
-use crate::tests::disks::disk;
-use liq_outside::{MemorySink, MemorySource, Sink, Source, StdSink, StdSource};
+use crate::tests::disks::no_bytes;
+use liq_outside::{MemoryDisk, MemorySink, MemorySource, Sink, Source, StdSink, StdSource};
 use std::alloc::{AllocError, Global};
 use std::io::{self, ErrorKind, Read};
 use std::test::Fail;
@@ -93,28 +93,35 @@ fn a_memory_source_gives_its_bytes_in_chunks(rt: HostRuntime) -> Result<(), Fail
     Ok(())
 }
 
-// The second of three pieces is lost.
+// Whether a sink whose second write fails lacks the second of three pieces alone.
+fn holds_the_others(mut sink: MemorySink) -> bool {
+    let failed = write_each(&mut sink, &[b"ab", b"cd", b"efg"]);
+    sink.bytes() == b"abefg".as_slice() && (failed, sink.faults()) == (1, 1)
+}
+
 #[test]
 fn a_memory_sink_holds_what_did_not_fail(rt: HostRuntime) -> Result<(), Fail> {
-    let alloc = rt.alloc();
-    let mut sink = MemorySink::new(alloc, [1].to_vec(alloc)?);
-    let failed = write_each(&mut sink, &[b"ab", b"cd", b"efg"]);
-    let is_held = sink.bytes() == b"abefg".as_slice();
-    let is_right = is_held && (failed, sink.faults()) == (1, 1);
+    let failing = [1].to_vec(rt.alloc())?;
+    let is_right = holds_the_others(MemorySink::new(rt.alloc(), failing));
     shows(&rt, "a sink holds the others", is_right);
     Ok(())
+}
+
+// Whether a sink tells what it is shown of two disks, before two writes and behind them.
+fn tells_of(left: MemoryDisk, right: MemoryDisk, mut sink: MemorySink) -> bool {
+    sink.show(&left, &right);
+    let _ = write_each(&mut sink, &[b"ab", b"cd"]);
+    sink.show(&left, &right);
+    sink.tells()
 }
 
 // Where memory is ample it tells what it was shown, behind a write that failed too.
 #[test]
 fn a_memory_sink_tells_what_it_was_shown(rt: HostRuntime) -> Result<(), Fail> {
     let alloc = rt.alloc();
-    let mut sink = MemorySink::new(alloc, [0].to_vec(alloc)?);
-    let (left, right) = (disk(alloc, b"", &[])?, disk(alloc, b"", &[])?);
-    sink.show(&left, &right);
-    let _ = write_each(&mut sink, &[b"ab", b"cd"]);
-    sink.show(&left, &right);
-    let is_told = sink.tells();
+    let failing = [0].to_vec(alloc)?;
+    let sink = MemorySink::new(alloc, failing);
+    let is_told = tells_of(no_bytes(alloc), no_bytes(alloc), sink);
     shows(&rt, "a sink tells what it was shown", is_told);
     Ok(())
 }
