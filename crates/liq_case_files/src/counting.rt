@@ -5,13 +5,10 @@ use std::alloc::Global;
 
 /// A text with each number in braces counted up so many times.
 pub fn count_up(alloc: Global, text: &str, turn: u64) -> Result<String, Misread> {
-    let mut line = String::new(alloc);
-    for (place, part) in text.split('{').enumerate() {
-        if place == 0 {
-            line.push_str(part)?;
-        } else {
-            put_counted(&mut line, part, turn)?;
-        }
+    let mut parts = text.split('{');
+    let mut line = String::from_str(alloc, parts.next().unwrap_or(""))?;
+    for part in parts {
+        put_counted(&mut line, part, turn)?;
     }
     Ok(line)
 }

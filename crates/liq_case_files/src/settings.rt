@@ -66,12 +66,14 @@ fn set_input(run: &mut Run, words: &[&str]) -> Result<(), Misread> {
             run.input = Some(side_of(side)?);
             Ok(())
         }
-        ["cuts", first, last] => {
-            run.sweeps.push(Asked::Cuts(number(first)?, number(last)?))?;
-            Ok(())
-        }
+        ["cuts", first, last] => put_sweep(run, cuts(first, last)?),
         _ => Err(Misread::NotUnderstood),
     }
+}
+
+/// How many of the first bytes come in.
+fn cuts(first: &str, last: &str) -> Result<Asked, Misread> {
+    Ok(Asked::Cuts(number(first)?, number(last)?))
 }
 
 /// Takes a device's calls that fail, a sweep over them, or a fact of it.

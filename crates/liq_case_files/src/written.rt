@@ -22,12 +22,10 @@ pub fn put_line(bytes: &mut Vec<u8>, text: &str) -> Result<(), Misread> {
 
 /// Appends what a text writes out.
 fn put_written_out(bytes: &mut Vec<u8>, text: &str) -> Result<(), Misread> {
-    for (place, part) in text.split('\\').enumerate() {
-        if place == 0 {
-            bytes.extend_from_slice(part.as_bytes())?;
-        } else {
-            put_named(bytes, part.as_bytes())?;
-        }
+    let mut parts = text.split('\\');
+    bytes.extend_from_slice(parts.next().unwrap_or("").as_bytes())?;
+    for part in parts {
+        put_named(bytes, part.as_bytes())?;
     }
     Ok(())
 }
