@@ -88,14 +88,21 @@ fn works(
     works
 }
 
+/// Whether a reply is a session's own at this place, and the call is that of its script with just
+/// this reply.
+fn is_made_up(session: u8, index: u64, reply: &Reply, call: &(Request, Reply)) -> bool {
+    let (request, given) = call;
+    let expected = made_up(session, index);
+    *reply == expected && *given == expected && *request == request_at(index)
+}
+
 /// Whether the replies are a session's own, in order, and the calls are those of its script with
 /// just these replies.
 fn are_made_up(session: u8, replies: &[Reply], calls: &[(Request, Reply)]) -> bool {
     let mut index = 0u64;
-    for (reply, (request, given)) in replies.iter().zip(calls.iter()) {
+    for (reply, call) in replies.iter().zip(calls.iter()) {
         index = index.wrapping_add(1);
-        let expected = made_up(session, index);
-        if *reply != expected || *given != expected || *request != request_at(index) {
+        if !is_made_up(session, index, reply, call) {
             return false;
         }
     }

@@ -168,9 +168,8 @@ fn at_once<R: Threads + Wait + Sync>(
     seen
 }
 
-fn run_all<R: Threads + Wait + Sync>(rt: &R, alloc: Global) -> Option<Seen> {
-    let mut watchers = Vec::with_capacity(alloc, FINDERS as usize).ok()?;
-    let (mut publisher, finders) = Publisher::new(alloc, FINDERS).ok()?;
+/// Each finder gets a watcher, in a list with room for them.
+fn put_watchers(watchers: &mut Vec<Watcher>, finders: Vec<Finder>) {
     for finder in finders {
         let watcher = Watcher {
             finder,
@@ -179,6 +178,12 @@ fn run_all<R: Threads + Wait + Sync>(rt: &R, alloc: Global) -> Option<Seen> {
         };
         let _ = watchers.push(watcher);
     }
+}
+
+fn run_all<R: Threads + Wait + Sync>(rt: &R, alloc: Global) -> Option<Seen> {
+    let mut watchers = Vec::with_capacity(alloc, FINDERS as usize).ok()?;
+    let (mut publisher, finders) = Publisher::new(alloc, FINDERS).ok()?;
+    put_watchers(&mut watchers, finders);
     let seen = at_once(rt, &mut publisher, watchers.as_mut_slice());
     publisher.close(rt);
     Some(seen)
