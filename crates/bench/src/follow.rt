@@ -29,20 +29,31 @@ fn feed(follower: &mut Follower, read: &[u8], size: usize) {
     }
 }
 
-/// How many records a follower has that is fed the file in pieces of this size, `READ` bytes or a
-/// piece being read at once.
-fn followed(alloc: Global, file: &File, size: usize) -> io::Result<u64> {
-    let mut follower = Follower::new(alloc);
-    let mut buffer = vec![in alloc; 0; size.clamp(READ, MOST)]?;
+/// Feeds the file in pieces of this size, as many bytes being read at once as the buffer has.
+fn feed_file(
+    follower: &mut Follower,
+    file: &File,
+    buffer: &mut [u8],
+    size: usize,
+) -> io::Result<()> {
     let mut at = 0;
     for _ in 0..u64::MAX {
-        let count = file.read_at(&mut buffer, at)?;
+        let count = file.read_at(buffer, at)?;
         if count == 0 {
             break;
         }
-        feed(&mut follower, &buffer[..count.min(buffer.len())], size);
+        feed(follower, &buffer[..count.min(buffer.len())], size);
         at = at.saturating_add(count as u64);
     }
+    Ok(())
+}
+
+/// How many records a follower has that is fed the file in pieces of this size, `READ` bytes or a
+/// piece being read at once.
+fn followed(alloc: Global, file: &File, size: usize) -> io::Result<u64> {
+    let mut buffer = vec![in alloc; 0; size.clamp(READ, MOST)]?;
+    let mut follower = Follower::new(alloc);
+    feed_file(&mut follower, file, &mut buffer, size)?;
     Ok(follower.protocol().records())
 }
 

@@ -43,8 +43,7 @@ fn best_with<R>(rt: &R, alloc: Global, accounts: u32, rounds: u64) -> io::Result
 where
     R: Print + Clock,
 {
-    let bytes = checkpoint(alloc, accounts)?;
-    let [read, begin, tell, write] = best_of(rt, alloc, &bytes, rounds)?;
+    let [read, begin, tell, write] = best_of(rt, alloc, &checkpoint(alloc, accounts)?, rounds)?;
     println!(rt;
         "{accounts} accounts: read in {read} us, begun with in {begin}, told in {tell}, \
          written in {write}"

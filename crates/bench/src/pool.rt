@@ -79,10 +79,10 @@ fn best_with<R: Print + Clock>(
     deposits: u32,
     offsets: u64,
 ) -> io::Result<u128> {
-    let Ok(mut pool) = pool_of(alloc, deposits) else {
-        return Err(io::ErrorKind::OutOfMemory.into());
+    let best = match pool_of(alloc, deposits) {
+        Ok(mut pool) => best_of(rt, &mut pool, offsets)?,
+        Err(_) => return Err(io::ErrorKind::OutOfMemory.into()),
     };
-    let best = best_of(rt, &mut pool, offsets)?;
     let each = best / u128::from(offsets.max(1));
     println!(rt; "{deposits} deposits: {each} ns an offset")?;
     Ok(best)
