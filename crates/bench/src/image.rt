@@ -105,12 +105,23 @@ where
     protocols_are_sound(protocol);
     let start = Instant::now(rt)?;
     match protocol.image() {
-        Ok(image) => {
-            let tell = start.elapsed(rt)?.as_micros();
-            Ok([tell, time_to_write(rt, alloc, &image, bytes)?])
-        }
+        Ok(image) => times_since(rt, &start, alloc, &image, bytes),
         Err(_) => Err(io::ErrorKind::OutOfMemory.into()),
     }
+}
+
+/// Microseconds since the image was asked for, and to write it.
+fn times_since<R: Clock>(
+    rt: &R,
+    start: &Instant,
+    alloc: Global,
+    image: &Image,
+    bytes: &[u8],
+) -> io::Result<[u128; 2]>
+    requires { HasTables image.now }
+{
+    let tell = start.elapsed(rt)?.as_micros();
+    Ok([tell, time_to_write(rt, alloc, image, bytes)?])
 }
 
 /// Microseconds to write the image, whose checkpoint these bytes are.
