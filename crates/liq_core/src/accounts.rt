@@ -57,8 +57,8 @@ impl Protocol {
         self.checkpoint_with(self.clients.count())
     }
 
-    /// How many bytes a checkpoint has of an image with so many clients, and else the rows of the
-    /// protocol.
+    /// How many bytes a checkpoint has of an image with so many clients, and otherwise the
+    /// protocol's rows.
     pub(crate) fn checkpoint_with(&self, clients: u64) -> u128
         ensures length { (rows : Table client_row) → clients ≡ length rows
             → result ≡ checkpoint_length (record self.now.image { clients = rows }) }

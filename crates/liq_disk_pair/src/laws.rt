@@ -38,7 +38,8 @@ pub fn what_is_found_decides()
 {}
 
 /// The state for which two disks stand is sound, as the rules reach them: it is well formed, its
-/// tables are in order, and its image meets the rules beside its count of records.
+/// tables are in order, its image meets the rules beside its count of records, and what was
+/// redistributed went to some stake.
 pub fn states_on_disks_are_sound()
     ensures { (l r : List ℕ) → (s : State) → state_on l r ≡ Ok s → IsSoundState s }
 {}

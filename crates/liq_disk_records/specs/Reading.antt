@@ -48,6 +48,6 @@ module _ {D : Type 0} (at : D → DiskAt) (journal : JournalOn D) (index : ℕ) 
   abbrev pub IsCommandThere : Command → Type 0
   IsCommandThere c = HoldsWhereTold (λ w. IsRecorded w index c)
 
-  -- a fault that is no damage of that record
+  -- a fault that is no damage, where that record is told
   abbrev pub IsReadableThere : AcceptedFault → Type 0
   IsReadableThere why = HoldsWhereTold (λ w. IsReadable why)

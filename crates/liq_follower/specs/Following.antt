@@ -62,7 +62,7 @@ IsSomeOf piece n = (1 ≤ n) × (n ≤ length piece)
 abbrev pub Adds : Followed → List ℕ → Followed → Type 0
 Adds old more new = (bytes : List ℕ) → IsAt bytes old → IsAt (bytes ++ more) new
 
--- It is known of the same bytes still, and there is no memory for what this byte completes behind
+-- What was known of the bytes still is, and there is no memory for what this byte completes behind
 -- them.
 abbrev pub LacksMemory : Followed → ℕ → Followed → Type 0
 LacksMemory old byte new =

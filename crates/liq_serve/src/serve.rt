@@ -1,4 +1,4 @@
-//! How the word `serve` ends, and any word whose input was not read to its end.
+//! How `serve` ends, and how a word ends whose input was not read to its end.
 
 ghost use Rattle.std.specs.Prelude.{◌≡◌};
 ghost use Rattle.liq_types.specs.declared.amounts.TheConstants.{LINES_MOST};

@@ -55,7 +55,7 @@ abbrev pub stopped_after : Option ℕ → Answer → Faults → Option ℕ
 stopped_after stopped answer.DiskFault faults = stopped_by stopped faults
 stopped_after stopped _ faults = stopped
 
--- it is so over a call with this answer
+-- a store stops so over a call with this answer
 abbrev pub StopsAfter : {D : Type 0} → (D → DiskAt) → Stored D → Answer → Stored D → Type 0
 StopsAfter at old answer new = new.stopped ≡ stopped_after old.stopped answer (faults_of at new)
 

@@ -92,7 +92,7 @@ pub record PartShows
   pub time : GoOn at old new
   pub disks : DiskCause result (counts_of at old.left old.right) (counts_of at new.left new.right)
 
--- the same of a run, whose source and sink were and are so
+-- the same of a run, with its source and its sink before and after
 abbrev pub RunShows :
     {D T : Type 0} {d : Ghosts D} → (D → DiskAt) → Run D d → SourceAt → SinkAt
     → Run D d → SourceAt → SinkAt → Result T Halt → Type 0

@@ -21,10 +21,10 @@ use Rattle.liq_serve.proofs.top.protocol.Given.{Over}
 use Rattle.liq_serve.proofs.top.protocol.Goals as goal
 
 -- the outside of `serve`, before it and after
-abbrev before : (g : Over) → goal.After-tell_last g → Outside g.row.S.Denot g.row.K.Denot g.row.D.Denot
+abbrev before : (g : Over) → goal.After-with_status g → Outside g.row.S.Denot g.row.K.Denot g.row.D.Denot
 before g c = record { source = c.args.input.now; sink = c.args.out.now; left = c.args.left; right = c.args.right }
 
-abbrev after : (g : Over) → goal.After-tell_last g → Outside g.row.S.Denot g.row.K.Denot g.row.D.Denot
+abbrev after : (g : Over) → goal.After-with_status g → Outside g.row.S.Denot g.row.K.Denot g.row.D.Denot
 after g c = record {
   source = c.serve_input-left.new.input;
   sink = c.tell_last.new.out;
@@ -33,7 +33,7 @@ after g c = record {
 }
 
 -- what `serve` leaves
-serves_to : (g : Over) (c : goal.After-tell_last g)
+serves_to : (g : Over) (c : goal.After-with_status g)
     → ServesTo g.S.Source.at g.K.Sink.at g.D.Disk.at (before g c) (after g c) c.end_of-end.result
 serves_to g c =
     let disk_at = g.D.Disk.at in
@@ -83,7 +83,7 @@ serves_to g c =
     }
 
 -- its end has its cause
-has_causes : (g : Over) (c : goal.After-tell_last g)
+has_causes : (g : Over) (c : goal.After-with_status g)
     → HasCauses g.S.Source.at g.K.Sink.at g.D.Disk.at (before g c) (after g c) c.end_of-end.result
 has_causes g c =
     let ran = c.serve_input-left in
@@ -103,13 +103,12 @@ has_causes g c =
 
 pub returns-then-is_serve : goal.returns-then-is_serve
 returns-then-is_serve g c =
-    let at = (goal.at.returns-then-is_serve g c).After-tell_last in
     let words = map string_bytes c.args.words.now in
     let ran = c.serve_input-left in
     let read = is_read words c.read_words-read.result Serve (c.is_serve.ensures.0 c.if-is_serve.true)
     c.read_words-read.ensures.word c.read_words-read.ensures.only in
-    subst (λ (e : Ended g.row.D.Denot). Ends g.S.Source.at g.K.Sink.at g.D.Disk.at (before g at)
+    subst (λ (e : Ended g.row.D.Denot). Ends g.S.Source.at g.K.Sink.at g.D.Disk.at (before g c)
     (record { source = ran.new.input; sink = c.tell_last.new.out; left = e.left; right = e.right }) e.status words)
     (sym c.with_status.ensures)
-    (word_ends g.S.Source.at g.K.Sink.at g.D.Disk.at (before g at) _ words Serve c.end_of-end.result read
-    (serves_to g at) (has_causes g at) ran.ensures.takes)
+    (word_ends g.S.Source.at g.K.Sink.at g.D.Disk.at (before g c) _ words Serve c.end_of-end.result read
+    (serves_to g c) (has_causes g c) ran.ensures.takes)
