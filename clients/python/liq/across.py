@@ -102,7 +102,7 @@ def across(
     bar: Optional[Bar] = None,
 ) -> List[str]:
     """What a word tells of a folder's market and of its archive, on copies."""
-    named = named_in(archive) if archive is not None else None
+    named = named_in(archive, folder) if archive is not None else None
     with scratch(folder, "liq-across") as room:
         backup(folder, room, bar=bar)
         return told(word, past_of(room, archive, named, bar), lines or [])

@@ -14,7 +14,7 @@ from typing import Iterator, Type
 import liq
 from liq import refusals
 from liq.across import NoLine
-from liq.archive import NotArchived
+from liq.archive import Differing, NotArchived
 from liq.batch import BatchStopped
 from liq.ends import End, MarketExists, NoJournal, TooMuch
 from liq.errors import LiqError, TimedOut
@@ -30,7 +30,8 @@ from liq.statement import NotStated
 MADE = {  # by what an exception is made where that is not a message alone
     NoJournal: (Path("a"),), MarketExists: ("a",), NoRegularFile: (Path("a/left.liq"),),
     DamagedFile: (Path("a/left.liq"), 3, "its digest is another"), TooMuch: ("a/left.liq has", 5, "bytes"),
-    Parted: (1, 2), NotArchived: (Path("a"), "generation 2 is missing"), NoLine: ("staking", 3),
+    Parted: (1, 2), Differing: (Path("a/1-0.liq"), Path("b/left.liq"), 1, True),
+    NotArchived: (Path("a"), "generation 2 is missing"), NoLine: ("staking", 3),
     BatchStopped: (3, 8, (1, 2)), TimedOut: (2.5, "1 1 fund 1 5"),
     BadBook: ("a/book", "it is none"), Stopped: (5, "disk fault"), Refused: ("verb", "it is none of yours"),
     BadSocket: ("a/callers", "it is heard"),
