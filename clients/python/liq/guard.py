@@ -44,7 +44,7 @@ from .ends import End, Folder, TooMuch, Unfit
 from .journal import FRONT_BYTES, KINDS, PIECE_BYTES, RECORD_BYTES, SIDES
 from .journal import DamagedFile, Header, copy_file, files_of, open_file, read_checkpoint, read_command, read_header
 from .journal import settle
-from .linked import APART, CLIENT_AND_NUMBER, unlinked
+from .linked import APART, CLIENT_AND_NUMBER, last_numbers, unlinked
 from .progress import Bar
 from .reasons import distrusted
 from .scratch import bounded, scratch
@@ -56,6 +56,7 @@ TRIES = 100
 NOTE_TITLE = "liq.guard 2: what counted at an earlier look, and the older file that leads to it"
 OLD_TITLE = "liq.guard: generation, records, and the digest of the last record, or of the header where there is none"
 NOTE_BYTES_MOST = 1000
+CLIENTS_NOTED = 8  # those with the greatest numbers: what a market that was rotated twice is known by
 EXAMPLES = """
 python3 -m liq.guard --note /var/lib/liq/note /var/lib/liq/market && echo start
 python3 -m liq.guard --mend --dry-run market
@@ -478,20 +479,23 @@ def said_of_damage(seen: Seen, current: Optional[Seen]) -> str:
 
 class Note(NamedTuple):
     """What was there at an earlier look. `counts` is the SHA-256 over the records and all in front of them; `before` is
-    that of the older file, where its commands lead to this generation. An old note has neither."""
+    that of the older file, where its commands lead to this generation; `numbers` are the last ones of some clients. An
+    old note has none of these."""
 
     generation: int
     records: int
     digest: str
     counts: str = ""
     before: str = ""
+    numbers: Tuple[Tuple[int, int], ...] = ()
 
     @property
     def text(self) -> str:
         rows = f"generation {self.generation}\nrecords {self.records}\ndigest {self.digest}\n"
         if not self.counts:
             return f"{OLD_TITLE}\n{rows}"
-        return f"{NOTE_TITLE}\n{rows}sha256 {self.counts}\nbefore {self.before or '-'}\n"
+        numbers = ",".join(f"{client}:{number}" for client, number in self.numbers)
+        return f"{NOTE_TITLE}\n{rows}sha256 {self.counts}\nbefore {self.before or '-'}\nnumbers {numbers or '-'}\n"
 
     def __str__(self) -> str:
         return f"generation {self.generation} with {counted(self.records, 'record')}"
@@ -502,7 +506,9 @@ def note_of(found: Look, before: str = "") -> Note:
     current = found.current
     assert current and current.header
     digest = current.digest_of(current.records).hex()
-    return Note(current.header.generation, current.records, digest, current.counts, before)
+    numbers = last_numbers(current.path, LARGEST, current.records)
+    greatest = sorted(numbers.items(), key=lambda row: (-row[1], row[0]))[:CLIENTS_NOTED]
+    return Note(current.header.generation, current.records, digest, current.counts, before, tuple(greatest))
 
 
 def read_note(path: Folder) -> Optional[Note]:
@@ -513,8 +519,10 @@ def read_note(path: Folder) -> Optional[Note]:
     except FileNotFoundError:
         return None
     try:
-        words = [line.split(" ")[1] for line in text.splitlines()[1:]]
-        note = Note(int(words[0]), int(words[1]), words[2], *(word.replace("-", "") for word in words[3:5]))
+        words = [line.split(" ")[1].strip("-") for line in text.splitlines()[1:]]
+        pairs = [pair.split(":") for pair in words[5].split(",") if pair] if len(words) > 5 else []
+        numbers = tuple((int(client), int(number)) for client, number in pairs)
+        note = Note(int(words[0]), int(words[1]), words[2], *words[3:5], numbers=numbers)
     except (IndexError, ValueError):
         raise BadNote(path) from None
     if note.text != text:
@@ -555,6 +563,12 @@ def behind(found: Look, note: Note) -> Optional[str]:
         return f"another history: {what} of generation {note.generation} is not that of the note"
     if seen and note.counts and seen.noted != note.counts:
         return f"another history: what stands in front of it in generation {note.generation} is not that of the note"
+    if seen is None and note.numbers:
+        assert found.current
+        now = last_numbers(found.current.path, LARGEST)
+        for client, number in note.numbers:
+            if now.get(client, 0) < number:
+                return f"another history: client {client}'s last number is {now.get(client, 0)}, and it was {number}"
     return None
 
 

@@ -9,8 +9,8 @@ from typing import Dict, NamedTuple, Optional
 
 from .ends import NoJournal
 from .history import begun, read_begin, replay, rotated, rotating
-from .journal import FRONT_BYTES, RECORD_BYTES, DamagedFile, Disk, files_of, is_open, open_file, read_checkpoint
-from .journal import read_file, read_header, settle
+from .journal import FRONT_BYTES, RECORD_BYTES, RECORDS_MOST, DamagedFile, Disk, files_of, is_open, open_file
+from .journal import read_checkpoint, read_file, read_header, settle
 from .progress import Bar
 
 CLIENT_AND_NUMBER = struct.Struct(">4xIQ")
@@ -89,14 +89,14 @@ def _check_numbers(older: Path, following: Disk, most: int) -> None:
             raise DamagedFile(following.path, 0, f"{why} the commands of generation {following.generation - 1}")
 
 
-def last_numbers(path: Path, most: int) -> Dict[int, int]:
-    """Each client's last number behind the records of a sound file."""
+def last_numbers(path: Path, most: int, records: int = RECORDS_MOST) -> Dict[int, int]:
+    """Each client's last number behind the records of a sound file, or behind its first ones."""
     data = read_file(path, most)
     header = read_header(path, data[:FRONT_BYTES], len(data))
     made = read_checkpoint(path, data[header.bytes : header.begin], header.bytes)
     last = {client: row.last for client, row in made.clients.items()} if made else {}
-    at = header.begin
-    while data[at : at + 1] == b"\1" and len(data) >= at + RECORD_BYTES:
+    at, end = header.begin, min(len(data), header.begin + RECORD_BYTES * records)
+    while data[at : at + 1] == b"\1" and end >= at + RECORD_BYTES:
         client, number = CLIENT_AND_NUMBER.unpack_from(data, at + 1)
         last[client] = number
         at += RECORD_BYTES

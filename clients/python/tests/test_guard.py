@@ -293,7 +293,8 @@ class Notes(Looking):
         title, *first = Path(self.note).read_text().splitlines()
         digest = forged(FUNDS[:4])["left"][gate_of(5) - 32 : gate_of(5)].hex()
         counts = hashlib.sha256(forged(FUNDS[:4])["left"][: gate_of(5)] + b"\0").hexdigest()
-        self.assertEqual(first, ["generation 1", "records 4", f"digest {digest}", f"sha256 {counts}", "before -"])
+        rows = ["generation 1", "records 4", f"digest {digest}", f"sha256 {counts}", "before -", "numbers 1:4"]
+        self.assertEqual(first, rows)
         self.assertTrue(title.startswith("liq.guard 2: "))
         self.assertEqual(Path(self.note).stat().st_mode & 0o777, 0o600)
         self.put(forged(FUNDS))
@@ -334,6 +335,12 @@ class Notes(Looking):
         self.assertEqual(status, 0)
         self.assertIn("the note has generation 1 with 6 records, which later rotations wrote over", said)
         self.assertEqual(Path(self.note).read_text().splitlines()[1:3], ["generation 3", "records 0"])
+        for lines, last in ((["7 1 fund 7 7", "7 2 rotate", "7 3 rotate"], 0), (["1 1 rotate", "1 2 rotate"], 2)):
+            self.put(forged(FUNDS))
+            Path(self.note).unlink()
+            self.run_guard("--note", self.note)
+            self.put(forged(lines))
+            self.behind(f"another history: client 1's last number is {last}, and it was 6")
 
     def test_a_note_that_another_guard_renews_meanwhile(self) -> None:
         """The note is older than the look, so what was added since is no finding."""
@@ -347,7 +354,7 @@ class Notes(Looking):
 
         look = guard.look
         found = look(self.folder)
-        newer = guard.Note(1, 6, "0" * 64, "1" * 64)
+        newer = guard.Note(1, 6, "0" * 64, "1" * 64, numbers=((1, 6),))
         self.assertIsNotNone(guard.behind(found, newer))
         with mock.patch.object(guard, "look", slowly):
             self.assertEqual(guard.guard(self.folder, self.note), [])
