@@ -520,9 +520,10 @@ def read_note(path: Folder) -> Optional[Note]:
         return None
     try:
         words = [line.split(" ")[1].strip("-") for line in text.splitlines()[1:]]
-        pairs = [pair.split(":") for pair in words[5].split(",") if pair] if len(words) > 5 else []
+        counts, before, rows = words[3:] or ("", "", "")
+        pairs = (row.split(":") for row in rows.split(",") if row)
         numbers = tuple((int(client), int(number)) for client, number in pairs)
-        note = Note(int(words[0]), int(words[1]), words[2], *words[3:5], numbers=numbers)
+        note = Note(int(words[0]), int(words[1]), words[2], counts, before, numbers)
     except (IndexError, ValueError):
         raise BadNote(path) from None
     if note.text != text:
