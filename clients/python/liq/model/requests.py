@@ -34,6 +34,9 @@ class Query(NamedTuple):
     accounts: Tuple[int, ...]
 
 
+Request = Union[Command, Query]
+
+
 # ---- the grammar
 
 
@@ -53,7 +56,7 @@ def read_words(line: str, shape: str, *verbs: str) -> List[Any]:
     return [word if letter == "w" else read_number(word, most[letter]) for letter, word in zip(shape, words)]
 
 
-def read_request(line: str) -> Union[Command, Query]:
+def read_request(line: str) -> Request:
     """What a line asks for. Raises NoRequest."""
     words = line.split(" ")
     if len(line) > LINE_BYTES_MOST or len(words) < 2:
@@ -214,7 +217,7 @@ def refusal_text(refusal: Refusal) -> str:
     return " ".join(["no", str(refusal.code), *map(str, refusal.values)])
 
 
-def reply_to(market: Market, request: Union[Command, Query]) -> str:
+def reply_to(market: Market, request: Request) -> str:
     """The reply to a request, as text."""
     try:
         if isinstance(request, Query):
