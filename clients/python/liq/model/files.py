@@ -125,7 +125,8 @@ class Held:
 
     def read(self) -> bytes:
         """All its bytes."""
-        parts, at = [], 0
+        parts: List[bytes] = []
+        at = 0
         while True:
             part = os.pread(self.descriptor, 2**24, at)
             if not part:

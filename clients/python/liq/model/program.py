@@ -9,7 +9,8 @@ from .beside import rewards_text, staking_text
 from .files import Pair, Store, take_files
 from .follower import Follower
 from .owed import audit_text
-from .requests import NoRequest, Query, Request, read_number, read_request, read_words, reply_to
+from ..grammar import NoRequest, Query, Request, read_number, read_request, read_words
+from .requests import reply_to
 from .state import Market
 from .streams import LINES_MOST, BadLine, Halt, Lines, Sink, Source
 from .told import gen_text, report_text, state_text

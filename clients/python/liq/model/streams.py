@@ -2,7 +2,7 @@
 import os
 from typing import Callable, List, Optional, TypeVar
 
-from .requests import LINE_BYTES_MOST, NoRequest
+from ..grammar import LINE_BYTES_MOST, NoRequest
 
 Found = TypeVar("Found")
 READ_BYTES = 16_384
