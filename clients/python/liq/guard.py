@@ -1,6 +1,7 @@
 """A look at a market's files before a run: what liq would take for the market, and what stands behind its end.
 
 usage: python3 -m liq.guard [--note FILE] [--mend [--answered] [--dry-run]] [--json] FOLDER
+       python3 -m liq.guard --adopt-unproved FOLDER
 
 One byte in front of each record, and one in front of the header, is a gate: 1 says that what follows counts. No digest
 is over it. Where it is another byte, liq takes what follows for nothing, goes on from there, and writes over it. So a
@@ -17,6 +18,10 @@ finds something or can't look, and with 2 where the words are not understood. It
              copy. Where that is sound it writes to the files, unless a run holds them.
 --answered   with --mend: opens also what a stop may have left, for whoever knows that it was answered.
 --dry-run    with --mend: leaves it at the copy.
+
+A market that an unproved program wrote has a file `unproved` beside it, which is a finding. With --adopt-unproved the
+proved program carries all its commands out again, on a copy; where it comes to what the rules in Python come to, the
+file is taken away. Behind a rotation that is refused.
 """
 import contextlib
 import errno
@@ -39,6 +44,7 @@ from .progress import Bar
 from .reasons import distrusted
 from .scratch import bounded, scratch
 from .units import counted
+from .unproved import Unproved, is_marked
 
 RECORDS_READ = 1_000_001  # the gate behind a full journal's last record is that of this one, and liq reads no further
 RECORDS_AT_ONCE = 8128
@@ -359,11 +365,12 @@ class Look(NamedTuple):
 
 def look(folder: Folder, bar: Optional[Bar] = None) -> Look:
     """Looks at both files. Beside a run they change, so what is said is what two looks say."""
+    marked = [Line(str(Unproved(folder)))] if is_marked(folder) else []
     first = _look_unrotated(Path(folder), bar)
     if not first.lines:
-        return first
+        return first._replace(lines=marked)
     second = _look_unrotated(Path(folder), bar)
-    return second._replace(lines=[line for line in second.lines if line in first.lines])
+    return second._replace(lines=marked + [line for line in second.lines if line in first.lines])
 
 
 def _look_unrotated(folder: Path, bar: Optional[Bar]) -> Look:
@@ -683,13 +690,26 @@ def main(words: List[str]) -> int:
     parser.add_argument("folder", metavar="FOLDER", help="the market's folder")
     parser.add_argument("--note", metavar="FILE", help="compare with this note, and renew it where nothing is found")
     parser.add_argument("--mend", action="store_true", help="open the gates that rotted: on a copy first")
+    parser.add_argument("--adopt-unproved", action="store_true", help="take over what an unproved program wrote")
     parser.add_argument("--answered", action="store_true", help="with --mend: also what a stop may have left")
     parser.add_argument("--dry-run", action="store_true", help="with --mend: leave it at the copy")
     add_forms(parser)
     asked = parser.parse_args(words)
     if (asked.answered or asked.dry_run) and not asked.mend:
         parser.error("--answered and --dry-run go with --mend")
+    if asked.adopt_unproved:
+        return ended("guard", lambda: _adopted(asked), asked.json)
     return ended("guard", lambda: _mended_and_judged(asked), asked.json)
+
+
+def _adopted(asked: Namespace) -> int:
+    """Takes over what an unproved program wrote. Gives the status."""
+    from .adopt import adopt  # not at the top: it holds the files as the guard does
+
+    with bounded(DAY):
+        said = adopt(asked.folder)
+    sys.stdout.write(as_json({"folder": asked.folder, "adopted": said}) if asked.json else f"{said}\n")
+    return 0
 
 
 def _mended_and_judged(asked: Namespace) -> int:

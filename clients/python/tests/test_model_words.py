@@ -1,30 +1,15 @@
-"""The words of liq by the model: the gate's own case files, journals beside the program's, and what is refused."""
-import os
-import random
-import subprocess
-import sys
-from pathlib import Path
+"""The words of liq by the model, over the gate's own case files."""
 from typing import Dict, Iterator, List, Tuple
 
 from liq.journal import SIDES
-from liq.model import Market, requests
 from liq.model.program import answer
-from liq.model.told import generated
-from liq.unproved import NAME, read_mark
+from liq.unproved import NAME
 
 from .casefiles import WHOLE_READ, Sink, Source, Step, cases_of, changed, faults_of_files
-from .market import PROGRAM, TOP, InFolder, OverProgram
+from .market import TOP, InFolder
 
 CASES = TOP / "crates/liq_cases/data"
 WRONG = "wrong.cases"  # whose cases differ, each in its own way
-LINES = 2000
-
-
-def program_in(folder: Path, *words: str, text: str = "") -> "subprocess.CompletedProcess[str]":
-    """The words in a process of their own."""
-    environment = {**os.environ, "PYTHONPATH": str(TOP / "clients/python")}
-    command = [sys.executable, "-m", "liq.model", *words]
-    return subprocess.run(command, cwd=folder, input=text, capture_output=True, text=True, env=environment, timeout=120)
 
 
 class CaseFiles(InFolder):

@@ -33,14 +33,14 @@ TOLD_ONCE = (
 Each = Callable[[bytes, int], Tuple[int, bytes]]
 
 
-class Unproved(UserWarning):
+class UnprovedWarning(UserWarning):
     """What answers was not built from proofs."""
 
 
 @functools.lru_cache(maxsize=None)
 def model_library() -> "ModelLibrary":
     """The calls, for this process. The first time it warns."""
-    warnings.warn(TOLD_ONCE, Unproved, stacklevel=5)
+    warnings.warn(TOLD_ONCE, UnprovedWarning, stacklevel=5)
     return ModelLibrary()
 
 
