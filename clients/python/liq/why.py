@@ -323,7 +323,9 @@ def main(words: List[str]) -> int:
 
 def command() -> int:
     """The command, with the words of its process."""
-    return main(sys.argv[1:])
+    from .console import as_process  # as above
+
+    return as_process(main)
 
 
 if __name__ == "__main__":

@@ -171,7 +171,7 @@ class AtTerminal(InFolder):
         self.process.send_signal(signal.SIGINT)
         self.read("client 1> ")
         self.assertIn("coll 0 ether", self.type("wallet 1\n"))
-        self.type("quit\n", "\n")
+        os.write(self.terminal, b"quit\n")
         self.assertEqual(self.process.wait(SECONDS), 0)
 
 

@@ -53,9 +53,10 @@ def explain(end: Halt, words: List[str]) -> None:
         say(str(end.__cause__))
 
 
-def main(words: List[str]) -> int:
+def run_words(words: List[str]) -> int:
+    """Carries out words, and gives the status."""
     if words and words[0] in ("-h", "--help"):
-        print((__doc__ or "").strip())
+        Sink(1).write(f"{(__doc__ or '').strip()}\n".encode())
         return 0
     fill_streams()
     is_terminal = os.isatty(2)
@@ -74,7 +75,7 @@ def main(words: List[str]) -> int:
 def command() -> int:
     """The command, with the words of its process. A signal ends it as it ends the program."""
     signal.signal(signal.SIGINT, signal.SIG_DFL)
-    return main(sys.argv[1:])
+    return run_words(sys.argv[1:])
 
 
 if __name__ == "__main__":
