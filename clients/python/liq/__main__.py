@@ -27,6 +27,8 @@ COMMANDS: Dict[str, Command] = {
     "statement": Command("statement", "FOLDER", "who has what by the files alone, to be signed"),
     "recheck": Command("recheck", "FOLDER", "an audit with arithmetic of its own, beside that of liq"),
     "across": Command("across", "--archive DIR WORD FOLDER", "what `audit` and the like tell behind rotations"),
+    "prompt": Command("prompt", "[FOLDER|SOCKET]", "a prompt: verbs are typed, replies come with names"),
+    "why": Command("why", "LINE", "what is wrong with a line"),
     "page": Command("page", "FOLDER", "a page of a market: what falls at which price"),
     "gateway": Command("gateway.__main__", "FOLDER --socket PATH --table FILE", "a socket in front of a run"),
     "gateway.speak": Command("gateway.speak", "SOCKET [NAME]", "lines to a gateway, replies back"),

@@ -36,6 +36,7 @@ from .linked import Left, check_link, left_in
 from .progress import Bar
 from .scratch import bounded
 from .units import counted
+from .unproved import refuse_unproved
 
 EXAMPLES = """
 python3 -m liq.archive market archive && echo '9 1 rotate' | (cd market && liq run)
@@ -85,10 +86,11 @@ def archive(folder: Folder, directory: Folder, bar: Optional[Bar] = None) -> Lis
 
     There is none to make in the first generation, and where it is there already. Raises `NotArchived` where there is a
     gap, where something is damaged, or is of another market: then a further `rotate` would write over what is in no
-    archive. Raises `NoJournal`, `TooMuch`, `NoRegularFile` and OSError besides. It holds no file and changes none of
+    archive. Raises `Unproved`, `NoJournal`, `TooMuch`, `NoRegularFile` and OSError besides. It holds no file and changes none of
     the folder, so a run may go on meanwhile.
     """
     folder, directory = Path(folder), Path(directory)
+    refuse_unproved(folder)
     end = time.monotonic() + SECONDS
     while True:
         seen = fronts(files_of(folder))

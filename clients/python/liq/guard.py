@@ -1,6 +1,7 @@
 """A look at a market's files before a run: what liq would take for the market, and what stands behind its end.
 
 usage: python3 -m liq.guard [--note FILE [--accept]] [--quick] [--mend [--answered] [--dry-run]] [--json] FOLDER
+       python3 -m liq.guard --adopt-unproved FOLDER
 
 One byte in front of each record, and one in front of the header, is a gate: 1 says that what follows counts. No digest
 is over it. Where it is another byte, liq takes what follows for nothing, goes on from there, and writes over it. So a
@@ -26,13 +27,16 @@ finds something or can't look, and with 2 where the words are not understood. It
              copy. Where that is sound it writes to the files, unless a run holds them.
 --answered   with --mend: opens also what a stop may have left, for whoever knows that it was answered.
 --dry-run    with --mend: leaves it at the copy.
+
+A market that an unproved program wrote has a file `unproved` beside it, which is a finding. With --adopt-unproved the
+proved program carries all its commands out again, on a copy; where it comes to what the rules in Python come to, the
+file is taken away. Behind a rotation that is refused.
 """
 import contextlib
 import errno
 import fcntl
 import hashlib
 import os
-import stat
 import sys
 from argparse import Namespace
 from pathlib import Path
@@ -49,6 +53,7 @@ from .progress import Bar
 from .reasons import distrusted
 from .scratch import bounded, scratch
 from .units import counted
+from .unproved import Unproved, is_marked
 
 RECORDS_READ = 1_000_001  # the gate behind a full journal's last record is that of this one, and liq reads no further
 RECORDS_AT_ONCE = 8128
@@ -398,11 +403,12 @@ class Look(NamedTuple):
 
 def look(folder: Folder, bar: Optional[Bar] = None, note: "Optional[Note]" = None) -> Look:
     """Looks at both files. Beside a run they change, so what is said is what two looks say."""
+    marked = [Line(str(Unproved(folder)))] if is_marked(folder) else []
     first = _look_unrotated(Path(folder), bar, note)
     if not first.lines:
-        return first
+        return first._replace(lines=marked)
     second = _look_unrotated(Path(folder), bar, note)
-    return second._replace(lines=[line for line in second.lines if line in first.lines])
+    return second._replace(lines=marked + [line for line in second.lines if line in first.lines])
 
 
 def _look_unrotated(folder: Path, bar: Optional[Bar], note: "Optional[Note]") -> Look:
@@ -791,7 +797,9 @@ def compared(found: Look, how: How, note: Optional[Note], before: str) -> Iterat
                 form = "the note is of an older form, with one record's digest alone: it gets a sum over all"
                 yield Line(form, is_finding=False)
             older = older_of(found)
-            if how.accept or read_note(how.note) == note:  # else another guard has written one meanwhile, which stays
+            if how.quick and older and not before and not how.accept:
+                yield Line("the note stays: a quick look doesn't show that both files belong together", is_finding=False)
+            elif how.accept or read_note(how.note) == note:  # else another guard has written one meanwhile, which stays
                 write_note(how.note, note_of(found, older.counts if how.accept and older else before))
     except (Unfit, OSError) as fault:
         yield Line(f"the note: {fault}")
@@ -816,6 +824,7 @@ def main(words: List[str]) -> int:
     parser.add_argument("--accept", action="store_true", help="with --note: write it over what was found")
     parser.add_argument("--quick", action="store_true", help="compare two files by each client's last number alone")
     parser.add_argument("--mend", action="store_true", help="open the gates that rotted: on a copy first")
+    parser.add_argument("--adopt-unproved", action="store_true", help="take over what an unproved program wrote")
     parser.add_argument("--answered", action="store_true", help="with --mend: also what a stop may have left")
     parser.add_argument("--dry-run", action="store_true", help="with --mend: leave it at the copy")
     add_forms(parser)
@@ -824,7 +833,19 @@ def main(words: List[str]) -> int:
         parser.error("--answered and --dry-run go with --mend")
     if asked.accept and asked.note is None:
         parser.error("--accept goes with --note")
+    if asked.adopt_unproved:
+        return ended("guard", lambda: _adopted(asked), asked.json)
     return ended("guard", lambda: _mended_and_judged(asked), asked.json)
+
+
+def _adopted(asked: Namespace) -> int:
+    """Takes over what an unproved program wrote. Gives the status."""
+    from .adopt import adopt  # not at the top: it holds the files as the guard does
+
+    with bounded(DAY):
+        said = adopt(asked.folder)
+    sys.stdout.write(as_json({"folder": asked.folder, "adopted": said}) if asked.json else f"{said}\n")
+    return 0
 
 
 def _mended_and_judged(asked: Namespace) -> int:

@@ -24,6 +24,7 @@ from typing import List, Optional
 from ..console import as_process, parser_of
 from ..ends import End, Unfit
 from ..errors import BadValue
+from ..unproved import refuse_unproved
 from .book import Book
 from .desk import Desk, Parts, Stopped, is_hopeless
 from .door import SECONDS_BETWEEN_SWEEPS, SECONDS_IDLE, Door
@@ -103,6 +104,7 @@ class Gateway:
 
 async def serve(asked: argparse.Namespace, log: Log) -> Stopped:
     """Begins all parts, and serves."""
+    refuse_unproved(asked.folder)
     with contextlib.ExitStack() as opened:
         table = read_table(asked.table)
         book = Book(asked.book or Path(asked.folder) / BOOK)
