@@ -798,7 +798,8 @@ def compared(found: Look, how: How, note: Optional[Note], before: str) -> Iterat
                 yield Line(form, is_finding=False)
             older = older_of(found)
             if how.quick and older and not before and not how.accept:
-                yield Line("the note stays: a quick look doesn't show that both files belong together", is_finding=False)
+                stays = "the note stays: a quick look doesn't show that both files belong together"
+                yield Line(stays, is_finding=False)
             elif how.accept or read_note(how.note) == note:  # else another guard has written one meanwhile, which stays
                 write_note(how.note, note_of(found, older.counts if how.accept and older else before))
     except (Unfit, OSError) as fault:

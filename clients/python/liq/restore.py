@@ -42,7 +42,8 @@ from .console import add_forms, as_json, as_process, parser_of, refused
 from .ends import End, Folder, Unfit
 from .errors import LiqError
 from .gateway.book import TITLE
-from .guard import BadNote, Held, Look, Seen, behind, generation_of, header_rotted, held, judged, look, read_at, read_note, stands
+from .guard import BadNote, Held, How, Look, Seen, behind, generation_of, header_rotted, held, judged, look, read_at
+from .guard import read_note, stands
 from .journal import FRONT_BYTES, RECORD_BYTES, RECORDS_MOST, SIDES, NoRegularFile, files_of, open_file
 from .progress import Bar
 from .reasons import holder
@@ -493,7 +494,7 @@ def settle_note(folder: Path, note: Path, wish: Wish, bar: Bar) -> Iterator[str]
         to = aside(note.with_name(f"{note.name}.{REPLACED}"))
         os.rename(note, to)
         kept = f"; as it was it is {to.name}"
-    found = judged(folder, note, bar)
+    found = judged(folder, How(note, bar=bar))
     if found.found:
         raise NotRestored(f"the guard finds: {'; '.join(line.text for line in found.found)}")
     yield f"{note}: it has {stands(found)}{kept}"

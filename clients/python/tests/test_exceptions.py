@@ -55,7 +55,8 @@ def classes() -> Iterator[Type[BaseException]]:
     """The exceptions that the modules of the package define."""
     for module in modules():
         for name, each in sorted(vars(importlib.import_module(module)).items()):
-            if isinstance(each, type) and issubclass(each, BaseException) and each.__module__ == module:
+            is_raised = isinstance(each, type) and issubclass(each, BaseException) and not issubclass(each, Warning)
+            if is_raised and each.__module__ == module:
                 yield each
 
 

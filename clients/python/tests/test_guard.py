@@ -454,7 +454,9 @@ class Beside(Looking):
         mine, other = [*FUNDS, "2 1 rotate"], [*FUNDS[:5], "1 6 fund 6 7", "2 1 rotate"]
         self.mixed(mine, other)
         self.assertIn("brought: it has 22, and the commands lead to 21; these are not two", self.found()[0])
-        self.assertEqual(self.run_guard("--quick"), (0, ""))
+        told = "the note stays: a quick look doesn't show that both files belong together\n"
+        self.assertEqual(self.run_guard("--note", self.note, "--quick"), (0, told))
+        self.assertFalse(Path(self.note).exists())
 
     def test_what_is_accepted_is_not_carried_out_again(self) -> None:
         self.mixed([*FUNDS, "2 1 rotate"], [*FUNDS[:5], "1 6 fund 6 7", "2 1 rotate"])

@@ -132,7 +132,8 @@ class Market(Restores):
 
     def test_a_run(self) -> None:
         for name, why in (("state/market", "a run holds"), ("copy", f"a run holds {self.copy}: have liq.backup copy it")):
-            with self.service(name):
+            with self.service(name) as run:
+                run.ask("? pools")  # else it may not hold them yet
                 self.refuses(why, self.copy, self.market)
 
     def test_two_at_once(self) -> None:
