@@ -35,7 +35,16 @@ pub fn mul_div_up(a: u128, b: u128, c: u128) -> u128
     requires product_fits { a * b < 2 ^ 128 }
     ensures { result ≡ ceiling_of a b c }
 {
-    (a * b).div_ceil(c)
+    // Most are of at most one whole; of the others one division tells the rest too.
+    let product = a * b;
+    if product == 0 {
+        return 0;
+    }
+    if product <= c {
+        return 1;
+    }
+    let whole = product / c;
+    if whole * c == product { whole } else { whole + 1 }
 }
 
 /// How often `ONE` is in a number: `x / ONE`, for which a processor takes several times as long. Of

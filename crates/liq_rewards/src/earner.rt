@@ -2,7 +2,7 @@
 
 ghost use Rattle.std.specs.Prelude.{◌≡◌, ◌+◌, ◌*◌, ◌^◌, ◌≤◌, ◌<◌, ◌==◌, if◌then◌else◌};
 ghost use Rattle.liq_num.specs.Quotient.{floor_of, ceiling_of};
-ghost use Rattle.liq_rewards.specs.Earner.{no_earner, no_sums, cost_now, balance_short, risen, sums_risen, shared_with};
+ghost use Rattle.liq_rewards.specs.Earner.{no_earner, no_sums, cost_now, balance_short, sums_risen, shared_with};
 ghost use Rattle.liq_rewards.specs.Earner.{dealt_with, part_by, reading_by, reward_by, owned_by, earner_after};
 ghost use Rattle.liq_rewards.specs.Earner.{allowance_by, SUM_MOST, IsSmallSharing, IsSmallDue, IsSmall, CanGoOn};
 
@@ -69,155 +69,122 @@ impl Earner {
         }
     }
 
-    /// The account once what is due was dealt with, and then after an event. The words are those
-    /// before that event.
-    pub(crate) fn after(
-        self,
-        words: PoolWords,
-        sharing: Option<Sharing>,
-        event: &PoolEvent,
-    ) -> Earner
-        requires { CanGoOn words sharing self }
-        ensures { result ≡ earner_after words sharing event.now self }
+    /// What is due is dealt with, and then an event happens. The words are those before that event.
+    pub(crate) fn go_on(&mut self, words: &PoolWords, sharing: Option<Sharing>, event: &PoolEvent)
+        requires { CanGoOn words.now sharing self.old }
+        ensures { self.new ≡ earner_after words.now sharing event.now self.old }
     {
-        let earner = self.after_sharing(words, sharing);
+        self.deal(words, sharing);
         match *event {
             PoolEvent::Own {
                 account,
                 amount,
                 ..
             } => {
-                if account == earner.account {
-                    earner.owned(words, amount)
-                } else {
-                    earner
+                if account == self.account {
+                    self.own(words, amount);
                 }
             }
-            PoolEvent::Offset { .. } => earner.offset(words),
+            PoolEvent::Offset { .. } => self.weight += u128::from(self.cost(words)),
         }
     }
 
-    /// The account once the units that are due were shared or counted as unshared.
-    pub(crate) fn after_sharing(self, words: PoolWords, sharing: Option<Sharing>) -> Earner
-        requires due { IsSmallDue words sharing }
-        requires small { IsSmall self }
-        ensures { result ≡ dealt_with self words sharing }
+    /// The units that are due are shared or counted as unshared.
+    pub(crate) fn deal(&mut self, words: &PoolWords, sharing: Option<Sharing>)
+        requires due { IsSmallDue words.now sharing }
+        requires small { IsSmall self.old }
+        ensures { self.new ≡ dealt_with self.old words.now sharing }
     {
-        match sharing {
-            Some(sharing) => self.shared(words, sharing),
-            None => self,
+        if let Some(sharing) = sharing {
+            self.share(words, sharing);
         }
     }
 
     /// All units that it has earned.
-    pub(crate) fn reward(self) -> u64
-        requires small { IsSmall self }
-        requires within { reward_by self ≤ UNITS_MOST }
-        ensures { result ≡ reward_by self }
+    pub(crate) fn reward(&self) -> u64
+        requires small { IsSmall self.now }
+        requires within { reward_by self.now ≤ UNITS_MOST }
+        ensures { result ≡ reward_by self.now }
     {
         self.earned + self.reading()
     }
 
     /// By how much they may fall short.
-    pub(crate) fn allowance(self) -> u128
-        requires { IsSmall self }
-        ensures { result ≡ allowance_by self }
+    pub(crate) fn allowance(&self) -> u128
+        requires { IsSmall self.now }
+        ensures { result ≡ allowance_by self.now }
     {
         self.withheld
             + mul_div_up(self.costs, 1, u128::from(STEP))
             + 4 * u128::from(self.own_events)
     }
 
-    /// The account once units were shared.
-    fn shared(self, words: PoolWords, sharing: Sharing) -> Earner
-        requires due { IsSmallSharing words sharing }
-        requires small { IsSmall self }
-        ensures { result ≡ shared_with self words sharing }
+    /// Units are shared.
+    fn share(&mut self, words: &PoolWords, sharing: Sharing)
+        requires due { IsSmallSharing words.now sharing }
+        requires small { IsSmall self.old }
+        ensures { self.new ≡ shared_with self.old words.now sharing }
     {
-        Earner {
-            sums: self.sums_after(words, sharing.rise),
-            withheld: self.withheld + self.withheld_of(sharing.units, words.total),
-            costs: self.costs + u128::from(self.cost(words)),
-            ..self
-        }
+        let withheld = self.withheld_of(sharing.units, words.total);
+        let cost = u128::from(self.cost(words));
+        self.raise(words, sharing.rise);
+        self.withheld += withheld;
+        self.costs += cost;
     }
 
-    /// After an own operation that leaves this amount: what was earned so far is settled first.
-    fn owned(self, words: PoolWords, amount: u64) -> Earner
-        requires small { IsSmall self }
-        requires within { reward_by self ≤ UNITS_MOST }
-        ensures { result ≡ owned_by self words amount }
+    /// An own operation leaves this amount: what was earned so far is settled first.
+    fn own(&mut self, words: &PoolWords, amount: u64)
+        requires small { IsSmall self.old }
+        requires within { reward_by self.old ≤ UNITS_MOST }
+        ensures { self.new ≡ owned_by self.old words.now amount }
     {
-        Earner {
-            amount,
-            p: words.p,
-            scale: words.scale,
-            epoch: words.epoch,
-            sums: Sums::none(),
-            earned: self.reward(),
-            own_events: self.own_events + 1,
-            ..self
-        }
-    }
-
-    /// After an offset.
-    fn offset(self, words: PoolWords) -> Earner
-        requires { IsSmall self }
-        ensures { result ≡ record self { weight = self.weight + cost_now self words } }
-    {
-        Earner {
-            weight: self.weight + u128::from(self.cost(words)),
-            ..self
-        }
+        self.earned = self.reward();
+        self.amount = amount;
+        self.p = words.p;
+        self.scale = words.scale;
+        self.epoch = words.epoch;
+        self.sums = Sums::none();
+        self.own_events += 1;
     }
 
     /// How much of the units the account may have missed since its balance falls short.
-    fn withheld_of(self, units: u64, total: u64) -> u128
-        requires small { IsSmall self }
+    fn withheld_of(&self, units: u64, total: u64) -> u128
+        requires small { IsSmall self.now }
         requires units { units ≤ UNITS_MOST }
         requires total { 1 ≤ total }
-        ensures withheld { result ≡ ceiling_of units (balance_short self) total }
+        ensures withheld { result ≡ ceiling_of units (balance_short self.now) total }
         ensures within { result ≤ 2 ^ 122 }
     {
         let short = mul_div_up(self.weight, 1, u128::from(STEP)) + u128::from(self.own_events);
         mul_div_up(u128::from(units), short, u128::from(total))
     }
 
-    /// The sums, once that of now has risen. An amount of nothing needs none.
-    fn sums_after(self, words: PoolWords, rise: u128) -> Sums
-        requires small { IsSmall self }
+    /// The sum of now rises. An amount of nothing needs none.
+    fn raise(&mut self, words: &PoolWords, rise: u128)
+        requires small { IsSmall self.old }
         requires rise { rise ≤ SUM_MOST }
-        ensures { result ≡ (if self.amount == 0 then self.sums else sums_risen self words rise) }
+        ensures { self.new ≡ record self.old {
+          sums = if self.old.amount == 0 then self.old.sums
+              else sums_risen self.old words.now rise;
+        } }
     {
-        if self.amount == 0 {
-            return self.sums;
+        if self.amount == 0 || words.epoch != self.epoch || words.scale < self.scale {
+            return;
         }
-        Sums {
-            first: self.sum_after_rise(words, rise, 0, self.sums.first),
-            second: self.sum_after_rise(words, rise, 1, self.sums.second),
-            third: self.sum_after_rise(words, rise, 2, self.sums.third),
-            fourth: self.sum_after_rise(words, rise, 3, self.sums.fourth),
-        }
-    }
-
-    /// The sum at so many scales above the mark, once that at the pool's scale has risen.
-    fn sum_after_rise(self, words: PoolWords, rise: u128, scales: u64, sum: u128) -> u128
-        requires scale { self.scale + scales < 2 ^ 64 }
-        requires fits { sum + rise < 2 ^ 128 }
-        ensures { result ≡ risen self words rise scales sum }
-    {
-        if (words.epoch, words.scale) == (self.epoch, self.scale + scales) {
-            sum + rise
-        } else {
-            sum
+        match words.scale - self.scale {
+            0 => self.sums.first += rise,
+            1 => self.sums.second += rise,
+            2 => self.sums.third += rise,
+            3 => self.sums.fourth += rise,
+            _ => {}
         }
     }
 
     /// What was earned since the mark.
-    fn reading(self) -> u64
-        requires small { IsSmall self }
-        requires within { reading_by self ≤ UNITS_MOST }
-        ensures { result ≡ reading_by self }
+    fn reading(&self) -> u64
+        requires small { IsSmall self.now }
+        requires within { reading_by self.now ≤ UNITS_MOST }
+        ensures { result ≡ reading_by self.now }
     {
         if self.amount == 0 {
             return 0;
@@ -230,12 +197,12 @@ impl Earner {
     }
 
     /// What the amount has of a sum that many scales above its mark, rounded down.
-    fn part(self, sum: u128, scales: u64) -> u128
-        requires amount { self.amount ≤ LIM }
-        requires mark { P_LEAST ≤ self.p }
+    fn part(&self, sum: u128, scales: u64) -> u128
+        requires amount { self.now.amount ≤ LIM }
+        requires mark { P_LEAST ≤ self.now.p }
         requires sum { sum ≤ SUM_MOST }
         requires scales { scales ≤ 3 }
-        ensures part { result ≡ part_by self scales sum }
+        ensures part { result ≡ part_by self.now scales sum }
         ensures within { result * P_LEAST ≤ LIM * SUM_MOST }
     {
         let part = mul_div(u128::from(self.amount), sum, self.p);
@@ -246,8 +213,8 @@ impl Earner {
     }
 
     /// What an offset or a sharing may cost the account now.
-    pub(crate) fn cost(self, words: PoolWords) -> u64
-        ensures { result ≡ cost_now self words }
+    pub(crate) fn cost(&self, words: &PoolWords) -> u64
+        ensures { result ≡ cost_now self.now words.now }
     {
         if self.amount == 0 || words.epoch != self.epoch {
             return 0;

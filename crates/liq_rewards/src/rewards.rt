@@ -155,10 +155,8 @@ impl Rewards {
             IsWithinAllowance account self.now.minute past result.reward result.allow }
     {
         let sharing = Sharing::of(&self.words, self.due);
-        let earner = self
-            .rows
-            .earner(&self.words, account)
-            .after_sharing(self.words, sharing);
+        let mut earner = self.rows.earner(&self.words, account);
+        earner.deal(&self.words, sharing);
         RewardRow {
             account,
             reward: earner.reward(),

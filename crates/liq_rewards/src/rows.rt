@@ -37,19 +37,42 @@ impl Row {
     }
 
     /// The account as it is once so many offsets are counted.
-    fn as_of(self, words: &PoolWords, offsets: u64) -> Earner
-        requires { IsSmall (now_of words.now offsets self) }
-        ensures { result ≡ now_of words.now offsets self }
+    fn as_of(&self, words: &PoolWords, offsets: u64) -> Earner
+        requires { IsSmall (now_of words.now offsets self.now) }
+        ensures { result ≡ now_of words.now offsets self.now }
     {
-        if self.counted == offsets {
-            return self.earner;
+        let mut row = *self;
+        row.count(words, offsets);
+        row.earner
+    }
+
+    /// So many offsets are in its weight.
+    fn count(&mut self, words: &PoolWords, offsets: u64)
+        requires { IsSmall (now_of words.now offsets self.old) }
+        ensures earner { self.new.earner ≡ now_of words.now offsets self.old }
+    {
+        if self.counted != offsets {
+            let since = offsets.saturating_sub(self.counted);
+            self.earner.weight += u128::from(since) * u128::from(self.earner.cost(words));
         }
-        let since = offsets.saturating_sub(self.counted);
-        let weight = u128::from(since) * u128::from(self.earner.cost(*words));
-        Earner {
-            weight: self.earner.weight + weight,
-            ..self.earner
-        }
+    }
+
+    /// It becomes its account after an event: first the counted offsets, then what is due, then
+    /// the event. The words are those before it.
+    fn change(
+        &mut self,
+        words: &PoolWords,
+        sharing: Option<Sharing>,
+        event: &PoolEvent,
+        offsets: u64,
+        counted: u64,
+    )
+        requires { CanGoOn words.now sharing (now_of words.now offsets self.old) }
+        ensures { self.new ≡ changed_by words.now sharing event.now offsets counted self.old }
+    {
+        self.count(words, offsets);
+        self.earner.go_on(words, sharing, event);
+        self.counted = counted;
     }
 }
 
@@ -194,11 +217,7 @@ fn change_all(
     ensures { rows.new ≡ map (changed_by words.now sharing event.now offsets 0) rows.old }
 {
     for row in rows.iter_mut() {
-        let earner = row.as_of(words, offsets);
-        *row = Row {
-            earner: earner.after(*words, sharing, event),
-            counted: 0,
-        };
+        row.change(words, sharing, event, offsets, 0);
     }
 }
 
@@ -210,9 +229,5 @@ fn change(rows: &mut [Row], place: usize, offsets: u64, words: &PoolWords, event
     ensures { rows.new ≡ set rows.old place
         (changed_by words.now None event.now offsets offsets (row_at rows.old place)) }
 {
-    let earner = rows[place].as_of(words, offsets);
-    rows[place] = Row {
-        earner: earner.after(*words, None, event),
-        counted: offsets,
-    };
+    rows[place].change(words, None, event, offsets, offsets);
 }

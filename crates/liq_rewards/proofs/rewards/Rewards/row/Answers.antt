@@ -20,12 +20,12 @@ of-sharing-requires-clause-units c = due_small _ c.self.invariant
 pub of-sharing-requires-clause-product : goal.of-sharing-requires-clause-product
 of-sharing-requires-clause-product c = product_small _ c.self.invariant
 
-pub earner-requires : goal.earner-requires
-earner-requires c = row_before _ c.self.invariant c.args.account
+pub earner-earner-requires : goal.earner-earner-requires
+earner-earner-requires c = row_before _ c.self.invariant c.args.account
 
-pub after_sharing-earner-requires-clause-small : goal.after_sharing-earner-requires-clause-small
-after_sharing-earner-requires-clause-small c =
-    subst IsSmall (sym c.earner.ensures) (row_before _ c.self.invariant c.args.account)
+pub deal-requires-clause-small : goal.deal-requires-clause-small
+deal-requires-clause-small c =
+    subst IsSmall (sym c.earner-earner.ensures) (row_before _ c.self.invariant c.args.account)
 
 -- the earner that is read: the row's, with what is due
 read_is : (words : PoolWords) {own row read : Earner} {sharing due : Option Sharing} → own ≡ row → sharing ≡ due
@@ -35,17 +35,17 @@ read_is words {own} {row} {read} {sharing} {due} o s r =
 
 pub reward-requires-clause-small : goal.reward-requires-clause-small
 reward-requires-clause-small c =
-    let is = read_is c.self.inside.words c.earner.ensures c.of-sharing.ensures.sharing c.after_sharing-earner.ensures in
+    let is = read_is c.self.inside.words c.earner-earner.ensures c.of-sharing.ensures.sharing c.deal.ensures in
     subst IsSmall (sym is) (row_after _ c.self.invariant c.args.account)
 
 pub reward-requires-clause-within : goal.reward-requires-clause-within
 reward-requires-clause-within c =
-    let is = read_is c.self.inside.words c.earner.ensures c.of-sharing.ensures.sharing c.after_sharing-earner.ensures in
+    let is = read_is c.self.inside.words c.earner-earner.ensures c.of-sharing.ensures.sharing c.deal.ensures in
     subst (λ (e : Earner). reward_by e ≤ UNITS_MOST) (sym is) (row_reward _ c.self.invariant c.args.account)
 
 pub allowance-requires : goal.allowance-requires
 allowance-requires c =
-    let is = read_is c.self.inside.words c.earner.ensures c.of-sharing.ensures.sharing c.after_sharing-earner.ensures in
+    let is = read_is c.self.inside.words c.earner-earner.ensures c.of-sharing.ensures.sharing c.deal.ensures in
     subst IsSmall (sym is) (row_after _ c.self.invariant c.args.account)
 
 row_told : (account reward allow : ℕ) (e : Earner) → reward ≡ reward_by e → allow ≡ allowance_by e
@@ -56,8 +56,8 @@ told : (c : goal.After-allowance) (past : List Timed) → IsKeptOf c.args.self.n
     record { account = c.args.account; reward = c.reward.result; allow = c.allowance.result }
     in one ≡ row_of c.args.account c.args.self.now.minute past
 told c past h =
-    let is = read_is c.self.inside.words c.earner.ensures c.of-sharing.ensures.sharing c.after_sharing-earner.ensures in
-    row_told c.args.account c.reward.result c.allowance.result c.after_sharing-earner.result c.reward.ensures
+    let is = read_is c.self.inside.words c.earner-earner.ensures c.of-sharing.ensures.sharing c.deal.ensures in
+    row_told c.args.account c.reward.result c.allowance.result c.deal.new.self c.reward.ensures
     c.allowance.ensures
     ∙ ap (λ (e : Earner). row_by c.args.account e) is
     ∙ row_is _ past (subst (λ (v : Kept). IsKeptOf v past) (sym c.self.view_is) h) c.args.account
