@@ -303,20 +303,40 @@ impl Protocol {
             (last_put planned.changes) steps.old steps.new }
         ensures any { steps.new ≤ steps.old + (length self.old.list + 4) }
     {
+        self.apply_planned(&planned, hint, steps)
+    }
+
+    /// The same of a plan that its owner keeps.
+    pub fn apply_planned<L: Ledger>(
+        &mut self,
+        planned: &Planned,
+        hint: &Hint,
+        steps: &mut Steps<L>,
+    ) -> Done
+        requires planned { IsPlannedOn self.old planned.now }
+        requires room { HasRoom self.old planned.now }
+        ensures state { MakesStep self.old planned.now.command self.new }
+        ensures reply { RepliesByStep self.old planned.now.command result }
+        ensures list { (s : State) → StandsFor self.old s
+            → self.new.list ≡ trove_order (step s (Do planned.now.command)).0 }
+        ensures few { TakesFew self.new.list (used_hint (words_of planned.now.command.call) hint.now)
+            (last_put planned.now.changes) steps.old steps.new }
+        ensures any { steps.new ≤ steps.old + (length self.old.list + 4) }
+    {
         // odd: field read; law called
         let _ = &self.records;
-        let Planned { command, forecast } = planned;
-        let Forecast { done, effect, .. } = forecast;
-        match &effect {
+        let command = &planned.command;
+        let done = planned.forecast.done;
+        match &planned.forecast.effect {
             Effect::Move(moved) => {
                 self.change(moved, hint, steps);
-                self.note(&command, done);
+                self.note(command, done);
             }
             Effect::Liquidate {
                 liquidator,
                 victims,
-            } => self.apply_liquidate(&command, done, *liquidator, victims.as_slice()),
-            Effect::Rotate => self.apply_rotate(&command, done),
+            } => self.apply_liquidate(command, done, *liquidator, victims.as_slice()),
+            Effect::Rotate => self.apply_rotate(command, done),
         }
         lists_stand(self);
         done

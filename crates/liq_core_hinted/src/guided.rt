@@ -151,18 +151,18 @@ impl Guided {
     /// hint words, which stand among the hints: of these one is used.
     pub fn apply<L: Ledger>(
         &mut self,
-        planned: Planned,
+        planned: &Planned,
         hints: &Hints,
         steps: &mut Steps<L>,
     ) -> Done
-        requires planned { IsPlannedOn self.old planned }
-        requires room { HasRoom self.old planned }
-        ensures state { MakesStep self.old planned.command self.new }
-        ensures reply { RepliesByStep self.old planned.command result }
-        ensures list { self.new.list ≡ all_listed self.old.list planned.changes }
+        requires planned { IsPlannedOn self.old planned.now }
+        requires room { HasRoom self.old planned.now }
+        ensures state { MakesStep self.old planned.now.command self.new }
+        ensures reply { RepliesByStep self.old planned.now.command result }
+        ensures list { self.new.list ≡ all_listed self.old.list planned.now.changes }
         ensures few { TakesFew self.new.list
-            (used_hint (words_of planned.command.call) (hint_used hints.now))
-            (last_put planned.changes) steps.old steps.new }
+            (used_hint (words_of planned.now.command.call) (hint_used hints.now))
+            (last_put planned.now.changes) steps.old steps.new }
         ensures any { steps.new ≤ steps.old + (length self.old.list + 4) }
     {
         // odd: law called
@@ -170,7 +170,7 @@ impl Guided {
         lists_stand(&self.protocol);
         protocols_stand(&self.protocol);
         let is_followed = self.guide.has_followed(planned.list_changes());
-        let done = self.protocol.apply(planned, &hints.used(), steps);
+        let done = self.protocol.apply_planned(planned, &hints.used(), steps);
         self.guide.settle(is_followed);
         done
     }
@@ -180,17 +180,17 @@ impl Guided {
     /// place of its trove takes at most four steps, however long the list is.
     pub fn reserve_and_apply<L: Ledger>(
         &mut self,
-        planned: Planned,
+        planned: &Planned,
         steps: &mut Steps<L>,
     ) -> Result<(), NoMemory>
-        requires { IsPlannedOn self.old planned }
+        requires { IsPlannedOn self.old planned.now }
         ensures made { OnOk result ((s : State) → StandsFor self.old s
-            → StandsFor self.new (after s planned.command)) }
+            → StandsFor self.new (after s planned.now.command)) }
         ensures same { OnErr result (SameContent self.old self.new) }
-        ensures few { (c : Command) → planned.command ≡ unhinted c
+        ensures few { (c : Command) → planned.now.command ≡ unhinted c
             → OnOk result (steps.new ≤ steps.old + 4) }
     {
-        let exact = self.reserve(&planned)?;
+        let exact = self.reserve(planned)?;
         let _ = self.apply(planned, &Hints::of_guide(exact), steps);
         Ok(())
     }

@@ -103,7 +103,7 @@ pub fn redo<O: Onlooker, L: Ledger>(
         Err(PlanFault::NoMemory) => return Err(ReplayFault::NoMemory),
     };
     onlooker.see(protocol.protocol(), &planned)?;
-    protocol.reserve_and_apply(planned, steps)?;
+    protocol.reserve_and_apply(&planned, steps)?;
     Ok(())
 }
 

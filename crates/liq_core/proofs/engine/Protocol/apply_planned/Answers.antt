@@ -32,9 +32,9 @@ use Rattle.liq_core.proofs.KeptReplies.{kept_reply}
 use Rattle.liq_core.proofs.Liquidating.{IsLiquidation, liquidation_planned}
 use Rattle.liq_core.proofs.Stands.{changed_stands, stepped_stands}
 use Rattle.liq_core.proofs.SoundCores.{sound_stands}
-use Rattle.liq_core.proofs.engine.Protocol.apply.Given.{Over}
-use Rattle.liq_core.proofs.engine.Protocol.apply.Goals as goal
-use Rattle.liq_core.proofs.engine.Protocol.apply.Goals.{in-Move, in-Liquidate, in-Rotate}
+use Rattle.liq_core.proofs.engine.Protocol.apply_planned.Given.{Over}
+use Rattle.liq_core.proofs.engine.Protocol.apply_planned.Goals as goal
+use Rattle.liq_core.proofs.engine.Protocol.apply_planned.Goals.{in-Move, in-Liquidate, in-Rotate}
 
 -- what is planned is of the state, seen by its inside
 plan_inside : (old : Core) → IsSoundImage old.image old.records → (inside : Inside) (plan : Plan)
@@ -60,14 +60,14 @@ may_move : (g : Over) (c : goal.After-change-arg-in-Move-1 g)
     → IsMove (state_of c.args.self.now) c.planned.inside.command.call c.in-Move.moved
 may_move g c =
     let sound = subst (λ (core : Core). IsSoundImage core.image core.records) c.self.view_is c.self.invariant.image in
-    made_inside c.args.self.now sound c.planned.inside c.args.planned c.planned.view_is c.requires.planned
+    made_inside c.args.self.now sound c.planned.inside c.args.planned.now c.planned.view_is c.requires.planned
     c.in-Move.moved c.in-Move.is
 
-has_moved : (g : Over) (c : goal.After-command-in-Move-1 g)
+has_moved : (g : Over) (c : goal.After-note-arg-1 g)
     → IsMove (state_of c.args.self.now) c.planned.inside.command.call c.in-Move.moved
 has_moved g c =
     let sound = subst (λ (core : Core). IsSoundImage core.image core.records) c.self.view_is c.self.invariant.image in
-    made_inside c.args.self.now sound c.planned.inside c.args.planned c.planned.view_is c.requires.planned
+    made_inside c.args.self.now sound c.planned.inside c.args.planned.now c.planned.view_is c.requires.planned
     c.in-Move.moved c.in-Move.is
 
 pub change-requires-clause-allowed : goal.change-requires-clause-allowed
@@ -75,7 +75,7 @@ change-requires-clause-allowed g c =
     let sound = subst (λ (core : Core). IsSoundImage core.image core.records) c.self.view_is c.self.invariant.image in
     let s = state_of c.args.self.now in
     let inside = c.planned.inside in
-    let plan = plan_inside c.args.self.now sound inside c.args.planned c.planned.view_is c.requires.planned in
+    let plan = plan_inside c.args.self.now sound inside c.args.planned.now c.planned.view_is c.requires.planned in
     made_so s inside.command.call c.in-Move.moved (may_move g c) (λ (k : Call). first_refusal (rules s k) ≡ None)
     (allowed_rules s inside.command plan.allowed)
 
@@ -89,7 +89,7 @@ pub change-requires-clause-room : goal.change-requires-clause-room
 change-requires-clause-room g c =
     let inside = c.planned.inside in
     let old = c.args.self.now.room in
-    let room = room_inside c.args.self.now inside c.args.planned c.planned.view_is c.requires.room in
+    let room = room_inside c.args.self.now inside c.args.planned.now c.planned.view_is c.requires.room in
     subst (λ (e : Effect). IsWithin (room_of e) old) c.in-Move.is (without_client inside.forecast.effect old
     inside.command.client room)
 
@@ -102,7 +102,7 @@ note-requires-clause-row g c =
     let inside = c.planned.inside in
     subst (λ keys. Contains keys inside.command.client)
     (sym (c.change.ensures.made inside.command.call (has_moved g c)).clients)
-    (room_inside c.args.self.now inside c.args.planned c.planned.view_is c.requires.room).clients.0
+    (room_inside c.args.self.now inside c.args.planned.now c.planned.view_is c.requires.room).clients.0
 
 pub note-requires-clause-range : goal.note-requires-clause-range
 note-requires-clause-range g c = c.planned.invariant.client
@@ -111,7 +111,7 @@ pub note-requires-clause-number : goal.note-requires-clause-number
 note-requires-clause-number g c =
     let sound = subst (λ (core : Core). IsSoundImage core.image core.records) c.self.view_is c.self.invariant.image in
     let plan = c.requires.planned (state_of c.args.self.now) (sound_stands c.args.self.now sound) in
-    let number = allowed_number (state_of c.args.self.now) c.args.planned.command plan.allowed in
+    let number = allowed_number (state_of c.args.self.now) c.args.planned.now.command plan.allowed in
     let same = ap (λ (p : Plan). p.command.number) c.planned.view_is in
     omega (arith, number, same)
 
@@ -120,7 +120,7 @@ note-requires-clause-few g c =
     let sound = subst (λ (core : Core). IsSoundImage core.image core.records) c.self.view_is c.self.invariant.image in
     let s = state_of c.args.self.now in
     let inside = c.planned.inside in
-    let plan = plan_inside c.args.self.now sound inside c.args.planned c.planned.view_is c.requires.planned in
+    let plan = plan_inside c.args.self.now sound inside c.args.planned.now c.planned.view_is c.requires.planned in
     let made = has_moved g c in
     let few = allowed_few s inside.command plan.allowed (move_makes s inside.command.call c.in-Move.moved made).stays in
     let same = (c.change.ensures.made inside.command.call made).records in
@@ -131,7 +131,7 @@ note-requires-clause-kept g c =
     let sound = subst (λ (core : Core). IsSoundImage core.image core.records) c.self.view_is c.self.invariant.image in
     let s = state_of c.args.self.now in
     let plan = c.requires.planned s (sound_stands c.args.self.now sound) in
-    let command = c.args.planned.command in
+    let command = c.args.planned.now.command in
     let number = allowed_number s command plan.allowed in
     let kept = kept_reply s command.call command.number (allowed_rules s command plan.allowed) (omega (arith, number))
     in
@@ -154,7 +154,7 @@ its_liquidation : (g : Over) (c : goal.After-as_slice g) → IsLiquidation c.arg
     c.planned.inside.forecast.done c.in-Liquidate.liquidator c.as_slice.result.now
 its_liquidation g c =
     let sound = subst (λ (core : Core). IsSoundImage core.image core.records) c.self.view_is c.self.invariant.image in
-    liquidation c.args.self.now sound c.planned.inside c.args.planned c.planned.view_is c.requires.planned
+    liquidation c.args.self.now sound c.planned.inside c.args.planned.now c.planned.view_is c.requires.planned
     c.planned.invariant c.requires.room c.in-Liquidate.liquidator c.in-Liquidate.victims
     c.in-Liquidate.is c.as_slice.result.now c.as_slice.ensures
 
@@ -190,7 +190,7 @@ pub apply_rotate-requires-clause-rotates : goal.apply_rotate-requires-clause-rot
 apply_rotate-requires-clause-rotates g c =
     let sound = subst (λ (core : Core). IsSoundImage core.image core.records) c.self.view_is c.self.invariant.image in
     let inside = c.planned.inside in
-    let plan = plan_inside c.args.self.now sound inside c.args.planned c.planned.view_is c.requires.planned in
+    let plan = plan_inside c.args.self.now sound inside c.args.planned.now c.planned.view_is c.requires.planned in
     subst (IsEffect (state_of c.args.self.now) inside.command.call) c.in-Rotate.is plan.effect
 
 pub apply_rotate-requires-clause-allowed : goal.apply_rotate-requires-clause-allowed
@@ -211,18 +211,18 @@ pub returns-clause-state : goal.returns-clause-state
 returns-clause-state g c s h =
     let sound = subst (λ (core : Core). IsSoundImage core.image core.records) c.self.view_is c.self.invariant.image in
     let old = c.args.self.now in
-    let command = c.args.planned.command in
+    let command = c.args.planned.now.command in
     let plan = c.requires.planned s h in
-    elim c.match-effect.branch [
+    elim c.match-planned.branch [
       | in-Move w ↦
           let call = c.planned.inside.command.call in
-          let made = made_inside old sound c.planned.inside c.args.planned c.planned.view_is c.requires.planned
+          let made = made_inside old sound c.planned.inside c.args.planned.now c.planned.view_is c.requires.planned
           w.in-Move.moved w.in-Move.is in
           let changed = changed_stands old w.change.new.self call sound (w.change.ensures.made call made) s h in
           let noted_is :
           StandsFor w.note.new.self (noted (effect s call) c.planned.inside.command c.planned.inside.forecast.done) =
           w.note.ensures.state (effect s call) changed in
-          let seen : StandsFor w.note.new.self (noted (effect s command.call) command c.args.planned.done) =
+          let seen : StandsFor w.note.new.self (noted (effect s command.call) command c.args.planned.now.done) =
           subst (λ (p : Plan). StandsFor w.note.new.self (noted (effect s p.command.call) p.command p.done))
           c.planned.view_is noted_is in
           let done : StandsFor w.note.new.self (after s command) =
@@ -244,7 +244,7 @@ returns-clause-state g c s h =
     ]
 
 pub returns-clause-list : goal.returns-clause-list
-returns-clause-list g c s h = c.lists_stand.ensures (step s (Do c.args.planned.command)).0
+returns-clause-list g c s h = c.lists_stand.ensures (step s (Do c.args.planned.now.command)).0
     (returns-clause-state g c s h)
 
 -- ---- the steps
@@ -276,21 +276,21 @@ returns-clause-few g c =
     let s = state_of old in
     let stands = sound_stands old sound in
     let plan = c.requires.planned s stands in
-    let list = c.match-effect.self.list in
-    let used = used_hint (words_of c.args.planned.command.call) c.args.hint.now in
-    let made = c.lists_stand.ensures (step s (Do c.args.planned.command)).0 (returns-clause-state g c s stands)
-    ∙ after_list s c.args.planned.command plan.allowed in
-    elim c.match-effect.branch [
+    let list = c.match-planned.self.list in
+    let used = used_hint (words_of c.args.planned.now.command.call) c.args.hint.now in
+    let made = c.lists_stand.ensures (step s (Do c.args.planned.now.command)).0 (returns-clause-state g c s stands)
+    ∙ after_list s c.args.planned.now.command plan.allowed in
+    elim c.match-planned.branch [
       | in-Move w ↦
           let same = ap (λ (core : Core). core.list) w.self-is ∙ w.note.ensures.list in
           let its = subst (λ (p : Plan). IsMove s p.command.call w.in-Move.moved) c.planned.view_is
-          (made_inside old sound c.planned.inside c.args.planned c.planned.view_is c.requires.planned w.in-Move.moved
+          (made_inside old sound c.planned.inside c.args.planned.now c.planned.view_is c.requires.planned w.in-Move.moved
           w.in-Move.is) in
-          subst (λ n. TakesFew list used (last_put c.args.planned.changes) c.args.steps.now n) (sym w.steps-is)
-          (planned_few old sound c.args.planned plan w.in-Move.moved its w.change.new.self.list list same made
+          subst (λ n. TakesFew list used (last_put c.args.planned.now.changes) c.args.steps.now n) (sym w.steps-is)
+          (planned_few old sound c.args.planned.now plan w.in-Move.moved its w.change.new.self.list list same made
           c.args.hint.now c.args.steps.now w.change.new.steps w.change.ensures.few)
-      | in-Liquidate w ↦ takes_same list used (last_put c.args.planned.changes) c.args.steps.now c.match-effect.steps
+      | in-Liquidate w ↦ takes_same list used (last_put c.args.planned.now.changes) c.args.steps.now c.match-planned.steps
           w.steps-is
-      | in-Rotate w ↦ takes_same list used (last_put c.args.planned.changes) c.args.steps.now c.match-effect.steps
+      | in-Rotate w ↦ takes_same list used (last_put c.args.planned.now.changes) c.args.steps.now c.match-planned.steps
           w.steps-is
     ]
