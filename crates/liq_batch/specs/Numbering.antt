@@ -4,17 +4,18 @@ use Rattle.liq_types.specs.declared.replies.Reply.{Reply}
 use Rattle.liq_types.specs.declared.requests.Request.{Request}
 use Rattle.liq_types.specs.declared.requests.Request.TheVariants.{Do, Ask}
 use Rattle.liq_types.specs.State.{State}
-use Rattle.liq_rule_step.specs.Step.{step, run, next_number}
+use Rattle.liq_rule_step.specs.Step.{step, run}
 use Rattle.liq_rule_step.specs.Memory.{TakesMemory}
 use Rattle.liq_replies96.specs.declared.reply.Reply96.{Reply96}
+use Rattle.liq_market.specs.Answering.{unused_number}
 use Rattle.liq_market.specs.Content.{Content}
 use Rattle.liq_batch.specs.declared.batch.Batch.{Batch}
 use Rattle.liq_batch.specs.declared.batch.Command96.{Command96}
 use Rattle.liq_batch.specs.Batch.{Answered, Way, command_in, call_in, touched_after_all}
 
--- a command under its client's next number
+-- a command under its client's next number; under 0, where that has used the greatest
 abbrev pub numbered : State → Request → Request
-numbered s (Do c) = Do (record c { number = next_number s c.client })
+numbered s (Do c) = Do (record c { number = unused_number s c.client c.call })
 numbered s (Ask q) = Ask q
 
 -- each of some requests with its number, in the state to which those before it lead

@@ -15,8 +15,9 @@ use liq_types::{Command, Reply};
 use liq_wire::{BadPlace, decode};
 
 /// Answers commands in order, each under its client's next number, which is written into it: the
-/// commands are then what [`do_all`](crate::do_all) takes. A number that is not 0 before fits no
-/// command. It stops where `do_all` does, and then no number is written.
+/// commands are then what [`do_all`](crate::do_all) takes. A client that has used the greatest
+/// number has no next one: its command keeps 0, and is out of turn. A number that is not 0 before
+/// fits no command. It stops where `do_all` does, and then no number is written.
 pub fn next_all(market: &mut Market, commands: &mut [Command96], replies: &mut [Reply96]) -> Batch
     ensures { (s : State) → StandsFor market.old.core s → Numbers
         s commands.old commands.new result market.old market.new replies.old replies.new }

@@ -1,3 +1,4 @@
+mod Causes
 mod Links
 mod Moments
 mod Openings

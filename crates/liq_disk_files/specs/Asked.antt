@@ -15,6 +15,10 @@ pub data Asked : Type 0 where
   User : (answer : Option ℕ) → Asked
   -- which file is behind a standard stream
   Behind : (stream : Stream) (answer : Option FileId) → Asked
+  -- which file the name leads to
+  Named : (name : Name) (answer : Result Found Refusal) → Asked
+  -- whether a regular file is behind a standard stream, or may be
+  Regular : (stream : Stream) (answer : Bool) → Asked
   -- whether a regular file is what the name leads to
   Looked : (name : Name) (answer : Result Bool Refusal) → Asked
   -- open(2)

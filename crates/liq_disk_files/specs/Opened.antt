@@ -35,34 +35,6 @@ abbrev pub WasHeld : File → List Asked → Type 0
 WasHeld file calls =
     (answer : Result (Unit {0}) TryLockError) × WasAsked (Locked file answer) calls × IsHeld answer
 
--- the right file's turn comes once the left one is held
-abbrev pub IsItsTurn : Name → List Asked → Type 0
-IsItsTurn Left calls = Unit {0}
-IsItsTurn Right calls = (file : File) × WasOpened Left file calls × WasHeld file calls
-
--- a file is opened to read and to write, and never truncated
-abbrev pub KeepsBytes : Opening → Type 0
-KeepsBytes how = (how.read ≡ true) × (how.write ≡ true) × (how.truncate ≡ false)
-
--- a regular file that is there is opened as it is; where there is none a new one is made, for its
--- owner alone
-abbrev pub OpensOrMakes : Name → Opening → List Asked → Type 0
-OpensOrMakes name how before =
-    ((how.create_new ≡ false) × SawRegular name before)
-    ⊎ ((how.create_new ≡ true) × (how.mode ≡ 0o600) × SawNone name before)
-
--- the file of this name may be opened so, behind these calls
-pub record MayOpen (name : Name) (how : Opening) (before : List Asked) : Type 0 where
-  pub keeps : KeepsBytes how
-  pub there_or_made : OpensOrMakes name how before
-  pub in_turn : IsItsTurn name before
-
--- each file was asked for as it may be, whether the system then opened it or refused
-abbrev pub OpensWell : List Asked → Type 0
-OpensWell [] = Unit {0}
-OpensWell (Opened name how answer ∷ before) = MayOpen name how before × OpensWell before
-OpensWell (_ ∷ before) = OpensWell before
-
 -- both looks saw the same link: none took its name meanwhile
 abbrev pub IsUnchanged : Seen → Seen → Type 0
 IsUnchanged seen again = (seen.found.id ≡ again.found.id) × (seen.changed ≡ again.changed)
@@ -104,6 +76,52 @@ pub record Taken (user : ℕ) (others : List FileId) (name : Name) (file : File)
   pub may : MayBeTaken user others found
   pub held : WasHeld file calls
 
+-- the system said who the user is, and which files are behind the standard streams
+pub record Knows (user : ℕ) (input output errors : FileId) (calls : List Asked) : Type 0 where
+  pub is_user : WasAsked (User (Some user)) calls
+  pub is_input : WasAsked (Behind Input (Some input)) calls
+  pub is_output : WasAsked (Behind Output (Some output)) calls
+  pub is_errors : WasAsked (Behind Errors (Some errors)) calls
+
+-- the left file is taken, and is no standard stream
+pub record LeftIsTaken (calls : List Asked) : Type 0 where
+  pub user : ℕ
+  pub input : FileId
+  pub output : FileId
+  pub errors : FileId
+  pub file : File
+  pub found : Found
+  pub knows : Knows user input output errors calls
+  pub taken : Taken user (input ∷ output ∷ errors ∷ []) Left file found calls
+
+-- the right file's turn comes once the left one is taken
+abbrev pub IsItsTurn : Name → List Asked → Type 0
+IsItsTurn Left calls = Unit {0}
+IsItsTurn Right calls = LeftIsTaken calls
+
+-- a file is opened to read and to write, and never truncated
+abbrev pub KeepsBytes : Opening → Type 0
+KeepsBytes how = (how.read ≡ true) × (how.write ≡ true) × (how.truncate ≡ false)
+
+-- a regular file that is there is opened as it is; where there is none a new one is made, for its
+-- owner alone
+abbrev pub OpensOrMakes : Name → Opening → List Asked → Type 0
+OpensOrMakes name how before =
+    ((how.create_new ≡ false) × SawRegular name before)
+    ⊎ ((how.create_new ≡ true) × (how.mode ≡ 0o600) × SawNone name before)
+
+-- the file of this name may be opened so, behind these calls
+pub record MayOpen (name : Name) (how : Opening) (before : List Asked) : Type 0 where
+  pub keeps : KeepsBytes how
+  pub there_or_made : OpensOrMakes name how before
+  pub in_turn : IsItsTurn name before
+
+-- each file was asked for as it may be, whether the system then opened it or refused
+abbrev pub OpensWell : List Asked → Type 0
+OpensWell [] = Unit {0}
+OpensWell (Opened name how answer ∷ before) = MayOpen name how before × OpensWell before
+OpensWell (_ ∷ before) = OpensWell before
+
 -- Both names were looked at, and then the folders of both files were synced. It is one folder,
 -- which was synced once, only where neither name is a link: then both stand in the folder in which
 -- the program runs.
@@ -128,10 +146,7 @@ pub record BothTaken (left right : File) (calls : List Asked) : Type 0 where
   pub right_found : Found
   pub before : List Asked
   pub synced : AreSynced before calls
-  pub is_user : WasAsked (User (Some user)) before
-  pub is_input : WasAsked (Behind Input (Some input)) before
-  pub is_output : WasAsked (Behind Output (Some output)) before
-  pub is_errors : WasAsked (Behind Errors (Some errors)) before
+  pub knows : Knows user input output errors before
   pub left_taken : Taken user (input ∷ output ∷ errors ∷ []) Left left left_found before
   pub right_taken : Taken user (input ∷ output ∷ errors ∷ left_found.id ∷ []) Right right
       right_found before

@@ -1,5 +1,5 @@
 -- Which files are taken, by what the system says of them.
-use Rattle.std.specs.Prelude.{◌≡◌, ◌⊎◌, ℕ, List, Result, Ok, Err, Contains, bit_and}
+use Rattle.std.specs.Prelude.{◌≡◌, ◌⊎◌, ℕ, List, Option, Some, None, Contains, bit_and}
 use Rattle.liq_disk_files.specs.declared.found.FileId.{FileId}
 use Rattle.liq_disk_files.specs.declared.found.Found.{Found}
 
@@ -26,6 +26,6 @@ abbrev pub MayBeFollowed : ℕ → ℕ → Type 0
 MayBeFollowed user owner = (owner ≡ user) ⊎ (owner ≡ 0)
 
 -- a standard stream is this file, or the system has not said which file it is
-abbrev pub MayBe : {E : Type 0} → Result FileId E → FileId → Type 0
-MayBe (Ok found) file = found ≡ file
-MayBe (Err fault) file = Unit {0}
+abbrev pub MayBe : Option FileId → FileId → Type 0
+MayBe (Some found) file = found ≡ file
+MayBe None file = Unit {0}

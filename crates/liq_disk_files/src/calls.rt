@@ -40,11 +40,13 @@ pub struct Opening {
     pub mode: u32,
 }
 
-/// Why the system refused: there is no such file, there is one already, or something else.
+/// Why the system refused: there is no such file, there is one already, it may not be looked up, or
+/// something else.
 #[derive(Clone, Copy)]
 pub enum Refusal {
     Missing,
     Exists,
+    Denied,
     Other,
 }
 

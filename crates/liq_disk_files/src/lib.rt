@@ -14,6 +14,7 @@
 mod calls;
 mod files;
 mod found;
+mod handle;
 mod names;
 mod outside;
 mod streams;
@@ -24,6 +25,7 @@ mod written;
 pub use calls::{Changed, Name, Opening, Refusal, Seen, Stream};
 pub use files::{disks, no_disks};
 pub use found::{FileId, Found};
+pub use handle::Handle;
 pub use outside::Outside;
 pub use system::System;
 pub use written::{Written, standard_output};

@@ -1,9 +1,10 @@
 //! What the names of the two files lead to.
-ghost use Rattle.std.specs.Prelude.{IsTrue, ◌↔◌};
+ghost use Rattle.std.specs.Prelude.{IsTrue, ◌↔◌, ◌≡◌, None, true};
 ghost use Rattle.std.specs.Path.{path_buf_bytes};
 ghost use Rattle.liq_disk_files.specs.Asked.{Earlier};
 ghost use Rattle.liq_disk_files.specs.Names.{text_of};
 ghost use Rattle.liq_disk_files.specs.Opened.{IsUnchanged, LeadsToIt, OpensWell};
+ghost use Rattle.liq_disk_files.specs.Unopened.{IsLost};
 
 use crate::calls::{Name, Seen};
 use crate::found::{Found, may_be_followed};
@@ -20,6 +21,7 @@ pub fn led_to<S: System>(system: &mut S, alloc: Global, name: Name, user: u32) -
     ensures since { S.tells → Earlier (S.asked system.old) (S.asked system.new) }
     ensures opens { S.tells → OpensWell (S.asked system.old) → OpensWell (S.asked system.new) }
     ensures leads { S.tells → LeadsToIt user (text_of name) result (S.asked system.new) }
+    ensures lost { S.tells → result ≡ None → IsLost (S.asked system.new) }
 {
     let seen = system.see(name.text())?;
     if seen.is_link {
@@ -32,6 +34,8 @@ fn behind_links<S: System>(system: &mut S, name: PathBuf, user: u32) -> Option<F
     ensures since { S.tells → Earlier (S.asked system.old) (S.asked system.new) }
     ensures opens { S.tells → OpensWell (S.asked system.old) → OpensWell (S.asked system.new) }
     ensures leads { S.tells → LeadsToIt user (path_buf_bytes name) result (S.asked system.new) }
+    ensures lost { S.tells → IsLost (S.asked system.old) → result ≡ None
+        → IsLost (S.asked system.new) }
 {
     let mut path = name;
     for _ in 0..=MOST_LINKS {

@@ -3,7 +3,8 @@ ghost use Rattle.std.specs.Prelude.{[]};
 
 use crate::calls::{Changed, Name, Opening, Refusal, Seen, Stream};
 use crate::found::{FileId, Found};
-use crate::streams::{errors, input, output};
+use crate::handle::Handle;
+use crate::streams::{behind, is_regular};
 use crate::system::System;
 use crate::user::effective_user;
 use std::fs::{self, File, Files, TryLockError};
@@ -34,10 +35,17 @@ impl<R: Files<File = File> + AllocGlobal> System for Outside<'_, R> {
     }
 
     fn behind(&mut self, stream: Stream) -> Option<FileId> {
-        match stream {
-            Stream::Input => input(self.rt).ok(),
-            Stream::Output => output(self.rt).ok(),
-            Stream::Errors => errors(self.rt).ok(),
+        behind(self.rt, stream).ok()
+    }
+
+    fn is_regular(&mut self, stream: Stream) -> bool {
+        is_regular(self.rt, stream)
+    }
+
+    fn named(&mut self, name: Name) -> Result<Found, Refusal> {
+        match fs::metadata(self.rt, name.text()) {
+            Ok(told) => Ok(Found::of(&told)),
+            Err(fault) => Err(refusal(&fault)),
         }
     }
 
@@ -48,7 +56,7 @@ impl<R: Files<File = File> + AllocGlobal> System for Outside<'_, R> {
         }
     }
 
-    fn open(&mut self, name: Name, how: Opening) -> Result<File, Refusal> {
+    fn open(&mut self, name: Name, how: Opening) -> Result<Handle, Refusal> {
         let opened = File::options()
             .read(how.read)
             .write(how.write)
@@ -57,13 +65,13 @@ impl<R: Files<File = File> + AllocGlobal> System for Outside<'_, R> {
             .mode(how.mode)
             .open(self.rt, name.text());
         match opened {
-            Ok(file) => Ok(file),
+            Ok(file) => Ok(Handle::of(file)),
             Err(fault) => Err(refusal(&fault)),
         }
     }
 
-    fn told(&mut self, file: &File) -> Option<Found> {
-        Some(Found::of(&file.metadata().ok()?))
+    fn told(&mut self, file: &Handle) -> Option<Found> {
+        file.told()
     }
 
     fn see(&mut self, path: &str) -> Option<Seen> {
@@ -86,8 +94,8 @@ impl<R: Files<File = File> + AllocGlobal> System for Outside<'_, R> {
             .ok()
     }
 
-    fn lock(&mut self, file: &File) -> Result<(), TryLockError> {
-        file.try_lock()
+    fn lock(&mut self, file: &Handle) -> Result<(), TryLockError> {
+        file.lock()
     }
 
     fn sync_folder(&mut self, name: Name) -> bool {
@@ -99,6 +107,7 @@ fn refusal(fault: &io::Error) -> Refusal {
     match fault.kind() {
         ErrorKind::NotFound => Refusal::Missing,
         ErrorKind::AlreadyExists => Refusal::Exists,
+        ErrorKind::PermissionDenied => Refusal::Denied,
         _ => Refusal::Other,
     }
 }

@@ -1,11 +1,12 @@
 //! What is asked of the system, call by call.
 ghost use Rattle.std.specs.Prelude.{◌≡◌, ◌∷◌, List};
 ghost use Rattle.liq_disk_files.specs.Names.{path_in};
-ghost use Rattle.liq_disk_files.specs.Asked.{Asked, User, Behind, Looked, Opened, Told, Saw, Read, Locked, Synced};
+ghost use Rattle.liq_disk_files.specs.Asked.{Asked, User, Behind, Named, Regular, Looked, Opened, Told, Saw, Read, Locked, Synced};
 
 use crate::calls::{Name, Opening, Refusal, Seen, Stream};
 use crate::found::{FileId, Found};
-use std::fs::{File, TryLockError};
+use crate::handle::Handle;
+use std::fs::TryLockError;
 use std::path::PathBuf;
 
 /// What the two files are opened and taken by. Each call asks the system one thing.
@@ -24,16 +25,24 @@ pub trait System {
     fn behind(&mut self, stream: Stream) -> Option<FileId>
         ensures { tells → asked self.new ≡ Behind stream result ∷ asked self.old };
 
+    /// Whether a regular file is behind a standard stream, or may be.
+    fn is_regular(&mut self, stream: Stream) -> bool
+        ensures { tells → asked self.new ≡ Regular stream result ∷ asked self.old };
+
+    /// The file to which the name leads.
+    fn named(&mut self, name: Name) -> Result<Found, Refusal>
+        ensures { tells → asked self.new ≡ Named name result ∷ asked self.old };
+
     /// Whether a regular file is what the name leads to.
     fn look(&mut self, name: Name) -> Result<bool, Refusal>
         ensures { tells → asked self.new ≡ Looked name result ∷ asked self.old };
 
     /// Opens the file of this name.
-    fn open(&mut self, name: Name, how: Opening) -> Result<File, Refusal>
+    fn open(&mut self, name: Name, how: Opening) -> Result<Handle, Refusal>
         ensures { tells → asked self.new ≡ Opened name how result ∷ asked self.old };
 
     /// Which file it is that is open, whose and of which kind.
-    fn told(&mut self, file: &File) -> Option<Found>
+    fn told(&mut self, file: &Handle) -> Option<Found>
         ensures { tells → asked self.new ≡ Told file.now result ∷ asked self.old };
 
     /// What stands under this path itself.
@@ -45,7 +54,7 @@ pub trait System {
         ensures { tells → asked self.new ≡ Read link.now (path_in result) ∷ asked self.old };
 
     /// Takes the file's lock for this process alone, without waiting.
-    fn lock(&mut self, file: &File) -> Result<(), TryLockError>
+    fn lock(&mut self, file: &Handle) -> Result<(), TryLockError>
         ensures { tells → asked self.new ≡ Locked file.now result ∷ asked self.old };
 
     /// Syncs the folder in which the file of this name really is: this one, or that of a link's

@@ -28,7 +28,7 @@ fn streams<F: Files<File = File>>(files: &F) -> [io::Result<File>; 3] {
 
 fn main(rt: HostRuntime) -> ExitCode {
     let _streams = streams(&rt);
-    let mut out = StdSink::new(standard_output(&rt, io::writer(&rt)));
+    let mut out = StdSink::new(standard_output(&mut Outside::new(&rt), io::writer(&rt)));
     let status = match words(&rt) {
         Ok(words) => {
             let mut input = StdSource::new(rt.reader());

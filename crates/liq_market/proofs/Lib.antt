@@ -1,6 +1,8 @@
+mod Few
 mod Forking
 mod Loading
 mod Making
 mod Moves
 mod Opening
 mod Unhinted
+mod Unused

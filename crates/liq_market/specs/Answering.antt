@@ -10,7 +10,19 @@ use Rattle.liq_types.specs.State.{State}
 use Rattle.liq_core.specs.Core.{Core, StandsFor}
 use Rattle.liq_rule_step.specs.Lists.{PlansList}
 use Rattle.liq_rule_step.specs.Memory.{TakesMemory}
-use Rattle.liq_rule_step.specs.Step.{step}
+use Rattle.liq_rule_step.specs.Step.{Ruling, Repeated, next_number, ruling, step}
+
+-- The number under which a call is carried out: its client's next one. Behind the greatest there is
+-- no next one, and under that the call would be one that comes again: then it is 0, under which
+-- every command is out of turn.
+abbrev pub unless_repeated : Ruling → ℕ → ℕ
+unless_repeated (Repeated kept) number = 0
+unless_repeated _ number = number
+
+abbrev pub unused_number : State → ℕ → Call → ℕ
+unused_number s client call =
+    let number = next_number s client in
+    unless_repeated (ruling s (record { client = client; number = number; call = call })) number
 
 -- a call as a command of a client, under this number
 abbrev pub numbered : ℕ → ℕ → Call → Request

@@ -1,18 +1,20 @@
 //! A market: the protocol with its guide, and whom the last accepted command touched.
 
-ghost use Rattle.std.specs.Prelude.{◌≡◌, ◌↔◌, ◌⊎◌, ℕ, [], drop, length, Err, Some};
+ghost use Rattle.std.specs.Prelude.{◌≡◌, ◌↔◌, ◌⊎◌, ◌≤◌, ◌+◌, ℕ, [], drop, length, Err, Some};
 ghost use Rattle.std.specs.Prelude.{IfOk, OnOk, OnErr};
 ghost use Rattle.liq_types.specs.declared.image.Image.{Image as image};
+ghost use Rattle.liq_types.specs.declared.requests.Command.{Command as command_row};
 ghost use Rattle.liq_types.specs.declared.requests.Request.TheVariants.{Do, Ask};
 ghost use Rattle.liq_types.specs.Soundness.{HasTables, first_unsound};
 ghost use Rattle.liq_types.specs.State.{State, opening};
-ghost use Rattle.liq_rule_step.specs.Step.{next_number, step};
+ghost use Rattle.liq_rule_step.specs.Step.{step};
+ghost use Rattle.liq_rule_step.specs.Verbs.{unhinted as plain};
 ghost use Rattle.liq_core.specs.Core.{SameContent, StandsFor};
 ghost use Rattle.liq_core.specs.declared.image.ImageFault.TheVariants as unloaded;
 ghost use Rattle.liq_core.specs.Entries.{laid};
 ghost use Rattle.liq_market.specs.declared.lists.AccountList.TheVariants.{Deposits, Wallets};
 ghost use Rattle.liq_market.specs.declared.load_fault.LoadFault.TheVariants.{Unsound};
-ghost use Rattle.liq_market.specs.Answering.{Answers, Previews, numbered};
+ghost use Rattle.liq_market.specs.Answering.{Answers, Previews, numbered, unused_number};
 ghost use Rattle.liq_market.specs.Content.{IsSame};
 ghost use Rattle.liq_market.specs.Lists.{accounts_in};
 ghost use Rattle.liq_market.specs.Saving.{IsSave, IsUnsoundSave, LoadsAs, saved};
@@ -26,7 +28,7 @@ use liq_checkpoint::{ImageBytes, decode, encode};
 use liq_core::laws::{lists_stand, protocols_are_sound, protocols_stand};
 use liq_core::{ImageFault, PlanFault, Protocol, Turn, unhinted};
 use liq_core_hinted::{Guided, Hints, words_of};
-use liq_types::amounts::LIM;
+use liq_types::amounts::{LIM, NUMBER_MOST};
 use liq_types::{Call, Command, Hint, HintWords, Image, NoMemory, Query, Reply, Request, Steps};
 use std::alloc::Global;
 use std::marker::{Brand, Model};
@@ -92,24 +94,46 @@ impl Market {
     }
 
     /// Answers a call under its client's next number, and tells which number that is. Behind 2^64 -
-    /// 1 there is no next one: a client that has come so far is told the reply of its last command
-    /// again, and the call is not carried out.
+    /// 1 there is no next one: the call of a client that has come so far has the number 0, and is
+    /// refused as out of turn.
     pub fn answer_next(&mut self, client: u32, call: &Call) -> (u64, Result<Reply, NoMemory>)
         ensures number { (s : State) → StandsFor self.old.core s
-            → result.0 ≡ next_number s client }
+            → result.0 ≡ unused_number s client call.now }
         ensures answered { (s : State) → StandsFor self.old.core s
             → Answers s (numbered client result.0 call.now) result.1 self.new.core }
         ensures touched { (s : State) → StandsFor self.old.core s → OnOk result.1 (self.new.touched
             ≡ touched_after s (numbered client result.0 call.now) self.old.touched) }
         ensures err { OnErr result.1 (IsSame self.old self.new) }
     {
-        let number = self.guided.protocol().next_number(client);
+        let number = self.unused_number(client, call);
         let command = Command {
             client,
             number,
             call: *call,
         };
         (number, self.answer(&Request::Do(command)))
+    }
+
+    /// The client's next number; 0, where it has used the greatest.
+    fn unused_number(&self, client: u32, call: &Call) -> u64
+        ensures { (s : State) → StandsFor self.now.core s
+            → result ≡ unused_number s client call.now }
+    {
+        let number = self.guided.protocol().next_number(client);
+        if number < NUMBER_MOST {
+            return number;
+        }
+        let command = Command {
+            client,
+            number,
+            call: *call,
+        };
+        match self.guided.plan(&command) {
+            Ok(Turn::Again(_)) => 0,
+            Ok(Turn::New(_planned)) => number,
+            Err(PlanFault::No(_)) => number,
+            Err(PlanFault::NoMemory) => number,
+        }
     }
 
     /// The reply to a query. It changes nothing.
@@ -279,6 +303,26 @@ impl Market {
             → OnOk result (self.new.touched ≡ touched_after s (Do command.now) self.old.touched) }
         ensures err { OnErr result (IsSame self.old self.new) }
     {
+        let mut steps = Steps::<L>::new(blank);
+        self.make_counted(command, words, &mut steps)
+    }
+
+    // Answers a command with these hint words in place of its own. Where it has none of its own, the
+    // place of its trove takes at most four steps, however long the list is.
+    fn make_counted<L: Ledger>(
+        &mut self,
+        command: &Command,
+        words: HintWords,
+        steps: &mut Steps<L>,
+    ) -> Result<Reply, NoMemory>
+        ensures answered { (s : State) → StandsFor self.old.core s
+            → Answers s (Do command.now) result self.new.core }
+        ensures touched { (s : State) → StandsFor self.old.core s
+            → OnOk result (self.new.touched ≡ touched_after s (Do command.now) self.old.touched) }
+        ensures err { OnErr result (IsSame self.old self.new) }
+        ensures few { (c : command_row) → command.now ≡ plain c
+            → OnOk result (steps.new ≤ steps.old + 4) }
+    {
         // odd: law called
         protocols_stand(self.guided.protocol());
         let planned = match self.guided.plan(command) {
@@ -296,8 +340,7 @@ impl Market {
             words,
             given: Hint::NONE,
         };
-        let mut steps = Steps::<L>::new(blank);
-        let done = self.guided.apply(planned, &hints, &mut steps);
+        let done = self.guided.apply(planned, &hints, steps);
         Ok(Reply::Said(done))
     }
 }

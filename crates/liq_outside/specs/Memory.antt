@@ -33,6 +33,8 @@ pub record SinkInMemory : Type 0 where
   pub held : List ℕ
   -- each time that it was shown two disks, while there was memory for that
   pub shown : Option (List Showing)
+  -- how many of them it has room for, without more memory, while it tells them
+  pub room : ℕ
   pub calls : Calls
 
 -- what is told of a sink in memory

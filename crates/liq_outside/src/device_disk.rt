@@ -35,8 +35,9 @@ impl<V> Model for DeviceDisk<V> {
 }
 
 impl<V: Device> DeviceDisk<V> {
-    /// The disk over this device, or over none.
-    pub(crate) fn over(device: Option<V>) -> Self
+    /// The disk over this device, or over none. So a device of one's own becomes a disk, which no
+    /// other crate can write.
+    pub fn over(device: Option<V>) -> Self
         ensures device { result.device ≡ device }
         ensures moment { result.moment ≡ 0 }
         ensures faults { result.faults ≡ 0 }

@@ -17,7 +17,8 @@ use super::ours::Ours;
 /// sync that answered `Ok`, but in each range that was written since, by a call that failed too,
 /// any bytes and any length up to the range's end.
 ///
-/// The disks of this crate are all that there are.
+/// The disks of this crate are all that there are. What keeps bytes elsewhere is a `Device`, over
+/// which `DeviceDisk::over` is a disk.
 pub trait Disk: Ours {
     /// What is told of it: what a read gives, the moment, what a crash at each moment may have
     /// left, and how many faults it has met.

@@ -1,5 +1,5 @@
 //! A source and a sink in memory, whose calls fail where they are told to.
-ghost use Rattle.std.specs.Prelude.{◌≡◌, ◌≤◌, ◌<◌, ◌↔◌, ◌⊎◌, ◌++◌, [], Some, is_some, length, take, drop, IfOk, OnOk, OnErr, IsErr};
+ghost use Rattle.std.specs.Prelude.{◌≡◌, ◌≤◌, ◌<◌, ◌↔◌, ◌⊎◌, ◌++◌, [], Some, is_some, length, take, drop, IfOk, IfSome, OnOk, OnErr, IsErr, IsSome};
 ghost use Rattle.liq_outside.specs.Calls.{FailsNext, not_begun};
 ghost use Rattle.liq_outside.specs.Faults.{HasCause};
 ghost use Rattle.liq_outside.specs.Memory.{after_failed_read, after_failed_write, after_read, after_write, count_taken, sink_at, source_at};
@@ -13,7 +13,7 @@ use super::schedule::Schedule;
 use super::showing::Showing;
 use super::sink::Sink;
 use super::source::Source;
-use std::alloc::Global;
+use std::alloc::{AllocError, Global};
 use std::marker::Model;
 
 /// Bytes in memory that are read in order, a chunk at most in a call.
@@ -102,8 +102,9 @@ impl Source for MemorySource {
 /// Holds in memory what is written, each piece whole or not at all.
 ///
 /// A write fails where its number, counted from 0, is one of those in `failing`, and where no
-/// memory is left for its bytes. It notes each time that it is shown two disks, and forgets them
-/// all where no memory is left for one. A contract sees what is held, what was shown and the calls.
+/// memory is left for its bytes. It notes each time that it is shown two disks, while it has room
+/// for one more, and forgets them all where it has none and no memory is left. A contract sees what
+/// is held, what was shown, the room for that and the calls.
 #[derive(Drop)]
 pub struct MemorySink {
     bytes: Vec<u8>,
@@ -112,7 +113,7 @@ pub struct MemorySink {
 }
 
 impl Model for MemorySink {
-    ghost use Rattle.std.specs.Prelude.{option_map};
+    ghost use Rattle.std.specs.Prelude.{option_map, unwrap_or, vec_capacity};
     ghost use Rattle.liq_outside.specs.Memory.{SinkInMemory};
 
     ghost Value = { SinkInMemory };
@@ -120,6 +121,7 @@ impl Model for MemorySink {
     ghost view = { λ s. record {
       held = s.bytes.items;
       shown = option_map (λ v. v.items) s.shown;
+      room = unwrap_or (option_map (λ v. vec_capacity v) s.shown) 0;
       calls = s.schedule;
     } };
 }
@@ -138,6 +140,21 @@ impl MemorySink {
         }
     }
 
+    /// A sink that holds nothing yet, and notes at least so many times that it is shown two disks.
+    pub fn with_room(alloc: Global, notes: usize, failing: Vec<u64>) -> Result<Self, AllocError>
+        ensures held { IfOk result (λ sink. sink.held ≡ []) }
+        ensures shown { IfOk result (λ sink. sink.shown ≡ Some []) }
+        ensures room { IfOk result (λ sink. notes ≤ sink.room) }
+        ensures calls { IfOk result (λ sink. sink.calls ≡ not_begun failing.items) }
+    {
+        let shown = Vec::with_capacity(alloc, notes)?;
+        Ok(MemorySink {
+            bytes: Vec::new(alloc),
+            shown: Some(shown),
+            schedule: Schedule::new(failing),
+        })
+    }
+
     /// The bytes that were written.
     pub fn bytes(&self) -> &[u8]
         ensures { result.now ≡ self.now.held }
@@ -145,8 +162,8 @@ impl MemorySink {
         &self.bytes
     }
 
-    /// Whether it still tells what it was shown. It stops where there is no memory for a note, and
-    /// forgets them all.
+    /// Whether it still tells what it was shown. It stops where it has no room and there is no memory
+    /// for a note, and forgets them all.
     pub fn tells(&self) -> bool
         ensures { result ≡ is_some self.now.shown }
     {
@@ -165,9 +182,14 @@ impl Sink for MemorySink {
     ghost at = { sink_at };
 
     fn show<D: Disk>(&mut self, left: &D, right: &D)
-        ensures same { self.new ≡ record self.old { shown = self.new.shown } }
+        ensures same { self.new
+            ≡ record self.old { shown = self.new.shown; room = self.new.room } }
         ensures shown { Notes D.at (Some self.old.held) left.now right.now
             self.old.shown self.new.shown }
+        // While it has room it notes, and the room stays.
+        ensures noted { IfSome self.old.shown (λ earlier.
+            length earlier < self.old.room → IsSome self.new.shown) }
+        ensures room { IsSome self.new.shown → self.old.room ≤ self.new.room }
     {
         let key = Key::new();
         let showing = Showing {

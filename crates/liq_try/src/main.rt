@@ -10,7 +10,7 @@ use std::io;
 use std::process::ExitCode;
 
 fn main(rt: HostRuntime) -> ExitCode {
-    let mut out = StdSink::new(standard_output(&rt, io::writer(&rt)));
+    let mut out = StdSink::new(standard_output(&mut Outside::new(&rt), io::writer(&rt)));
     let mut input = StdSource::new(rt.reader());
     let (left, right) = disks(&mut Outside::new(&rt), rt.alloc());
     let ending = run_on(rt.alloc(), &mut input, &mut out, left, right);

@@ -3,6 +3,7 @@
 mod again;
 mod checks;
 mod commands;
+mod devices;
 mod followed;
 mod full_journal;
 mod hints;

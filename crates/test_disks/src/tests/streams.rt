@@ -115,7 +115,8 @@ fn tells_of(left: MemoryDisk, right: MemoryDisk, mut sink: MemorySink) -> bool {
     sink.tells()
 }
 
-// Where memory is ample it tells what it was shown, behind a write that failed too.
+// Where memory is ample, or it has room, it tells what it was shown, behind a write that failed
+// too.
 #[test]
 fn a_memory_sink_tells_what_it_was_shown(rt: HostRuntime) -> Result<(), Fail> {
     let alloc = rt.alloc();
@@ -123,6 +124,9 @@ fn a_memory_sink_tells_what_it_was_shown(rt: HostRuntime) -> Result<(), Fail> {
     let sink = MemorySink::new(alloc, failing);
     let is_told = tells_of(no_bytes(alloc), no_bytes(alloc), sink);
     shows(&rt, "a sink tells what it was shown", is_told);
+    let roomy = MemorySink::with_room(alloc, 2, Vec::new(alloc))?;
+    let is_told = tells_of(no_bytes(alloc), no_bytes(alloc), roomy);
+    shows(&rt, "a sink with room tells it", is_told);
     Ok(())
 }
 

@@ -81,6 +81,56 @@ fn saves_are_loaded(rt: HostRuntime) {
     shows(&rt, "saves", is_right);
 }
 
+/// The same save with another last number of its only client, whose row is the last of the
+/// checkpoint: 61 bytes, of which the number follows the client's four.
+fn with_last(alloc: Global, saved: &[u8], last: u64) -> Result<Vec<u8>, NoMemory> {
+    let mut bytes = Vec::new(alloc);
+    let (told, _) = saved.split_at(saved.len().saturating_sub(32));
+    let (front, row) = told.split_at(told.len().saturating_sub(61));
+    if row.len() < 61 {
+        return Ok(bytes);
+    }
+    bytes.extend_from_slice(front)?;
+    bytes.extend_from_slice(&row[..4])?;
+    bytes.extend_from_slice(&last.to_be_bytes())?;
+    bytes.extend_from_slice(&row[12..])?;
+    let digest = Sha256::digest(bytes.as_slice());
+    bytes.extend_from_slice(&digest)?;
+    Ok(bytes)
+}
+
+/// Under which numbers three calls of a client are answered that has used all but one, and whether
+/// the first is accepted and the others are out of turn.
+fn with_one_left(alloc: Global) -> ([u64; 3], bool) {
+    let (_, saved) = saved_after(alloc, &TWO_TROVES);
+    let Ok(bytes) = with_last(alloc, &saved, u64::MAX - 1) else {
+        return ([0; 3], false);
+    };
+    let Ok(mut market) = Market::load(alloc, &bytes) else {
+        return ([0; 3], false);
+    };
+    let (last, accepted) = market.answer_next(1, &Call::Fund(1, 1));
+    let (none, refused) = market.answer_next(1, &Call::Fund(1, 2));
+    let (again, same) = market.answer_next(1, &Call::Fund(1, 1));
+    let is_right = matches!(accepted, Ok(Reply::Said(_)))
+        && is_used_up(&refused)
+        && is_used_up(&same);
+    ([last, none, again], is_right)
+}
+
+fn is_used_up(answer: &Result<Reply, NoMemory>) -> bool {
+    match answer {
+        Ok(reply) => *reply == Reply::No(Refusal::OutOfTurn { expected: u64::MAX }),
+        Err(_) => false,
+    }
+}
+
+#[test]
+fn behind_the_greatest_number_there_is_none(rt: HostRuntime) {
+    let is_right = with_one_left(rt.alloc()) == ([u64::MAX, 0, 0], true);
+    shows(&rt, "numbers that are used up", is_right);
+}
+
 /// A save of 1,000,000 records: the market takes no command until a rotation, as one that has
 /// carried out so many.
 fn with_the_most(alloc: Global) -> [bool; 4] {

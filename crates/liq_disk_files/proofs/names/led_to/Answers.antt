@@ -1,6 +1,7 @@
 use Rattle.std.proofs.Common.{refl}
 use Rattle.liq_disk_files.specs.Names.{text_of}
 use Rattle.liq_disk_files.specs.Opened.{here}
+use Rattle.liq_disk_files.proofs.Causes.{saw_link, saw_none}
 use Rattle.liq_disk_files.proofs.Links.{saw}
 use Rattle.liq_disk_files.proofs.Moments.{one, onward, was_last}
 use Rattle.liq_disk_files.proofs.names.led_to.Goals as goal
@@ -32,3 +33,13 @@ returns-clause-leads g c = λ t.
       is_no_link = c.if-seen.false;
       same = refl;
     }
+
+pub returns-in_err-seen-clause-lost : goal.returns-in_err-seen-clause-lost
+returns-in_err-seen-clause-lost g c = λ t none. saw_none (c.see.ensures t) c.in_err-seen.was
+
+pub returns-in_err-ok-clause-lost : goal.returns-in_err-ok-clause-lost
+returns-in_err-ok-clause-lost g c = λ t none. saw_link (c.see.ensures t) c.in_ok-seen.was c.if-seen.true
+
+pub returns-then-seen-clause-lost : goal.returns-then-seen-clause-lost
+returns-then-seen-clause-lost g c = λ t none.
+    c.behind_links.ensures.lost t (saw_link (c.see.ensures t) c.in_ok-seen.was c.if-seen.true) none
