@@ -25,7 +25,7 @@ use Rattle.liq_core.proofs.Alike.{core_alike}
 use Rattle.liq_disk_pair.proofs.Alike.{settled_alike}
 use Rattle.liq_disk_pair.proofs.Around.{kept_around, settled_after}
 use Rattle.liq_disk_pair.proofs.Hints.{heard_after, heard_ruling}
-use Rattle.liq_disk_records.specs.Bodies.{read_back}
+use Rattle.liq_disk_pair.specs.Commands.{read_back}
 use Rattle.liq_store.specs.Calling.{WritesOn}
 use Rattle.liq_store.specs.Keeping.{IsAtRest, IsKeptAround, IsKeptNear}
 use Rattle.liq_store.specs.Rotating.{is_rotation}

@@ -25,7 +25,7 @@ use Rattle.liq_disk_pair.specs.declared.side.Side.TheVariants.{Left, Right}
 use Rattle.liq_disk_pair.specs.Kept.{IsKept}
 use Rattle.liq_disk_pair.specs.Sides.{has_odd, on, other}
 use Rattle.liq_disk_pair.proofs.Keeping.{settled_kept}
-use Rattle.liq_disk_records.specs.Bodies.{read_back}
+use Rattle.liq_disk_pair.specs.Commands.{read_back}
 use Rattle.liq_store.specs.Calling.{WritesOn}
 use Rattle.liq_store.specs.Keeping.{IsKeptAround}
 use Rattle.liq_rule_step.specs.Memory.{IsAccepted}

@@ -36,7 +36,7 @@ use Rattle.liq_disk_pair.proofs.Hints.{heard_after, heard_ruling}
 use Rattle.liq_disk_pair.proofs.Keeping.{LeadsTo, leads_generation, none_alike, settled_kept, settled_leads, settled_parity}
 use Rattle.liq_disk_pair.proofs.Past.{generation_counts, left_of, left_whole, of_alike, of_halted, of_longer, of_same, opening_of, opening_whole, opening_with, prefix_whole, rotations_failed, rotations_halted, rotations_longer, rotations_more, run_folds}
 use Rattle.liq_disk_pair.proofs.Standings.{pair_ends}
-use Rattle.liq_disk_records.specs.Bodies.{read_back}
+use Rattle.liq_disk_pair.specs.Commands.{read_back}
 use Rattle.liq_store.specs.Answering.{Answers}
 use Rattle.liq_store.specs.Calling.{WritesOn}
 use Rattle.liq_store.specs.Keeping.{IsAtRest, IsGoing, IsInOrder, IsKeptAround, LeavesPairs}

@@ -27,7 +27,7 @@ use Rattle.liq_disk_pair.specs.Sides.{has_odd, on, other}
 use Rattle.liq_core.proofs.Alike.{core_alike}
 use Rattle.liq_disk_pair.proofs.Alike.{settled_alike}
 use Rattle.liq_disk_pair.proofs.Turning.{rotation_kept, rotation_settled}
-use Rattle.liq_disk_records.specs.Bodies.{read_back}
+use Rattle.liq_disk_pair.specs.Commands.{read_back}
 use Rattle.liq_store.specs.Calling.{WritesOn}
 use Rattle.liq_store.specs.Keeping.{IsAtRest, IsKeptAround, IsKeptNear}
 use Rattle.liq_store.specs.Rotating.{is_rotation, rotation_of, side_after, start_after}
