@@ -10,8 +10,8 @@ use Rattle.liq_types.proofs.Lookups.{at-put_same}
 use Rattle.liq_rule_step.specs.Image.{image}
 use Rattle.liq_rule_step.specs.Step.{Allowed, after, done_of, effect, ruling}
 use Rattle.liq_rule_step.proofs.Allowed.{allowed_number}
-use Rattle.liq_disk_pair.specs.Kept.{IsKept}
-use Rattle.liq_disk_pair.specs.Pair.{state_on}
+use Rattle.liq_disk_pair.specs.Kept.{IsKeptWith}
+use Rattle.liq_disk_pair.specs.Pair.{commands_on, state_on}
 use Rattle.liq_disk_pair.specs.Unfinished.{HoldsUnfinished, IsRecovered}
 
 -- what was unfinished is accepted
@@ -20,7 +20,7 @@ unfinished_is_allowed l r s c (side, inl unfinished) = unfinished.record_is.allo
 unfinished_is_allowed l r s c (side, inr rotated) = rotated.rotation.rotation.allowed
 
 -- a command that is accepted changes the image, since its client's last number goes up
-accepted_changes : (s : State) (c : Command) → ruling s c ≡ Allowed → image s ≡ image (after s c) → ⊥
+pub accepted_changes : (s : State) (c : Command) → ruling s c ≡ Allowed → image s ≡ image (after s c) → ⊥
 accepted_changes s c allowed same =
     let kept : Client = record { last = c.number; kept = done_of s c.call } in
     let stays : (client_of s c.client).last ≡ (client_of (after s c) c.client).last =
@@ -30,10 +30,11 @@ accepted_changes s c allowed same =
     omega (arith, stays, goes, allowed_number s c allowed)
 
 -- where they still stand for the state, the command that was unfinished was not made
-pub still_kept : (l r a b : List ℕ) (s : State) → state_on a b ≡ Ok s → IsRecovered l r s a b → IsKept a b s
+pub still_kept : (l r a b : List ℕ) (s : State) → state_on a b ≡ Ok s → IsRecovered l r s a b
+    → IsKeptWith a b s (commands_on l r)
 still_kept l r a b s is (inl kept) = kept
 still_kept l r a b s is (inr more) =
-    let stands = more.2.stands in
+    let stands = more.2.kept.stands in
     let here : stands.state ≡ s = cc (stands.is, is) in
     absurd (accepted_changes s more.0 (unfinished_is_allowed l r s more.0 more.1) (sym (ap image here)
     ∙ stands.same.image))

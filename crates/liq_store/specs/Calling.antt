@@ -6,18 +6,16 @@ use Rattle.liq_types.specs.declared.requests.Command.{Command}
 use Rattle.liq_types.specs.declared.requests.Request.{Request}
 use Rattle.liq_types.specs.declared.requests.Request.TheVariants.{Do}
 use Rattle.liq_types.specs.declared.replies.Answer.{Answer}
-use Rattle.liq_types.specs.declared.replies.Answer.TheVariants as answered
-use Rattle.liq_types.specs.declared.replies.Reply.{Reply}
+use Rattle.liq_types.specs.declared.replies.Answer.TheVariants.{NoMemory, Reply}
 use Rattle.liq_types.specs.State.{State}
 use Rattle.liq_core.specs.Core.{StandsFor}
 use Rattle.liq_journal.specs.Crash.{BeforeOrAfter, CreateLeaves}
 use Rattle.liq_journal.specs.Written.{Open, Written, found_on}
-use Rattle.liq_disk_pair.specs.Commands.{kept_behind, read_back}
+use Rattle.liq_disk_pair.specs.Commands.{read_back}
 use Rattle.liq_disk_pair.specs.Pair.{commands_on}
 use Rattle.liq_disk_pair.specs.Sides.{beside, has_odd, on, other}
 use Rattle.liq_store.specs.Keeping.{IsKeptAround, LeavesPairs}
 use Rattle.liq_rule_step.specs.Memory.{IsAccepted}
-use Rattle.liq_rule_step.specs.Step.{newly_accepted}
 use Rattle.liq_store.specs.Rotating.{is_rotation, rotation_of, side_after, start_after}
 use Rattle.liq_store.specs.Stored.{Stored, disk_beside, taken_disk}
 
@@ -25,7 +23,7 @@ use Rattle.liq_store.specs.Stored.{Stored, disk_beside, taken_disk}
 -- on the disk that is taken.
 abbrev pub AppendsOnce : {D : Type 0} → (D → DiskAt) → Stored D → Request → Answer → Stored D
     → Type 0
-AppendsOnce at old request (answered.Reply reply) new =
+AppendsOnce at old request (Reply reply) new =
     (s : State) → StandsFor old.core s → IsAccepted s request → is_rotation s request ≡ false
     → IsLater at 4 (taken_disk old) (taken_disk new)
 AppendsOnce at old request _ new = Unit {0}
@@ -47,7 +45,7 @@ pub record WritesOn {D : Type 0} (at : D → DiskAt) (old : Stored D) (request :
   pub unwritten :
       (s : State) → StandsFor old.core s → (IsAccepted s request → ⊥)
       → (new.left ≡ old.left) × (new.right ≡ old.right)
-  pub no_memory : answer ≡ answered.NoMemory → (new.left ≡ old.left) × (new.right ≡ old.right)
+  pub no_memory : answer ≡ NoMemory → (new.left ≡ old.left) × (new.right ≡ old.right)
   -- what a stop in it may leave of the disk that was taken
   pub written :
       old.stopped ≡ None → (held : List ℕ) (w : Written) (c : Command)
@@ -61,18 +59,12 @@ pub record WritesOn {D : Type 0} (at : D → DiskAt) (old : Stored D) (request :
       → (at (disk_beside old)).seen ≡ Some held → request ≡ Do c → is_rotation s request ≡ true
       → LeavesOnly at (disk_beside old) (beside old.side new.left new.right)
       (CreateLeaves (has_odd (other old.side)) held (rotation_of s c))
-  -- What a stop leaves of both: they are kept for the state before the call or after it, and each
-  -- time its commands stand on them.
+  -- what a stop leaves of both: they are kept for the state before the call or after it, and the
+  -- commands that lead there stand on them
   pub kept :
       old.stopped ≡ None → (l r : List ℕ) (s : State)
       → (at old.left).seen ≡ Some l → (at old.right).seen ≡ Some r → StandsFor old.core s
       → LeavesPairs at old.left old.right new.left new.right (IsKeptAround s (commands_on l r) request)
-  -- after a reply the command stands on them, where it is accepted
-  pub holds :
-      old.stopped ≡ None → (reply : Reply) → answer ≡ answered.Reply reply → (l r a b : List ℕ)
-      (s : State) → (at old.left).seen ≡ Some l → (at old.right).seen ≡ Some r
-      → (at new.left).seen ≡ Some a → (at new.right).seen ≡ Some b → StandsFor old.core s
-      → commands_on a b ≡ kept_behind (commands_on l r) (newly_accepted s request)
   pub left_telling : IsSome (at new.left).seen ↔ IsSome (at old.left).seen
   pub right_telling : IsSome (at new.right).seen ↔ IsSome (at old.right).seen
   pub left_time : GoesOn at old.left new.left
