@@ -12,17 +12,15 @@ use Rattle.liq_journal.specs.Crash.{CreateLeaves, IsClosed, beginning}
 use Rattle.liq_journal.specs.Opened.{CrashOfOpen, IsUnshut, OpenLeaves, ReadsOfOpen}
 use Rattle.liq_journal.specs.Written.{Absent, found_on}
 use Rattle.liq_journal.specs.declared.damage.Damage.{Damage}
-use Rattle.liq_disk_pair.specs.declared.side.Side.{Side}
 use Rattle.liq_disk_pair.specs.declared.side.Side.TheVariants.{Left, Right}
-use Rattle.liq_disk_pair.specs.Pair.{Faulty, commands_on, standing, state_on}
+use Rattle.liq_disk_pair.specs.Pair.{Faulty, standing, state_on}
 use Rattle.liq_disk_pair.specs.Kept.{IsFirst, IsKept}
 use Rattle.liq_disk_pair.specs.Unfinished.{IsRecovered, LeftLeaves}
 use Rattle.liq_disk_pair.proofs.Beginning.{created_from, left_faulty, right_faulty, right_faulty_beside}
 use Rattle.liq_disk_pair.proofs.Commands.{commands_alike}
 use Rattle.liq_disk_pair.proofs.FirstPlace.{closed_settled}
-use Rattle.liq_disk_pair.proofs.KeptWith.{commands_none, first_commands}
 use Rattle.liq_disk_pair.proofs.Recovering.{recovered}
-use Rattle.liq_disk_pair.proofs.Standings.{standing_absent, standing_open, state_alike, state_by}
+use Rattle.liq_disk_pair.proofs.Standings.{standing_absent, standing_open, state_alike}
 use Rattle.liq_store.specs.declared.answers.StoreFault.{StoreFault}
 use Rattle.liq_store.specs.declared.answers.StoreWhy.{StoreWhy}
 use Rattle.liq_store.specs.declared.answers.StoreWhy.TheVariants as why
@@ -40,7 +38,6 @@ use Rattle.liq_store.specs.Opening.{IsNotOpened, IsWhyOf, OnlyOpens, OpensOn, le
 use Rattle.liq_store.specs.Standing.{CountsStand, IsCounted, IsFaultless, IsFoundOn, IsLeftOn, IsWhyOn, OnlyShuts, disk_in}
 use Rattle.liq_store.specs.Stored.{Stored}
 use Rattle.liq_store.proofs.OneDisk.{told_too}
-use Rattle.liq_store.proofs.Shutting.{shuts_alike}
 
 -- All that is said of one disk that was opened and tested, whole: what `stand` ensures of it.
 abbrev pub StandsAs : {D : Type 0} (at : D → DiskAt) (odd : Bool) (old : D) (result : Result (Stood D) (StandFault D))
@@ -496,17 +493,3 @@ module _ {D : Type 0} (at : D → DiskAt) where
     sr.shut tt r b tr (ap (λ (d : D). (at d).seen) (sym (same_disk at stood_right a_right same)) ∙ tb),
     left_shuts left right stood_left stood_right a_left sl sr begins l r a tl tr ta,
   )
-
--- ---- what they stand for then
-
--- the same commands lead there
-pub opens_commands : (l r a b : List ℕ) → OnlyOpens l r a b → commands_on a b ≡ commands_on l r
-opens_commands l r a b (right, inl left) = commands_alike l r a b (shuts_alike true l a left) (shuts_alike false r b right)
-opens_commands l r a b (right, inr (left_none, right_none, created)) =
-    first_commands a b created right_still ∙ none
-  where
-    right_still : found_on false b ≡ Absent
-    right_still = shuts_alike false r b right ∙ right_none
-
-    none : [] ≡ commands_on l r
-    none = sym (commands_none l r left_none right_none)

@@ -104,6 +104,19 @@ module _ {D : Type 0} (at : D → DiskAt) where
   pair_by Left left right now_left now_right P leaves x y lx ly = leaves x y lx ly
   pair_by Right left right now_left now_right P leaves x y lx ly = leaves y x ly lx
 
+-- an opening leaves the commands that lead to the state
+pub opened_holds : {D : Type 0} (at : D → DiskAt) (l r : List ℕ) (s : State) (left right : D) (store : Stored D) → (at left).seen ≡ Some l
+    → (at right).seen ≡ Some r → OpensOn at left right store → IsInOrder at store → StandsFor store.core s
+    → (a b : List ℕ) → (at store.left).seen ≡ Some a → (at store.right).seen ≡ Some b
+    → commands_on a b ≡ commands_on l r
+opened_holds at l r s left right store told_left told_right opened order stands a b ta tb =
+    let settled = (going_of at store opened.going order).settled a b ta tb s stands in
+    let holds = opened.commands l r (on store.side a b) told_left told_right
+    (on_told at store.side store.left store.right a b ta tb) in
+    let both : Open settled.written ≡ Open holds.written = sym settled.open_on.found ∙ holds.found in
+    let one : settled.written ≡ holds.written = cc (both) in
+    settled_commands store.side a b s settled ∙ ap (λ (w : Written). w.commands) one ∙ holds.are
+
 -- ---- what was accepted
 
 -- a request that isn't accepted adds no command
@@ -815,19 +828,6 @@ module _ {D : Type 0} (at : D → DiskAt)
       aside = here_aside;
     }
 
-  -- an opening leaves the commands that lead to the state
-  pub opened_holds : (l r : List ℕ) (s : State) (left right : D) (store : Stored D) → (at left).seen ≡ Some l
-      → (at right).seen ≡ Some r → OpensOn at left right store → IsInOrder at store → StandsFor store.core s
-      → (a b : List ℕ) → (at store.left).seen ≡ Some a → (at store.right).seen ≡ Some b
-      → commands_on a b ≡ commands_on l r
-  opened_holds l r s left right store told_left told_right opened order stands a b ta tb =
-      let settled = (going_of at store opened.going order).settled a b ta tb s stands in
-      let holds = opened.commands l r (on store.side a b) told_left told_right
-      (on_told at store.side store.left store.right a b ta tb) in
-      let both : Open settled.written ≡ Open holds.written = sym settled.open_on.found ∙ holds.found in
-      let one : settled.written ≡ holds.written = cc (both) in
-      settled_commands store.side a b s settled ∙ ap (λ (w : Written). w.commands) one ∙ holds.are
-
   -- With an opening's store, whatever was pending before, and whatever its disks were kept for: nothing is pending, and
   -- what both tell is kept for the state for which they stood.
   module _ (l r : List ℕ) (start : State) (left right : D) (store : Stored D)
@@ -958,7 +958,7 @@ module _ {D : Type 0} (at : D → DiskAt)
       right_tells = opened_right_tells;
       later = later;
       leaves = opening_leaves l r start left right store.left store.right kept left_leaves right_leaves NoFault;
-      holds = opened_holds l r start left right store told_left told_right opened order opened_stands;
+      holds = opened_holds at l r start left right store told_left told_right opened order opened_stands;
       aside = λ held image told stood. opened_aside store.side refl held image told stood;
     }
       where

@@ -1,5 +1,5 @@
 -- What an opening leaves that made no step is kept for what it was kept for.
-use Rattle.std.proofs.Common.{◌≡◌, List, ℕ, Option, Ok, inl, inr, sym, ap, ◌∙◌, arith}
+use Rattle.std.proofs.Common.{◌≡◌, List, [], ℕ, Option, Ok, inl, inr, true, false, sym, ap, ◌∙◌, arith}
 use Rattle.std.specs.Prelude.{unwrap_or}
 use Rattle.liq_types.specs.declared.figures.Client.{Client}
 use Rattle.liq_types.specs.declared.requests.Command.{Command}
@@ -13,6 +13,11 @@ use Rattle.liq_rule_step.proofs.Allowed.{allowed_number}
 use Rattle.liq_disk_pair.specs.Kept.{IsKeptWith}
 use Rattle.liq_disk_pair.specs.Pair.{commands_on, state_on}
 use Rattle.liq_disk_pair.specs.Unfinished.{HoldsUnfinished, IsRecovered}
+use Rattle.liq_disk_pair.proofs.Commands.{commands_alike}
+use Rattle.liq_disk_pair.proofs.KeptWith.{commands_none, first_commands}
+use Rattle.liq_journal.specs.Written.{Absent, found_on}
+use Rattle.liq_store.specs.Opening.{OnlyOpens}
+use Rattle.liq_store.proofs.Shutting.{shuts_alike}
 
 -- what was unfinished is accepted
 pub unfinished_is_allowed : (l r : List ℕ) (s : State) (c : Command) → HoldsUnfinished l r s c → ruling s c ≡ Allowed
@@ -38,3 +43,17 @@ still_kept l r a b s is (inr more) =
     let here : stands.state ≡ s = cc (stands.is, is) in
     absurd (accepted_changes s more.0 (unfinished_is_allowed l r s more.0 more.1) (sym (ap image here)
     ∙ stands.same.image))
+
+-- ---- what an opening leaves that met no fault
+
+-- the same commands lead there
+pub opens_commands : (l r a b : List ℕ) → OnlyOpens l r a b → commands_on a b ≡ commands_on l r
+opens_commands l r a b (right, inl left) = commands_alike l r a b (shuts_alike true l a left) (shuts_alike false r b right)
+opens_commands l r a b (right, inr (left_none, right_none, created)) =
+    first_commands a b created right_still ∙ none
+  where
+    right_still : found_on false b ≡ Absent
+    right_still = shuts_alike false r b right ∙ right_none
+
+    none : [] ≡ commands_on l r
+    none = sym (commands_none l r left_none right_none)

@@ -90,7 +90,7 @@ returns-in-Err-open-clause-damaged g c l r told_l told_r side damage is =
     let opens = c.in-Err-open.ensures in
     unopened_damaged g.D.Disk.at c.args.left c.args.right l r side damage told_l told_r is fault.left fault.right
     fault.why opens.not_opened (opens.left_leaves l r told_l told_r) (opens.right_leaves r told_r)
-    (λ other a b. opens.damaged other l r a b (side, damage) told_l told_r is)
+    (λ other a b. opens.shuts other l r a b told_l told_r)
 
 pub returns-in-Err-clause-damaged : goal.returns-in-Err-clause-damaged
 returns-in-Err-clause-damaged g c l r told_l told_r side damage is =
