@@ -71,12 +71,10 @@ module _ {D : Type 0} (at : D → DiskAt) where
 
     pub unopened_by : (why_is : StoreWhy) (fl fr : D)
         → IsNotOpened at left right (record { left = fl; right = fr; why = why_is })
-        → (why_is ≢ why.DiskFault → (m n a b : List ℕ) → (at left).seen ≡ Some m → (at right).seen ≡ Some n
-        → (at fl).seen ≡ Some a → (at fr).seen ≡ Some b → OnlyOpens m n a b)
         → (at left).seen ≡ Some l → (at right).seen ≡ Some r → state_on l r ≡ Ok start
         → BeginsNone at left right l r start why_is fl fr
         → GivesBack at left right start (Err (halt_of why_is)) told l r told before before shown shown fl fr
-    unopened_by why.DiskFault fl fr h shuts told_l told_r is none =
+    unopened_by why.DiskFault fl fr h told_l told_r is none =
         record {
           requests = [];
           few = omega arith;
@@ -91,9 +89,9 @@ module _ {D : Type 0} (at : D → DiskAt) where
               record { fault = so.fault; fault_is = so.fault_is; images = so.images; rests = so.rests };
           answered = λ last. none_answered why.DiskFault InOpening fl fr last none;
         }
-    unopened_by (why.Damaged side damage) fl fr h shuts told_l told_r is none = absurd
+    unopened_by (why.Damaged side damage) fl fr h told_l told_r is none = absurd
         (cc (h.is_why l r told_l told_r, is))
-    unopened_by why.NoMemory fl fr h shuts told_l told_r is none =
+    unopened_by why.NoMemory fl fr h told_l told_r is none =
         record {
           requests = [];
           few = omega arith;
@@ -102,7 +100,12 @@ module _ {D : Type 0} (at : D → DiskAt) where
           written = writes_nothing before;
           disks = standing_still at fl fr l r told told start refl is
               (unopened at left right (record { left = fl; right = fr; why = why.NoMemory }) h (λ e. cc)
-              (λ m n a b told_m told_n. shuts (λ e. cc) m n a b told_m told_n) l r start told_l told_r is);
+              (λ m n a b told_m told_n told_a told_b.
+              let left_is : l ≡ m = cc (sym told_l ∙ told_m) in
+              let right_is : r ≡ n = cc (sym told_r ∙ told_n) in
+              subst (λ (x : List ℕ). OnlyOpens x n a b) left_is
+              (subst (λ (y : List ℕ). OnlyOpens l y a b) right_is (none.opens (λ e. cc) a b told_a told_b)))
+              l r start told_l told_r is);
           fault = NoFault;
           fault_is = refl;
           past = λ only_l only_r kept. let so = none.past only_l only_r kept in

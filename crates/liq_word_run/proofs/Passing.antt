@@ -34,7 +34,7 @@ use Rattle.liq_store.specs.Opening.{OpensOn}
 use Rattle.liq_store.specs.Past.{Past}
 use Rattle.liq_store.specs.Stored.{Stored}
 use Rattle.liq_store.proofs.Appending.{behind_newly, step_is_after}
-use Rattle.liq_store.proofs.Past.{begins, cut, ends_kept, goes_on, opened_for, opened_holds, opened_rests, stops, stops_kept, waits, with_changes}
+use Rattle.liq_store.proofs.Past.{begins, cut, ends_kept, goes_on, opened_holds, opened_rests, stops, stops_kept, waits, with_changes}
 use Rattle.liq_word_exit.specs.declared.halts.Halt.{Halt}
 use Rattle.liq_word_exit.specs.declared.halts.Halt.TheVariants.{BadLine, ReadFault, WriteFault, DiskFault, Damaged, DamagedInput, NoMemory, Limit, Rotated}
 use Rattle.liq_word_run.specs.Calls.{GoOn}
@@ -354,8 +354,7 @@ module _ {D : Type 0} (at : D → DiskAt)
         left_is = here.2;
         right_is = here.3;
         holds = opened_holds at l r start old_left old_right store told_l told_r opened order_first
-            (opened_for at stays l r start old_left old_right store told_l told_r found left_tells right_tells opened
-            order_first) here.0 here.1 here.2 here.3;
+            here.6.stands here.0 here.1 here.2 here.3;
         left_rests = here.4;
         right_rests = here.5;
         begun = record {
@@ -391,6 +390,7 @@ module _ {D : Type 0} (at : D → DiskAt)
     left_time = omega arith;
     right_time = omega arith;
     past = untouched_past at stays left right l r start _ refl told_l told_r;
+    opens = λ other a b told_a told_b. (inl (cc (sym told_b ∙ told_r)), inl (inl (cc (sym told_a ∙ told_l))));
     recovers = λ only_l only_r kept a b at_a at_b.
         inl (subst (λ (x : List ℕ). IsKeptWith x b start (commands_on l r)) (sym (only_l a (now_only left a at_a)))
         (subst (λ (y : List ℕ). IsKeptWith l y start (commands_on l r)) (sym (only_r b (now_only right b at_b)))

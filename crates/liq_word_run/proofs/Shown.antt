@@ -154,12 +154,14 @@ module _ (begun : List Command) (start : State) (before : ℕ) where
     inr refl,
     inr (
       refl,
-      failed.0,
-      failed.1,
-      failed.2,
-      subst (λ (rs : List Request).
-          IsKeptWith a b (after (run start requests).0 failed.0) (kept_behind (held_behind rs) (failed.0 ∷ [])))
-          (sym (take_all requests)) failed.3,
+      (
+        failed.0,
+        failed.1,
+        failed.2,
+        subst (λ (rs : List Request).
+            IsKeptWith a b (after (run start requests).0 failed.0) (kept_behind (held_behind rs) (failed.0 ∷ [])))
+            (sym (take_all requests)) failed.3,
+      ),
     ),
   )
 

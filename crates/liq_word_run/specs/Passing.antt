@@ -1,6 +1,6 @@
 -- What a crash at some moment may have left of the disks of a run that is on its way, and what its
 -- sink was shown of them.
-use Rattle.std.specs.Prelude.{ℕ, ◌≡◌, ◌≤◌, ◌+◌, List, [], ◌∷◌, ◌++◌, length, take, Option, Some, Result, Ok, Err}
+use Rattle.std.specs.Prelude.{ℕ, ◌≡◌, ◌≢◌, ◌≤◌, ◌+◌, List, [], ◌∷◌, ◌++◌, length, take, Option, Some, Result, Ok, Err}
 use Rattle.liq_outside.specs.At.{DiskAt}
 use Rattle.liq_outside.specs.declared.showing.Showing.{Showing}
 use Rattle.liq_outside.specs.Disk.{LeftNow, Only}
@@ -17,8 +17,10 @@ use Rattle.liq_disk_pair.specs.Past.{AtCommand, Fault, KeptAtEnd, LeavesPast}
 use Rattle.liq_disk_pair.specs.Sides.{on}
 use Rattle.liq_disk_pair.specs.Unfinished.{IsRecovered}
 use Rattle.liq_store.specs.declared.answers.StoreWhy.{StoreWhy}
+use Rattle.liq_store.specs.declared.answers.StoreWhy.TheVariants as whys
 use Rattle.liq_store.specs.Keeping.{IsInOrder, LeavesPairs}
 use Rattle.liq_store.specs.Leaving.{RestAtEnd}
+use Rattle.liq_store.specs.Opening.{OnlyOpens}
 use Rattle.liq_store.specs.Past.{Past}
 use Rattle.liq_store.specs.Stored.{Stored}
 use Rattle.liq_word_exit.specs.declared.halts.Halt.{Halt}
@@ -203,4 +205,8 @@ module _ {D : Type 0} (at : D → DiskAt) where
     pub past :
         LeavesOfRun at old_left old_right (IsFaultOfTelling (Err (halt_of why))) l r start []
         left right
+    -- where no disk met a fault
+    pub opens :
+        why ≢ whys.DiskFault → (a b : List ℕ) → (at left).seen ≡ Some a → (at right).seen ≡ Some b
+        → OnlyOpens l r a b
     pub recovers : Recovers old_left old_right l r start left right

@@ -37,6 +37,7 @@ returns-in-Err-open-clause-begins_none g c l r start told_l told_r is =
       past = unopened_past g.D.Disk.at g.met.D.Disk.seen_may_stay fault.why fault.left fault.right c.args.left
           c.args.right opens.not_opened opens.left_time opens.right_time opens.rests opens.recovers opens.left_leaves
           opens.right_leaves l r start told_l told_r is;
+      opens = λ other a b told_a told_b. opens.shuts other l r a b told_l told_r told_a told_b;
       recovers = opens.recovers l r start told_l told_r;
     }
 
