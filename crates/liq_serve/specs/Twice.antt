@@ -14,8 +14,10 @@ use Rattle.liq_types.specs.State.{State}
 use Rattle.liq_rule_step.specs.Image.{IsSameState}
 use Rattle.liq_rule_step.specs.Step as rule
 use Rattle.liq_rule_step.specs.Step.{Allowed, ruling, run}
-use Rattle.liq_disk_pair.specs.Kept.{IsKept}
-use Rattle.liq_disk_pair.specs.Pair.{state_on}
+use Rattle.liq_disk_pair.specs.Commands.{kept_behind}
+use Rattle.liq_disk_pair.specs.Kept.{IsKept, IsKeptWith}
+use Rattle.liq_disk_pair.specs.Pair.{commands_on, state_on}
+use Rattle.liq_disk_pair.specs.Past.{held_at_end}
 use Rattle.liq_disk_pair.specs.Unfinished.{HoldsUnfinished}
 use Rattle.liq_word_exit.specs.declared.halts.Halt.TheVariants.{DiskFault}
 use Rattle.liq_word_exit.specs.Requests.{IsNext}
@@ -35,14 +37,16 @@ AreMore told l r start requests end (c ∷ []) = (end ≡ Err DiskFault)
     ⊎ ((requests ≡ []) × HoldsUnfinished l r start c))
 AreMore told l r start requests end (c ∷ more) = ⊥
 
--- Two disks of this content are kept for the state after the requests and after these: so the next
--- run begins there, and what was acknowledged is in it.
+-- Two disks of this content are kept for the state after the requests and after these, and the
+-- commands that were accepted stand on them: so the next run begins there, and what was acknowledged
+-- is in it.
 abbrev pub BeginsBehind :
     Option (List ℕ) → List ℕ → List ℕ → State → List Request → End → List ℕ
     → List ℕ → Type 0
 BeginsBehind told l r start requests end a b =
     (more : List Command) × AreMore told l r start requests end more
-    × IsKept a b (fold rule.after (run start requests).0 more)
+    × IsKeptWith a b (fold rule.after (run start requests).0 more)
+    (kept_behind (held_at_end l r start requests) more)
 
 -- The functions are those of `Ends`.
 module _
@@ -56,8 +60,8 @@ module _
       × LeftNow disk_at after.left a × LeftNow disk_at after.right b)
 
   -- Two calls, both of `run`. The second begins in the state to which the first one's requests
-  -- lead, or one command further, which the first may have left unfinished. Its own requests lead
-  -- on from there.
+  -- lead, or one command further, which the first may have left unfinished; and the commands that
+  -- lead there stand on its disks. Its own requests lead on from there.
   pub record FollowOn
       (before middle again after : Outside S K D) (status later : ℕ) (l r a b : List ℕ)
       (start : State) : Type 0 where
@@ -69,6 +73,7 @@ module _
     pub state : State
     pub is : state_on a b ≡ Ok state
     pub kept : IsKept a b state
+    pub holds : commands_on a b ≡ kept_behind (held_at_end l r start first.requests) more
     pub begins : IsSameState (fold rule.after (run start first.requests).0 more) state
     pub ending : End
     pub later_is : later ≡ status_of ending
