@@ -1,5 +1,5 @@
 -- What a call of the store leaves of a book.
-use Rattle.std.proofs.Common.{◌≡◌, ℕ, ◌+◌, ◌≤◌, ◌<◌, List, [], ◌∷◌, ◌++◌, length, Option, Some, None, Result, Ok, Err, Bool, ◌==◌, sym, refl, ap, ◌∙◌, subst, arith, length-append}
+use Rattle.std.proofs.Common.{◌≡◌, ℕ, ◌+◌, ◌≤◌, ◌<◌, List, [], ◌∷◌, ◌++◌, length, Option, Some, None, Result, Ok, Err, Bool, ◌==◌, sym, refl, ap, ◌∙◌, subst, arith, inl, inr, length-append}
 use Rattle.std.specs.Result.{MatchResult}
 use Rattle.std.specs.Prelude.{IsSome, ◌↔◌}
 use Rattle.std.specs.Option.{IsSomeAnd, option_map}
@@ -19,7 +19,8 @@ use Rattle.liq_rule_step.specs.History.{own_entries, requests_of, state_after}
 use Rattle.liq_rule_step.proofs.Histories.{legal-empty, legal-snoc, state-snoc}
 use Rattle.liq_disk_pair.specs.Past.{AtCommand}
 use Rattle.liq_disk_pair.proofs.Keeping.{settled_kept}
-use Rattle.liq_store.specs.Keeping.{IsInOrder, IsInOrderWith}
+use Rattle.liq_disk_pair.specs.Pair.{commands_on}
+use Rattle.liq_store.specs.Keeping.{IsInOrder, IsInOrderWith, IsKeptAround}
 use Rattle.liq_rule_step.specs.Memory.{IsAccepted}
 use Rattle.liq_store.specs.Stored.{Stored}
 use Rattle.liq_store.proofs.Past.{goes_on, stops, stops_kept, waits}
@@ -27,7 +28,7 @@ use Rattle.liq_types.specs.declared.entries.Entry.{Entry}
 use Rattle.liq_book.specs.Entering.{IsCalled}
 use Rattle.liq_book.specs.declared.items.Halt.{Halt}
 use Rattle.liq_book.specs.declared.items.TheConstants.{ENTRIES_MOST}
-use Rattle.liq_book.specs.Booked.{IsBook, KeepsDisks}
+use Rattle.liq_book.specs.Booked.{IsBook, IsKeptByStep, KeepsDisks}
 use Rattle.liq_book.specs.Entered.{Enters, IsTestedFirst}
 use Rattle.liq_book.specs.Origin.{GoesOnFrom, IsAtOrigin}
 use Rattle.liq_book.specs.Past.{KeepsPast, since_origin}
@@ -45,6 +46,12 @@ own_few session entries =
 pub goes : (stopped : Option ℕ) → ((sum : ℕ) → stopped ≡ Some sum → ⊥) → stopped ≡ None
 goes None some = refl
 goes (Some sum) some = absurd (some sum refl)
+
+-- what is kept with its commands is kept
+by_step : (s : State) (request : Request) (held : List Command) (a b : List ℕ) → IsKeptAround s held request a b
+    → IsKeptByStep s request a b
+by_step s request held a b (inl kept) = inl kept.kept
+by_step s request held a b (inr kept) = inr kept.kept
 
 -- only a command is accepted
 a_command : (s : State) (request : Request) → IsAccepted s request → (c : Command) × (request ≡ Do c)
@@ -183,7 +190,7 @@ module _ {D : Type 0} (at : D → DiskAt) where
               (λ l r told_left told_right.
               goes_on at may_stay (since_origin left_origin right_origin) l r base
               (requests_of entries) old new
-              (past_of old entries halt none b l r told_left told_right) ordered request reply still (c.step_is going)
+              (past_of old entries halt none b l r told_left told_right) ordered request reply still c.order (c.step_is going)
               c.disks);
         })
 
@@ -234,8 +241,9 @@ module _ {D : Type 0} (at : D → DiskAt) where
                 let before_right = value_of (at old.right).seen (c.disks.right_telling.0 (rw told_right refl)) in
                 let around = c.disks.kept going before_left.0 before_right.0 s before_left.1 before_right.1 b.state in
                 let now = λ (a b : List ℕ) (in_left : LeftNow at new.left a) (in_right : LeftNow at new.right b).
-                around a b ((at new.left).moment, c.disks.left_time.later, omega arith, in_left)
-                ((at new.right).moment, c.disks.right_time.later, omega arith, in_right) in
+                by_step s request (commands_on before_left.0 before_right.0) a b
+                (around a b ((at new.left).moment, c.disks.left_time.later, omega arith, in_left)
+                ((at new.right).moment, c.disks.right_time.later, omega arith, in_right)) in
                 (now l r (may_stay new.left l told_left) (may_stay new.right r told_right), now),
           );
           cause = rw (rw none at b.cause) at c.cause;
@@ -252,6 +260,9 @@ module _ {D : Type 0} (at : D → DiskAt) where
                 stops_kept at may_stay (since_origin left_origin right_origin) l r base
                     (requests_of entries) old new earlier ordered request failed.0 failed.1
                     (c.step_is going) c.disks,
+                λ x y told_x told_y. stops_kept at may_stay (since_origin left_origin right_origin) l r base
+                    (requests_of entries) old new earlier ordered request failed.0 failed.1
+                    (c.step_is going) c.disks x y (may_stay new.left x told_x) (may_stay new.right y told_y),
               );
         }
 

@@ -10,10 +10,12 @@ use Rattle.liq_types.specs.declared.requests.Request.{Request}
 use Rattle.liq_types.specs.State.{State}
 use Rattle.liq_core.specs.Core.{StandsFor}
 use Rattle.liq_rule_step.specs.History.{requests_of}
+use Rattle.liq_rule_step.specs.Step.{run}
 use Rattle.liq_disk_pair.specs.declared.side.Side.{Side}
 use Rattle.liq_disk_pair.specs.declared.side.Side.TheVariants.{Left, Right}
 use Rattle.liq_disk_pair.specs.Past.{NoFault}
 use Rattle.liq_disk_pair.specs.Sides.{on}
+use Rattle.liq_disk_pair.proofs.Keeping.{settled_kept}
 use Rattle.liq_store.specs.Keeping.{IsInOrder, IsInOrderWith}
 use Rattle.liq_store.specs.Stored.{Stored}
 use Rattle.liq_store.proofs.Past.{begins_at}
@@ -56,7 +58,17 @@ module _ {D : Type 0} (at : D → DiskAt) (left_origin right_origin : DiskAt) wh
   past_left base requests None store order going past = λ l r told_left told_right.
       let P : Option ℕ → Type 0 = λ o. IsInOrderWith at o store in
       let rests = subst P going order in
-      (NoFault, refl, (past l r told_left told_right).leaves, (rests.left, rests.right))
+      let here = past l r told_left told_right in (
+        NoFault,
+        refl,
+        here.leaves,
+        (rests.left, rests.right),
+        λ a b told_a told_b. record {
+          kept = settled_kept store.side a b (run base requests).0 (rests.settled a b told_a told_b
+              (run base requests).0 here.stands);
+          commands = here.holds a b told_a told_b;
+        },
+      )
   past_left base requests (Some halt) store order stopped past = past
 
   -- what the store has to tell of its list has no part in it
@@ -73,6 +85,7 @@ module _ {D : Type 0} (at : D → DiskAt) (left_origin right_origin : DiskAt) wh
         right_tells = earlier.right_tells;
         later = earlier.later;
         leaves = earlier.leaves;
+        holds = earlier.holds;
         aside = earlier.aside;
       }
   forgets_past base requests (Some halt) store changes past = past

@@ -1,15 +1,16 @@
 -- A book as contracts see it, and what holds of every book.
-use Rattle.std.specs.Prelude.{ℕ, ◌≡◌, ◌≤◌, List, length, Option, Some, None}
+use Rattle.std.specs.Prelude.{ℕ, ◌≡◌, ◌≤◌, ◌⊎◌, List, length, Option, Some, None}
 use Rattle.std.specs.Option.{option_map}
 use Rattle.liq_outside.specs.At.{DiskAt}
 use Rattle.liq_outside.specs.Disk.{LeftNow}
+use Rattle.liq_types.specs.declared.requests.Request.{Request}
 use Rattle.liq_types.specs.State.{State}
 use Rattle.liq_core.specs.Core.{StandsFor}
 use Rattle.liq_rule_step.specs.History.{IsLegal, requests_of, state_after}
 use Rattle.liq_rule_step.specs.Memory.{IsAccepted}
+use Rattle.liq_rule_step.specs.Step.{step}
 use Rattle.liq_disk_pair.specs.Kept.{IsKept}
 use Rattle.liq_store.specs.Causes.{Faults, OneRose}
-use Rattle.liq_store.specs.Keeping.{IsKeptAround}
 use Rattle.liq_store.specs.Stored.{Stored}
 use Rattle.liq_types.specs.declared.entries.Entry.{Entry}
 use Rattle.liq_book.specs.declared.items.Halt.{Halt}
@@ -27,6 +28,10 @@ pub record Booked (D : Type 0) : Type 0 where
 abbrev pub state_of_book : {D : Type 0} → State → Booked D → State
 state_of_book base book = state_after base book.entries
 
+-- kept for the state before the request, or after it
+abbrev pub IsKeptByStep : State → Request → List ℕ → List ℕ → Type 0
+IsKeptByStep s request l r = IsKept l r s ⊎ IsKept l r (step s request).0
+
 -- A count rose exactly where there is a halt, and else both are as they were.
 abbrev pub CausesHalt : Option Halt → Faults → Faults → Type 0
 CausesHalt None before after = after ≡ before
@@ -43,9 +48,9 @@ module _ {D : Type 0} (at : D → DiskAt) where
   KeepsDisks (Some halt) s store =
       IsAccepted s halt.request
       × ((l r : List ℕ) → (at store.left).seen ≡ Some l → (at store.right).seen ≡ Some r
-      → IsKeptAround s halt.request l r
+      → IsKeptByStep s halt.request l r
       × ((a b : List ℕ) → LeftNow at store.left a → LeftNow at store.right b
-      → IsKeptAround s halt.request a b))
+      → IsKeptByStep s halt.request a b))
 
 -- What holds of every book: the entries are a legal history from its base, and the store's protocol
 -- is in the state after them. A halt is there exactly where the store is stopped, with the faults

@@ -6,7 +6,7 @@ use Rattle.liq_types.specs.declared.requests.Request.TheVariants.{Do}
 use Rattle.liq_types.specs.State.{State}
 use Rattle.liq_outside.specs.At.{DiskAt}
 use Rattle.liq_disk_pair.specs.declared.side.Side.{Side}
-use Rattle.liq_disk_pair.specs.Past.{AtCommand, Fault, LeavesPast, NoFault}
+use Rattle.liq_disk_pair.specs.Past.{AtCommand, Fault, KeptAtEnd, LeavesPast, NoFault}
 use Rattle.liq_disk_pair.specs.Sides.{on}
 use Rattle.liq_store.specs.Leaving.{RestAtEnd}
 use Rattle.liq_store.specs.Past.{Past}
@@ -25,7 +25,8 @@ since_origin left right side = on side left.moment right.moment
 
 -- Where both disks told their bytes at the origin, all that a crash since then may have left of
 -- either is of a run that began with these, answered these requests from the base on, and ended
--- with the halt's fault; and so they rest now.
+-- with the halt's fault; and so they rest now. What both tell now is kept for the state then, with
+-- the commands that were accepted behind those of the origin.
 abbrev pub LeavesFrom : {D : Type 0}
     → (D → DiskAt) → (left_origin right_origin : DiskAt)
     → State → List Request → Option Halt → (left right : D) → Type 0
@@ -34,6 +35,8 @@ LeavesFrom at left_origin right_origin base requests halt left right =
     → (fault : Fault) × IsFaultOf halt fault
     × LeavesPast at (since_origin left_origin right_origin) l r base requests fault left right
     × RestAtEnd at l r base requests fault left right
+    × ((a b : List ℕ) → (at left).seen ≡ Some a → (at right).seen ≡ Some b
+    → KeptAtEnd l r base requests fault a b)
 
 -- so it is behind a halt, and before it so that the run can go on
 abbrev pub KeepsPast : {D : Type 0}

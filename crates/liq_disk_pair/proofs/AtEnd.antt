@@ -1,5 +1,5 @@
 -- The byte behind the last whole record: what any byte there leaves.
-use Rattle.std.proofs.Common.{◌≡◌, ◌⊎◌, inl, inr, ⊎_elim, ℕ, zero, suc, ◌+◌, ◌-◌, ◌<◌, ◌≤◌, List, [], ◌∷◌, length, drop, Bool, refl, sym, ◌∙◌, ap, subst, arith, length-append}
+use Rattle.std.proofs.Common.{◌≡◌, ◌⊎◌, inl, inr, ⊎_elim, ℕ, zero, suc, ◌+◌, ◌-◌, ◌<◌, ◌≤◌, List, [], ◌∷◌, length, drop, Bool, refl, sym, ◌∙◌, ap, subst, arith, length-append, length-drop}
 use Rattle.liq_types.specs.declared.requests.Command.{Command}
 use Rattle.liq_types.specs.State.{State}
 use Rattle.liq_rule_step.specs.Step.{Allowed, ruling}
@@ -10,7 +10,7 @@ use Rattle.liq_journal.specs.Records.{records}
 use Rattle.liq_journal.specs.Written.{EndsWith, Open, Written, and_then, end_of, found_on, most_records, opened, start_of}
 use Rattle.liq_journal.proofs.Appending.{held_on}
 use Rattle.liq_journal.proofs.Heading.{is_open, of_records}
-use Rattle.liq_journal.proofs.Reading.{records_few}
+use Rattle.liq_journal.proofs.Reading.{records_few, records_long}
 use Rattle.liq_disk_pair.specs.Kept.{HoldsRecord}
 use Rattle.liq_disk_pair.specs.Unfinished.{IsUnfinishedRecord}
 use Rattle.liq_disk_pair.proofs.FirstPlace.{absent_isnt_open}
@@ -37,6 +37,23 @@ found_with odd bytes w byte found inside unopened =
     (room odd bytes w found) inside
     (front_stays (end_of w) byte bytes inside)
     (λ is. unopened (sym (byte_there (end_of w) byte bytes inside) ∙ is))
+
+-- what is found reaches no further than the bytes
+ends_inside : (odd : Bool) (bytes : List ℕ) (w : Written) → found_on odd bytes ≡ Open w → end_of w ≤ length bytes
+ends_inside odd bytes w found =
+    let o = is_open odd bytes w found in
+    let counted = (of_records w.generation w.limit w.checkpoint 1 (start_of w) (records most_records
+    (drop (start_of w) bytes)) w o.behind).count in
+    let long = records_long most_records (drop (start_of w) bytes) in
+    let rest = length-drop (start_of w) bytes in
+    let begins = o.headed.long in
+    omega arith
+
+-- a gate that is shut there leaves it, too
+pub shut_found : (odd : Bool) (bytes : List ℕ) (w : Written) → found_on odd bytes ≡ Open w
+    → found_on odd (overwritten bytes (end_of w) (0 ∷ [])) ≡ Open w
+shut_found odd bytes w found =
+    found_with odd bytes w 0 found (ends_inside odd bytes w found) (λ is. absurd (omega (arith, is)))
 
 module _ (odd : Bool) (bytes : List ℕ) (w : Written) (c : Command) (pending : IsPending odd bytes w c) where
   -- there is room for it, and more

@@ -104,6 +104,12 @@ closed_with [] byte closed unshut = inl (omega arith)
 closed_with (first ∷ bytes) byte (inl short) unshut = inl short
 closed_with (first ∷ bytes) byte (inr shut) unshut = absurd (unshut (record { there = shut.0; shut = shut.1 }))
 
+-- a disk whose gate is shut stays closed, where no other byte may be written there
+pub closed_settled : (held bytes : List ℕ) → (IsUnshut held → ⊥) → SettleLeaves 0 held bytes → IsClosed bytes
+closed_settled held bytes shut (inl same) = subst (λ (l : List ℕ). IsClosed l) (sym same) (closed_where held shut)
+closed_settled held bytes shut (inr (no_gate, has)) = subst (λ (l : List ℕ). IsClosed l) (sym has.1)
+    (closed_with held has.0 (closed_where held shut) no_gate)
+
 pub unshut_no_gate : (bytes : List ℕ) → IsUnshut bytes → HasGate 0 bytes → ⊥
 unshut_no_gate bytes unshut gate = unshut.isnt gate.shut
 

@@ -1,5 +1,5 @@
 -- Which pairs are kept for a state.
-use Rattle.std.proofs.Common.{◌≡◌, ◌≤◌, ◌⊎◌, inl, inr, ⊎_elim, ℕ, List, [], Ok, Bool, true, false, sym, ◌∙◌, ap, subst}
+use Rattle.std.proofs.Common.{◌≡◌, ◌≤◌, ◌⊎◌, inl, inr, ⊎_elim, ℕ, List, [], ◌∷◌, ◌++◌, Ok, Bool, true, false, sym, ◌∙◌, ap, subst}
 use Rattle.liq_types.specs.declared.amounts.TheConstants.{LIM}
 use Rattle.liq_types.specs.declared.image.Image.{Image}
 use Rattle.liq_types.specs.declared.requests.Command.{Command}
@@ -15,12 +15,13 @@ use Rattle.liq_journal.proofs.Heading.{has_generation}
 use Rattle.liq_journal.proofs.Parity.{from_one}
 use Rattle.liq_disk_pair.specs.declared.side.Side.{Side}
 use Rattle.liq_disk_pair.specs.declared.side.Side.TheVariants.{Left}
-use Rattle.liq_disk_pair.specs.Kept.{HoldsRecord, IsFirst, IsKept, IsSettledFor, IsUnbegun}
-use Rattle.liq_disk_pair.specs.Pair.{StandFor, standing}
+use Rattle.liq_disk_pair.specs.Kept.{HoldsRecord, IsFirst, IsKept, IsKeptWith, IsSettledFor, IsUnbegun}
+use Rattle.liq_disk_pair.specs.Pair.{StandFor, commands_on, standing}
 use Rattle.liq_disk_pair.specs.Replay.{outcome}
 use Rattle.liq_disk_pair.specs.Sides.{beside, has_odd, on, other}
 use Rattle.liq_disk_pair.proofs.FirstPlace.{IsAside, closed_absent, gate_open_or_not, is_behind, opened_already, unopened_absent}
 use Rattle.liq_disk_pair.proofs.Basing.{ends_in}
+use Rattle.liq_disk_pair.proofs.KeptWith.{settled_commands, with_beside}
 use Rattle.liq_disk_pair.proofs.Generations.{found_parity, outcome_generation}
 use Rattle.liq_disk_pair.proofs.Replaying.{opening_formed, outcome_formed, outcome_none, outcome_then}
 use Rattle.liq_disk_pair.proofs.Standings.{IsBehind, outcome_taken, pair_ends, state_none, state_taken}
@@ -163,19 +164,24 @@ pending_kept side l r w s c leads aside holds = record {
 -- with the record, for the state after its command.
 pub append_kept : (side : Side) (l r a b : List ℕ) (s : State) (c : Command) (settled : IsSettledFor side l r s)
     → ruling s c ≡ Allowed
-    → beside side a b ≡ beside side l r → BeforeOrAfter (has_odd side) settled.written c (on side a b) → IsKept a b s
-    ⊎ IsKept a b (after s c)
+    → beside side a b ≡ beside side l r → BeforeOrAfter (has_odd side) settled.written c (on side a b)
+    → IsKeptWith a b s (commands_on l r) ⊎ IsKeptWith a b (after s c) (commands_on l r ++ c ∷ [])
 append_kept side l r a b s c settled allowed same left =
     let w = settled.written in
+    let held = commands_on l r in
+    let holds : w.commands ≡ held = sym (settled_commands side l r s settled) in
     let leads = settled_leads side l r s settled in
     let aside : IsAside (has_odd (other side)) (beside side a b) w.generation =
     subst (λ (x : List ℕ). IsAside (has_odd (other side)) x w.generation) (sym same) settled.others in
     ⊎_elim
-    (λ before. inl (settled_kept side a b s (settled_by side a b w s leads aside before)))
+    (λ before. inl (with_beside side a b w before.found aside s held
+    (settled_kept side a b s (settled_by side a b w s leads aside before)) holds))
     (λ more. ⊎_elim
-    (λ pending. inl (pending_kept side a b w s c leads aside (record { pending = pending; allowed = allowed })))
-    (λ behind. inr (settled_kept side a b (after s c) (settled_by side a b (and_then w c) (after s c)
-    (leads_further w c s leads allowed) aside behind)))
+    (λ pending. inl (with_beside side a b w pending.found aside s held
+    (pending_kept side a b w s c leads aside (record { pending = pending; allowed = allowed })) holds))
+    (λ behind. inr (with_beside side a b (and_then w c) behind.found aside (after s c) (held ++ c ∷ [])
+    (settled_kept side a b (after s c) (settled_by side a b (and_then w c) (after s c)
+    (leads_further w c s leads allowed) aside behind)) (ap (λ (cs : List Command). cs ++ c ∷ []) holds)))
     more)
     left
 

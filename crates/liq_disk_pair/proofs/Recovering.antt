@@ -10,31 +10,39 @@ use Rattle.liq_journal.specs.Opened.{IsUnshut, OpenLeaves}
 use Rattle.liq_journal.specs.Written.{Absent, Written, and_then, found_on, opened}
 use Rattle.liq_disk_pair.specs.declared.side.Side.{Side}
 use Rattle.liq_disk_pair.specs.declared.side.Side.TheVariants.{Left, Right}
-use Rattle.liq_disk_pair.specs.Kept.{HoldsRotation, IsFirst, IsKept, IsKeptOn, IsOlder, IsSettledFor, IsUnbegun, StandsBesideRotation}
-use Rattle.liq_disk_pair.specs.Pair.{StandFor, state_on}
+use Rattle.liq_disk_pair.specs.Commands.{kept_behind}
+use Rattle.liq_disk_pair.specs.Kept.{HoldsRotation, IsFirst, IsKept, IsKeptOn, IsKeptWith, IsOlder, IsSettledFor, IsUnbegun, StandsBesideRotation}
+use Rattle.liq_disk_pair.specs.Pair.{StandFor, commands_on, state_on}
 use Rattle.liq_disk_pair.specs.Sides.{beside, has_odd, on, other}
 use Rattle.liq_disk_pair.specs.Unfinished.{HoldsUnfinished, IsRecovered, IsUnfinishedRotation, LeftLeaves}
 use Rattle.liq_disk_pair.proofs.AtEnd.{LeftAtEnd, byte_open_or_not, ended, finished, left_at_end, pends, stands_still}
 use Rattle.liq_disk_pair.proofs.FirstPlace.{IsAside, absent_isnt_open, aside_left, closed_with, first_is_left, first_with, open_older, rotation_behind, rotation_with, unopened_absent, unshut_no_gate}
 use Rattle.liq_disk_pair.proofs.Keeping.{LeadsTo, begun_kept, leads_before, leads_further, leads_to, none_alike, pending_kept, settled_by, settled_kept, settled_leads}
+use Rattle.liq_disk_pair.proofs.KeptWith.{begun_commands, behind_record, behind_rotation, commands_none, commands_taken, kept_on_commands, turned_commands, with_beside}
 use Rattle.liq_disk_pair.proofs.Standings.{pair_ends}
 use Rattle.liq_disk_pair.proofs.Turning.{rotation_leads, turned, turning_kept}
 
 -- ---- with a taken disk
 
 -- by what is left of the taken disk's end
-by_end : (side : Side) (l r a b : List ℕ) (w : Written) (s : State) → LeadsTo w s
+by_end : (side : Side) (l r a b : List ℕ) (w : Written) (s : State) → LeadsTo w s → commands_on l r ≡ w.commands
     → IsAside (has_odd (other side)) (beside side a b) w.generation
     → LeftAtEnd (has_odd side) (on side l r) w s (on side a b) → IsRecovered l r s a b
-by_end side l r a b w s leads aside (ended stands) =
-    inl (settled_kept side a b s (settled_by side a b w s leads aside stands))
-by_end side l r a b w s leads aside (pends c holds) = inl (pending_kept side a b w s c leads aside holds)
-by_end side l r a b w s leads aside (finished c was allowed stands) =
+by_end side l r a b w s leads held aside (ended stands) =
+    inl (with_beside side a b w stands.found aside s (commands_on l r)
+    (settled_kept side a b s (settled_by side a b w s leads aside stands)) (sym held))
+by_end side l r a b w s leads held aside (pends c holds) =
+    inl (with_beside side a b w holds.pending.found aside s (commands_on l r)
+    (pending_kept side a b w s c leads aside holds) (sym held))
+by_end side l r a b w s leads held aside (finished c was allowed stands) =
     inr (
       c,
       (side, inl was),
-      settled_kept side a b (after s c) (settled_by side a b (and_then w c) (after s c)
-          (leads_further w c s leads allowed) aside stands),
+      with_beside side a b (and_then w c) stands.found aside (after s c) (kept_behind (commands_on l r) (c ∷ []))
+          (settled_kept side a b (after s c) (settled_by side a b (and_then w c) (after s c)
+          (leads_further w c s leads allowed) aside stands))
+          (sym (ap (λ (cs : List Command). kept_behind cs (c ∷ [])) held
+          ∙ behind_record (has_odd side) (on side a b) w c stands.found)),
     )
 
 -- beside a rotation that isn't open
@@ -44,10 +52,20 @@ unfinished Left l r s c is = (Right, inr is)
 unfinished Right l r s c is = (Left, inr is)
 
 module _ (side : Side) (l r a b : List ℕ) (w : Written) (s : State) (leads : LeadsTo w s)
-    (stands : Stands (has_odd side) (on side a b) w) (kept : StandsBesideRotation side l r w s) where
+    (held : commands_on l r ≡ w.commands) (stands : Stands (has_odd side) (on side a b) w)
+    (kept : StandsBesideRotation side l r w s) where
+  -- the rotation isn't open
+  turning_with : HoldsRotation (has_odd (other side)) (beside side a b) s kept.command
+      → IsKeptWith a b s (commands_on l r)
+  turning_with holds = record {
+    kept = turning_kept side a b w s kept.command leads stands holds;
+    commands = commands_taken side a b w stands.found
+        (rotation_behind (has_odd (other side)) (beside side a b) w.generation s kept.command holds) ∙ sym held;
+  }
+
   -- it is as it was
-  still_turning : beside side a b ≡ beside side l r → IsKept a b s
-  still_turning same = turning_kept side a b w s kept.command leads stands
+  still_turning : beside side a b ≡ beside side l r → IsKeptWith a b s (commands_on l r)
+  still_turning same = turning_with
       (subst (λ (x : List ℕ). HoldsRotation (has_odd (other side)) x s kept.command) (sym same) kept.holds)
 
   -- the journal of the state after it
@@ -68,15 +86,20 @@ module _ (side : Side) (l r a b : List ℕ) (w : Written) (s : State) (leads : L
       inr (
         kept.command,
         unfinished side l r s kept.command (record { rotation = kept.holds; unshut = unshut }),
-        settled_kept (other side) a b (after s kept.command)
-            (turned side a b next (after s kept.command) next_leads now_older made),
+        record {
+          kept = settled_kept (other side) a b (after s kept.command)
+              (turned side a b next (after s kept.command) next_leads now_older made);
+          commands = turned_commands side a b next now_older made ∙ kept.holds.none
+              ∙ sym (behind_rotation (commands_on l r) kept.command kept.holds.rotation.rotates);
+        },
       )
 
   -- the opening leaves another byte than 1 at place 0
-  turns_not : (byte : ℕ) → (byte ≡ 1 → ⊥) → beside side a b ≡ overwritten (beside side l r) 0 (byte ∷ []) → IsKept a b s
+  turns_not : (byte : ℕ) → (byte ≡ 1 → ⊥) → beside side a b ≡ overwritten (beside side l r) 0 (byte ∷ [])
+      → IsKeptWith a b s (commands_on l r)
   turns_not byte unopened is =
       let odd = has_odd (other side) in
-      turning_kept side a b w s kept.command leads stands
+      turning_with
       (subst (λ (x : List ℕ). HoldsRotation odd x s kept.command) (sym is)
       (rotation_with odd (beside side l r) s kept.command byte kept.holds unopened))
 
@@ -103,7 +126,7 @@ module _ (side : Side) (l r a b : List ℕ) (s : State) (stands : StandFor l r s
   recovered_aside : IsAside (has_odd (other side)) (beside side l r) kept.written.generation → IsRecovered l r s a b
   recovered_aside aside =
       let w = kept.written in
-      by_end side l r a b w s (leads_to side l r w s stands kept.found aside)
+      by_end side l r a b w s (leads_to side l r w s stands kept.found aside) (kept_on_commands side l r s kept)
       (aside_left (has_odd (other side)) (beside side l r) (beside side a b) w.generation aside beside_left)
       (left_at_end (has_odd side) (on side l r) w s kept.found kept.end (on side a b) taken_left)
 
@@ -118,7 +141,8 @@ module _ (side : Side) (l r a b : List ℕ) (s : State) (stands : StandFor l r s
       let still : Stands odd (on side a b) w =
       subst (λ (x : List ℕ). Stands odd x w) (sym (stands_still odd (on side l r) (on side a b) w open_on taken_left))
       open_on in
-      turning_recovered side l r a b w s (leads_before side l r w s stands kept.found behind) still turning beside_left
+      turning_recovered side l r a b w s (leads_before side l r w s stands kept.found behind)
+      (kept_on_commands side l r s kept) still turning beside_left
 
   pub recovered_on : IsRecovered l r s a b
   recovered_on = ⊎_elim
@@ -170,18 +194,25 @@ pub recovered : (l r a b : List ℕ) (s : State) → IsKept l r s → LeftLeaves
     → IsRecovered l r s a b
 recovered l r a b s kept left right = by kept.rests left
   where
+    begun_with : found_on true l ≡ Absent → found_on false r ≡ Absent → IsClosed a ⊎ IsFirst true a → IsClosed b
+        → IsRecovered l r s a b
+    begun_with none none_right begun closed = inl (record {
+      kept = begun_kept a b s (none_alike l r s kept.stands none none_right) begun closed;
+      commands = begun_commands a b begun closed ∙ sym (commands_none l r none none_right);
+    })
+
     by : ((side : Side) × IsKeptOn side l r s) ⊎ (IsUnbegun true l × IsUnbegun false r) → LeftLeaves l r a
         → IsRecovered l r s a b
-    by (inl (Left, on_left)) (inl opened) = recovered_on Left l r a b s kept.stands on_left opened right
+    by (inl (Left, on_left)) (inl opened_left) = recovered_on Left l r a b s kept.stands on_left opened_left right
     by (inl (Left, on_left)) (inr created) = absurd (absent_isnt_open true l on_left.written created.0 on_left.found)
-    by (inl (Right, on_right)) (inl opened) = recovered_on Right l r a b s kept.stands on_right right opened
+    by (inl (Right, on_right)) (inl opened_left) = recovered_on Right l r a b s kept.stands on_right right opened_left
     by (inl (Right, on_right)) (inr created) =
         absurd (absent_isnt_open false r on_right.written created.1 on_right.found)
-    by (inr begun) (inl opened) = inl (begun_kept a b s (none_alike l r s kept.stands begun.0.0 begun.1.0)
-        (begun_left l a begun.0.1 (settled_so true l a begun.0.0 opened)) (closed_left r b begun.1
-        (settled_so false r b begun.1.0 right)))
-    by (inr begun) (inr created) = inl (begun_kept a b s (none_alike l r s kept.stands begun.0.0 begun.1.0)
-        (begun_so l a begun.0.1 created.2) (closed_left r b begun.1 (settled_so false r b begun.1.0 right)))
+    by (inr begun) (inl opened_left) = begun_with begun.0.0 begun.1.0
+        (begun_left l a begun.0.1 (settled_so true l a begun.0.0 opened_left)) (closed_left r b begun.1
+        (settled_so false r b begun.1.0 right))
+    by (inr begun) (inr created) = begun_with begun.0.0 begun.1.0 (begun_so l a begun.0.1 created.2)
+        (closed_left r b begun.1 (settled_so false r b begun.1.0 right))
 
 -- ---- of a settled pair
 

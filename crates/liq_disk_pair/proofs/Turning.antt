@@ -18,11 +18,13 @@ use Rattle.liq_journal.specs.Crash.{CreateLeaves, Stands, beginning}
 use Rattle.liq_journal.specs.Written.{Written}
 use Rattle.liq_disk_pair.specs.declared.side.Side.{Side}
 use Rattle.liq_disk_pair.specs.declared.side.Side.TheVariants.{Left, Right}
-use Rattle.liq_disk_pair.specs.Kept.{HoldsRotation, IsKept, IsOlder, IsRotationOf, IsSettledFor}
+use Rattle.liq_disk_pair.specs.Kept.{HoldsRotation, IsKept, IsKeptWith, IsOlder, IsRotationOf, IsSettledFor}
+use Rattle.liq_disk_pair.specs.Pair.{commands_on}
 use Rattle.liq_disk_pair.specs.Sides.{beside, has_odd, on, other}
 use Rattle.liq_disk_pair.proofs.Basing.{base_read}
 use Rattle.liq_disk_pair.proofs.FirstPlace.{IsAside, aside_settled, gate_open_or_not, open_older, opened_already, rotation_behind}
 use Rattle.liq_disk_pair.proofs.Keeping.{LeadsTo, leads_generation, settled_by, settled_kept, settled_leads, stand_before}
+use Rattle.liq_disk_pair.proofs.KeptWith.{commands_taken, settled_commands, turned_commands, with_beside}
 use Rattle.liq_disk_pair.proofs.Replaying.{outcome_formed, outcome_from, replay_none}
 
 -- ---- where it leads
@@ -101,21 +103,41 @@ module _ (side : Side) (l r a b : List ℕ) (s : State) (c : Command) (w : Writt
       (next_later side a b settled.written s c w old_leads old_stands rotation))
       stands
 
-  still : IsAside (has_odd (other side)) (beside side a b) settled.written.generation → IsKept a b s
-  still aside = settled_kept side a b s (settled_by side a b settled.written s old_leads aside old_stands)
+  holds : settled.written.commands ≡ commands_on l r
+  holds = sym (settled_commands side l r s settled)
+
+  still : IsAside (has_odd (other side)) (beside side a b) settled.written.generation
+      → IsKeptWith a b s (commands_on l r)
+  still aside = with_beside side a b settled.written old_stands.found aside s (commands_on l r)
+      (settled_kept side a b s (settled_by side a b settled.written s old_leads aside old_stands)) holds
+
+  -- the next generation is older than none, and has no commands
+  turned_with : w.commands ≡ [] → Stands (has_odd (other side)) (beside side a b) w → IsKeptWith a b (after s c) []
+  turned_with none stands = record {
+    kept = settled_kept (other side) a b (after s c) (rotation_settled stands);
+    commands = turned_commands side a b w
+        (open_older (has_odd side) (on side a b) settled.written old_leads.state w.generation old_stands old_leads.came
+        (next_later side a b settled.written s c w old_leads old_stands rotation)) stands ∙ none;
+  }
+
+  turning_with : HoldsRotation (has_odd (other side)) (beside side a b) s c → IsKeptWith a b s (commands_on l r)
+  turning_with shut = record {
+    kept = turning_kept side a b settled.written s c old_leads old_stands shut;
+    commands = commands_taken side a b settled.written old_stands.found
+        (rotation_behind (has_odd (other side)) (beside side a b) settled.written.generation s c shut) ∙ holds;
+  }
 
   -- A stop in its creation leaves a pair that is kept for the state, or for the state after it.
   pub rotation_kept : w.commands ≡ [] → CreateLeaves (has_odd (other side)) (beside side l r) w (beside side a b)
-      → IsKept a b s ⊎ IsKept a b (after s c)
+      → IsKeptWith a b s (commands_on l r) ⊎ IsKeptWith a b (after s c) []
   rotation_kept none (inl closed) = inl (still (inl closed))
   rotation_kept none (inr (inl left)) =
       let odd = has_odd (other side) in
       inl (still (aside_settled odd (beside side l r) (beside side a b) settled.written.generation settled.others left))
   rotation_kept none (inr (inr made)) = ⊎_elim
-      (λ gate. inr (settled_kept (other side) a b (after s c)
-      (rotation_settled
-      (subst (λ (x : List ℕ). Stands (has_odd (other side)) x w) (opened_already (beside side a b) gate) made))))
-      (λ shut. inl (turning_kept side a b settled.written s c old_leads old_stands
+      (λ gate. inr (turned_with none
+      (subst (λ (x : List ℕ). Stands (has_odd (other side)) x w) (opened_already (beside side a b) gate) made)))
+      (λ shut. inl (turning_with
       (record { written = w; stands = made; none = none; rotation = rotation; shut = shut })))
       (gate_open_or_not (beside side a b))
 

@@ -11,7 +11,7 @@ use Rattle.liq_checkpoint.specs.Spelling.{spelling}
 use Rattle.liq_journal.specs.Crash.{IsClosed, IsPending, Stands}
 use Rattle.liq_journal.specs.Written.{Written, Absent, Open, EndsWith, found_on, opened}
 use Rattle.liq_disk_pair.specs.declared.side.Side.{Side}
-use Rattle.liq_disk_pair.specs.Pair.{StandFor}
+use Rattle.liq_disk_pair.specs.Pair.{StandFor, commands_on}
 use Rattle.liq_disk_pair.specs.Replay.{outcome}
 use Rattle.liq_disk_pair.specs.Sides.{beside, has_odd, on, other}
 
@@ -93,6 +93,11 @@ pub record IsKept (left right : List ℕ) (s : State) : Type 0 where
   pub stands : StandFor left right s
   pub rests : ((side : Side) × IsKeptOn side left right s) ⊎ (IsUnbegun true left
       × IsUnbegun false right)
+
+-- They are kept for the state, and the journal that counts has these commands.
+pub record IsKeptWith (left right : List ℕ) (s : State) (held : List Command) : Type 0 where
+  pub kept : IsKept left right s
+  pub commands : commands_on left right ≡ held
 
 -- Settled: they stand for the state, the disk of this side is open with a 0 behind its last record,
 -- and the other is closed, or older. So it is after an opening and after each call that met no

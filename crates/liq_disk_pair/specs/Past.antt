@@ -12,8 +12,9 @@ use Rattle.liq_journal.specs.Crash.{SettleLeaves}
 use Rattle.liq_types.specs.Verbs.{is_rotate}
 use Rattle.liq_journal.specs.Written.{Absent, Open, Written, found_on}
 use Rattle.liq_disk_pair.specs.declared.side.Side.{Side}
-use Rattle.liq_disk_pair.specs.Kept.{IsKept}
-use Rattle.liq_disk_pair.specs.Pair.{StandFor}
+use Rattle.liq_disk_pair.specs.Commands.{kept_behind}
+use Rattle.liq_disk_pair.specs.Kept.{IsKeptWith}
+use Rattle.liq_disk_pair.specs.Pair.{StandFor, commands_on}
 use Rattle.liq_disk_pair.specs.Sides.{beside, has_odd, on, other}
 use Rattle.liq_disk_pair.specs.Unfinished.{HoldsUnfinished, IsRecovered}
 
@@ -96,11 +97,19 @@ pub record LeavesPast
 
 -- ---- both at the end
 
--- Kept for the state after the requests; after a fault in the opening for what an opening leaves;
--- after one at a command for the state before it, or after it where it is accepted.
+-- the commands that were accepted stand behind those that stood on l and r
+abbrev pub held_at_end : List ℕ → List ℕ → State → List Request → List Command
+held_at_end l r start requests = kept_behind (commands_on l r) (accepted start requests)
+
+-- Kept for the state after the requests, with their commands; after a fault in the opening for what
+-- an opening leaves; after one at a command for the state before it, or after it where it is
+-- accepted, with this command more.
 abbrev pub KeptAtEnd : List ℕ → List ℕ → State → List Request → Fault → List ℕ → List ℕ → Type 0
-KeptAtEnd l r start requests NoFault a b = IsKept a b (run start requests).0
+KeptAtEnd l r start requests NoFault a b =
+    IsKeptWith a b (run start requests).0 (held_at_end l r start requests)
 KeptAtEnd l r start requests InOpening a b = (requests ≡ []) × IsRecovered l r start a b
 KeptAtEnd l r start requests (AtCommand c) a b =
     let s = (run start requests).0 in
-    IsKept a b s ⊎ ((ruling s c ≡ Allowed) × IsKept a b (after s c))
+    let held = held_at_end l r start requests in
+    IsKeptWith a b s held
+    ⊎ ((ruling s c ≡ Allowed) × IsKeptWith a b (after s c) (kept_behind held (c ∷ [])))

@@ -1,14 +1,16 @@
 //! Laws of a pair of disks, over their bytes alone. The functions here do nothing: each is the
 //! place where the facts of its contract are proved.
 
-ghost use Rattle.std.specs.Prelude.{◌≡◌, ◌≤◌, ◌⊎◌, ◌+◌, List, ◌∷◌, [], ◌++◌, length, ℕ, Some, None, Ok, Bool, true, false};
+ghost use Rattle.std.specs.Prelude.{◌≡◌, ◌≤◌, ◌⊎◌, ◌+◌, All, List, ◌∷◌, [], ◌++◌, length, map, ℕ, Some, None, Ok, Bool, true, false};
 ghost use Rattle.liq_types.specs.declared.requests.Call.TheVariants.{Rotate};
 ghost use Rattle.liq_types.specs.declared.requests.Command.{Command};
 ghost use Rattle.liq_types.specs.declared.requests.Request.{Request};
 ghost use Rattle.liq_types.specs.Image.{IsLimit};
 ghost use Rattle.liq_types.specs.Soundness.{first_unsound};
 ghost use Rattle.liq_types.specs.State.{State, opening_with};
+ghost use Rattle.liq_types.specs.Verbs.{is_rotate};
 ghost use Rattle.liq_types.specs.WellFormed.{IsWellFormed};
+ghost use Rattle.liq_rule_step.specs.Events.{events};
 ghost use Rattle.liq_rule_step.specs.Image.{IsSameState, image};
 ghost use Rattle.liq_rule_step.specs.Step.{Allowed, after, ruling, run};
 ghost use Rattle.liq_rule_sound.specs.SoundState.{IsSoundState};
@@ -19,7 +21,8 @@ ghost use Rattle.liq_journal.specs.Crash.{BeforeOrAfter, CreateLeaves, IsClosed,
 ghost use Rattle.liq_journal.specs.Opened.{OpenLeaves};
 ghost use Rattle.liq_journal.specs.Written.{Absent, Damaged, Open, Written, and_then, found_on};
 ghost use Rattle.liq_disk_pair.specs.declared.side.Side.{Side};
-ghost use Rattle.liq_disk_pair.specs.Kept.{IsKept, IsRotationOf, IsSettledFor};
+ghost use Rattle.liq_disk_pair.specs.Commands.{kept_behind, read_back};
+ghost use Rattle.liq_disk_pair.specs.Kept.{IsKept, IsKeptWith, IsRotationOf, IsSettledFor};
 ghost use Rattle.liq_disk_pair.specs.Pair.{commands_on, journal_on, limit_on, state_on};
 ghost use Rattle.liq_disk_pair.specs.Past.{Fault, IsAsItStood, IsOfFailed, IsOfPrefix, IsOfRun, IsOfUnfinished};
 ghost use Rattle.liq_disk_pair.specs.Replay.{base_of, outcome, replay};
@@ -98,6 +101,25 @@ pub fn replays_go_on()
         ≡ Ok end → ruling end c ≡ Allowed → replay 1 s (commands ++ c ∷ []) ≡ Ok (after end c) }
 {}
 
+/// The commands that are found on a disk are as they were read back, and none is a rotation. A
+/// command is ruled on as it is read back, and leads to the same state with the same events.
+pub fn commands_are_read_back()
+    ensures found { (odd : Bool) (bytes : List ℕ) (w : Written) → found_on odd bytes ≡ Open w
+        → All (λ (c : Command). (read_back c ≡ c) × (is_rotate c.call ≡ false)) w.commands }
+    ensures ruling { (s : State) (c : Command) → ruling s (read_back c) ≡ ruling s c }
+    ensures after { (s : State) (c : Command) → after s (read_back c) ≡ after s c }
+    ensures events { (s : State) (cs : List Command) → events s (map read_back cs) ≡ events s cs }
+{}
+
+/// Where no rotation is accepted, the commands stand behind those that were held, as they are read
+/// back. With a rotation only those behind it stand.
+pub fn commands_stand_behind()
+    ensures none { (held cs : List Command) → All (λ (c : Command). is_rotate c.call ≡ false) cs
+        → kept_behind held cs ≡ held ++ map read_back cs }
+    ensures rotated { (held before behind : List Command) (c : Command) → c.call ≡ Rotate
+        → kept_behind held (before ++ c ∷ behind) ≡ kept_behind [] behind }
+{}
+
 /// A settled pair is kept.
 pub fn settled_pairs_are_kept()
     ensures { (side : Side) → (l r : List ℕ) → (s : State) → IsSettledFor side l r s
@@ -111,14 +133,15 @@ pub fn same_states_are_kept()
         → IsKept l r t }
 {}
 
-/// A stop in an append on a settled pair leaves one that is kept for the state, or for the state
-/// after the command; once the record stands the pair is settled for that one.
+/// A stop in an append on a settled pair leaves one that is kept for the state, with the same
+/// commands, or for the state after the command, with this one behind them; once the record stands the pair is settled for that one.
 pub fn appends_keep_pairs()
     ensures kept { (side : Side) → (l r a b : List ℕ) → (s : State) → (c : Command)
         → (settled : IsSettledFor side l r s) → ruling s c ≡ Allowed
         → beside side a b ≡ beside side l r
-        → BeforeOrAfter (has_odd side) settled.written c (on side a b) → IsKept a b s
-        ⊎ IsKept a b (after s c) }
+        → BeforeOrAfter (has_odd side) settled.written c (on side a b)
+        → IsKeptWith a b s (commands_on l r)
+        ⊎ IsKeptWith a b (after s c) (commands_on l r ++ c ∷ []) }
     ensures settled { (side : Side) → (l r a b : List ℕ) → (s : State) → (c : Command)
         → (settled : IsSettledFor side l r s) → ruling s c ≡ Allowed
         → beside side a b ≡ beside side l r
@@ -138,13 +161,14 @@ pub fn checkpoints_make_rotations()
 {}
 
 /// A stop in a rotation of a settled pair, which creates the next generation on the other disk,
-/// leaves one that is kept for the state, or for the state after the rotation; once that generation
+/// leaves one that is kept for the state, with the same commands, or for the state after the
+/// rotation, with none; once that generation
 /// stands the pair is settled for the state after it, on the other side.
 pub fn rotations_keep_pairs()
     ensures kept { (side : Side) → (l r a b : List ℕ) → (s : State) → (c : Command) → (w : Written)
         → IsSettledFor side l r s → IsRotationOf s w c → on side a b ≡ on side l r → w.commands ≡ []
         → CreateLeaves (has_odd (other side)) (beside side l r) w (beside side a b)
-        → IsKept a b s ⊎ IsKept a b (after s c) }
+        → IsKeptWith a b s (commands_on l r) ⊎ IsKeptWith a b (after s c) [] }
     ensures settled { (side : Side) → (l r a b : List ℕ) → (s : State) → (c : Command)
         → (w : Written)
         → IsSettledFor side l r s → IsRotationOf s w c → on side a b ≡ on side l r
@@ -153,7 +177,8 @@ pub fn rotations_keep_pairs()
 {}
 
 /// Of a pair that is kept for a state an opening leaves, at each moment, one that is kept for it,
-/// or for it after the command that the pair held unfinished: a record, or a rotation.
+/// with the same commands; or for it after the command that the pair held unfinished, with this one
+/// more: a record, or a rotation, with which none are left.
 pub fn openings_recover_pairs()
     ensures { (l r a b : List ℕ) → (s : State) → IsKept l r s → LeftLeaves l r a
         → OpenLeaves false r b → IsRecovered l r s a b }

@@ -1,4 +1,3 @@
-pub mod Bodies
 pub mod Choosing
 pub mod Reading
 pub mod Replays

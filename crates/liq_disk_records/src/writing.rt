@@ -6,7 +6,7 @@ ghost use Rattle.liq_journal.specs.Crash.{BeforeOrAfter, Stands, is_odd};
 ghost use Rattle.liq_journal.specs.Settled.{IsSettled};
 ghost use Rattle.liq_types.specs.Verbs.{is_rotate};
 ghost use Rattle.liq_journal.specs.Written.{Written, and_then};
-ghost use Rattle.liq_disk_records.specs.Bodies.{read_back};
+ghost use Rattle.liq_disk_pair.specs.Commands.{read_back};
 
 use liq_journal::{DiskFault, Journal};
 use liq_outside::Disk;

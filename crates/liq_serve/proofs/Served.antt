@@ -12,14 +12,16 @@ use Rattle.liq_types.specs.declared.requests.Command.{Command}
 use Rattle.liq_types.specs.declared.requests.Request.{Request}
 use Rattle.liq_types.specs.declared.requests.Request.TheVariants.{Do}
 use Rattle.liq_rule_step.specs.History.{Entry, state_after}
+use Rattle.liq_rule_step.specs.History as histories
 use Rattle.liq_rule_step.specs.Step as rule
 use Rattle.liq_rule_step.specs.Step.{Allowed, Ruling, after_ruling, ruling}
 use Rattle.liq_journal.specs.declared.damage.Damage.{Damage}
 use Rattle.liq_journal.specs.Opened.{OpenLeaves}
 use Rattle.liq_disk_pair.specs.declared.side.Side.{Side}
-use Rattle.liq_disk_pair.specs.Kept.{IsKept}
+use Rattle.liq_disk_pair.specs.Commands.{kept_behind}
+use Rattle.liq_disk_pair.specs.Kept.{IsKept, IsKeptWith}
 use Rattle.liq_disk_pair.specs.Pair.{state_on}
-use Rattle.liq_disk_pair.specs.Past.{AtCommand, Fault, InOpening, NoFault}
+use Rattle.liq_disk_pair.specs.Past.{AtCommand, Fault, InOpening, NoFault, held_at_end}
 use Rattle.liq_disk_pair.specs.Unfinished.{LeftLeaves}
 use Rattle.liq_text_lines.specs.declared.stops.Stop.{Stop}
 use Rattle.liq_text_lines.specs.declared.stops.Stop.TheVariants as stop
@@ -40,6 +42,7 @@ use Rattle.liq_store.specs.declared.answers.StoreWhy.{StoreWhy}
 use Rattle.liq_store.specs.declared.answers.StoreWhy.TheVariants as why
 use Rattle.liq_store.specs.Causes.{Faults}
 use Rattle.liq_store.specs.Keeping.{IsAtRest, IsKeptAround}
+use Rattle.liq_store.proofs.Appending.{behind_newly}
 use Rattle.liq_word_exit.specs.declared.halts.Halt.TheVariants.{BadLine, ReadFault, WriteFault, DiskFault, Damaged, NoMemory, Limit}
 use Rattle.liq_word_exit.specs.Causes.{DiskCause, ReadCause, WriteCause}
 use Rattle.liq_word_exit.specs.Disks.{DisksStay, EndsDamaged, IsFaultOfTelling, OfBoth}
@@ -215,11 +218,14 @@ rests_by disk_at left right how rest status =
 -- ---- how it came to its end
 
 -- what is kept for the state after a command that was accepted is kept for the one after its request
-kept_around : (s : State) (c : Command) (a b : List ℕ) → ruling s c ≡ Allowed → IsKept a b s
-    ⊎ IsKept a b (rule.after s c) → IsKeptAround s (Do c) a b
-kept_around s c a b allowed (inl kept) = inl kept
-kept_around s c a b allowed (inr kept) =
-    inr (subst (λ (q : Ruling). IsKept a b (after_ruling s c q).0) (sym allowed) kept)
+kept_around : (s : State) (held : List Command) (c : Command) (a b : List ℕ) → ruling s c ≡ Allowed
+    → IsKeptWith a b s held ⊎ IsKeptWith a b (rule.after s c) (kept_behind held (c ∷ []))
+    → IsKeptAround s held (Do c) a b
+kept_around s held c a b allowed (inl kept) = inl kept
+kept_around s held c a b allowed (inr kept) = inr (record {
+  kept = subst (λ (q : Ruling). IsKept a b (after_ruling s c q).0) (sym allowed) kept.kept;
+  commands = kept.commands ∙ sym (behind_newly held s c allowed);
+})
 
 module _
     {S K D : Type 0} (source_at : S → SourceAt) (sink_at : K → SinkAt) (disk_at : D → DiskAt)
@@ -236,9 +242,10 @@ module _
 
   -- disks that are not damaged stood for a state
   kept :
-      (P : List ℕ → List ℕ → State → Type 0)
+      (P : List ℕ → List ℕ → State → List Command → Type 0)
       → ((l r : List ℕ) (start : State) → (disk_at before.left).seen ≡ Some l → (disk_at before.right).seen ≡ Some r
-      → state_on l r ≡ Ok start → OfBoth disk_at after.left after.right (λ a b. P a b (state_after start history)))
+      → state_on l r ≡ Ok start → OfBoth disk_at after.left after.right (λ a b.
+      P a b (state_after start history) (held_at_end l r start (histories.requests_of history))))
       → AreWhole → Keep source_at sink_at disk_at before after history P
   kept P disks whole = λ l r told_l told_r. is_found (state_on l r) _ (λ start is. disks l r start told_l told_r is)
       (λ side damage is. whole l r side damage told_l told_r is)
@@ -281,10 +288,11 @@ module _
         h.0,
         h.1,
         h.2,
-        kept (λ a b s. (ruling s c ≡ Allowed) × IsKeptAround s (Do c) a b)
+        kept (λ a b s held. (ruling s c ≡ Allowed) × IsKeptAround s held (Do c) a b)
             (λ l r start told_l told_r is a b told_a told_b.
             let holds = disks l r start told_l told_r is in
-            (holds.0, kept_around (state_after start history) c a b holds.0 (holds.1 a b told_a told_b))) whole,
+            (holds.0, kept_around (state_after start history) (held_at_end l r start (histories.requests_of history)) c
+            a b holds.0 (holds.1 a b told_a told_b))) whole,
       ))
 
   abbrev AnswersTo : Finish → Type 0
@@ -360,7 +368,7 @@ module _
   came_by finish.All a same then written = came_whole (Ok tt) NoFault a.read
       (inr (
         refl,
-        kept IsKept a.disks (ends_damaged finish.All a),
+        kept IsKeptWith a.disks (ends_damaged finish.All a),
         (0, lit< tt, refl),
         none_left asked history a.answers,
       ))
@@ -368,7 +376,7 @@ module _
       came_whole (Err WriteFault) NoFault a.read
       (inr (
         refl,
-        kept IsKept a.disks (ends_damaged finish.WriteFault a),
+        kept IsKeptWith a.disks (ends_damaged finish.WriteFault a),
         (1, lit< tt, refl),
         none_left asked history a.answers,
       ))
@@ -376,7 +384,7 @@ module _
       came_whole (Err NoMemory) NoFault a.read
       (inr (
         refl,
-        kept IsKept a.disks (ends_damaged finish.NoMemory a),
+        kept IsKeptWith a.disks (ends_damaged finish.NoMemory a),
         lacking asked history
             a.answers,
       ))

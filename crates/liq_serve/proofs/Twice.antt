@@ -10,9 +10,10 @@ use Rattle.liq_types.specs.State.{State}
 use Rattle.liq_rule_step.specs.Step.{Allowed, after, ruling, run}
 use Rattle.liq_rule_step.proofs.AlikeReads.{Alike}
 use Rattle.liq_rule_step.proofs.AlikeReplies.{run_alike}
-use Rattle.liq_disk_pair.specs.Kept.{IsKept}
+use Rattle.liq_disk_pair.specs.Commands.{kept_behind}
+use Rattle.liq_disk_pair.specs.Kept.{IsKept, IsKeptWith}
 use Rattle.liq_disk_pair.specs.Pair.{state_on}
-use Rattle.liq_disk_pair.specs.Past.{AtCommand, Fault, InOpening, NoFault}
+use Rattle.liq_disk_pair.specs.Past.{AtCommand, Fault, InOpening, NoFault, held_at_end}
 use Rattle.liq_disk_pair.specs.Unfinished.{HoldsUnfinished, IsRecovered}
 use Rattle.liq_store.specs.Keeping.{IsAtRest}
 use Rattle.liq_store.specs.Leaving.{RestAtEnd}
@@ -32,24 +33,28 @@ module _ (told : Option (List ℕ)) (l r : List ℕ) (start : State) (requests :
   abbrev here : State
   here = (run start requests).0
 
+  abbrev held : List Command
+  held = held_at_end l r start requests
+
   -- kept for the state after the requests
-  kept_here : (end : End) (a b : List ℕ) → IsKept a b here
+  kept_here : (end : End) (a b : List ℕ) → IsKeptWith a b here held
       → BeginsBehind told l r start requests end a b
   kept_here end a b kept = ([], tt, kept)
 
   -- or for it after one command more
-  kept_behind : (a b : List ℕ) (c : Command) → (IsNext told requests (Do c) × (ruling here c ≡ Allowed))
-      ⊎ ((requests ≡ []) × HoldsUnfinished l r start c) → IsKept a b (after here c)
+  kept_more : (a b : List ℕ) (c : Command) → (IsNext told requests (Do c) × (ruling here c ≡ Allowed))
+      ⊎ ((requests ≡ []) × HoldsUnfinished l r start c) → IsKeptWith a b (after here c) (kept_behind held (c ∷ []))
       → BeginsBehind told l r start requests (Err DiskFault) a b
-  kept_behind a b c why kept = (c ∷ [], (refl, why), kept)
+  kept_more a b c why kept = (c ∷ [], (refl, why), kept)
 
   -- as an opening that failed left them
   recovered : (a b : List ℕ) → requests ≡ [] → IsRecovered l r start a b
       → BeginsBehind told l r start requests (Err DiskFault) a b
   recovered a b none (inl kept) = kept_here (Err DiskFault) a b
-      (subst (λ (rs : List Request). IsKept a b (run start rs).0) (sym none) kept)
-  recovered a b none (inr (c, holds, kept)) = kept_behind a b c (inr (none, holds))
-      (subst (λ (rs : List Request). IsKept a b (after (run start rs).0 c)) (sym none) kept)
+      (subst (λ (rs : List Request). IsKeptWith a b (run start rs).0 (held_at_end l r start rs)) (sym none) kept)
+  recovered a b none (inr (c, holds, kept)) = kept_more a b c (inr (none, holds))
+      (subst (λ (rs : List Request). IsKeptWith a b (after (run start rs).0 c)
+      (kept_behind (held_at_end l r start rs) (c ∷ []))) (sym none) kept)
 
   module _ {D : Type 0} (disk_at : D → DiskAt) (unread : Option (List ℕ)) (left right : D) where
     -- as they are read at the end
@@ -59,13 +64,15 @@ module _ (told : Option (List ℕ)) (l r : List ℕ) (start : State) (requests :
         → BeginsBehind told l r start requests end a b
     read_behind (Err DiskFault) were holds a b told_a told_b = by (holds a b told_a told_b) where
       by : (IsUnread told unread requests × (IsKept l r start → IsRecovered l r start a b))
-          ⊎ (IsKept a b here ⊎ ((c : Command) × IsNext told requests (Do c) × (ruling here c ≡ Allowed)
-          × IsKept a b (after here c))) → BeginsBehind told l r start requests (Err DiskFault) a b
+          ⊎ (IsKeptWith a b here held ⊎ ((c : Command) × IsNext told requests (Do c) × (ruling here c ≡ Allowed)
+          × IsKeptWith a b (after here c) (kept_behind held (c ∷ []))))
+          → BeginsBehind told l r start requests (Err DiskFault) a b
       by (inl (none, gives)) = recovered a b none.0 (gives were)
       by (inr (inl kept)) = kept_here (Err DiskFault) a b kept
-      by (inr (inr (c, next, allowed, kept))) = kept_behind a b c (inl (next, allowed)) kept
-    read_behind (Err NoMemory) were holds a b told_a told_b = kept_here (Err NoMemory) a b
-        ((holds a b told_a told_b).1 (λ none. were))
+      by (inr (inr (c, next, allowed, kept))) = kept_more a b c (inl (next, allowed)) kept
+    read_behind (Err NoMemory) were holds a b told_a told_b =
+        let so = holds a b told_a told_b in
+        kept_here (Err NoMemory) a b (record { kept = so.2 (λ none. were); commands = so.1 })
     read_behind (Ok done) were holds a b told_a told_b = kept_here (Ok done) a b (holds a b told_a told_b)
     read_behind (Err (BadLine n)) were holds a b told_a told_b = kept_here (Err (BadLine n)) a b
         (holds a b told_a told_b)
@@ -140,10 +147,11 @@ module _ (told : Option (List ℕ)) (l r : List ℕ) (start : State) (requests :
     left_behind end x y a b told_x told_y were holds (AtCommand c) is rests at_a at_b =
         subst (λ (e : End). BeginsBehind told l r start requests e a b)
         (sym (faulted end (AtCommand c) is (λ e. cc))) (by (rests a b at_a at_b)) where
-          by : IsKept a b here ⊎ ((ruling here c ≡ Allowed) × IsKept a b (after here c))
+          by : IsKeptWith a b here held
+              ⊎ ((ruling here c ≡ Allowed) × IsKeptWith a b (after here c) (kept_behind held (c ∷ [])))
               → BeginsBehind told l r start requests (Err DiskFault) a b
           by (inl kept) = kept_here (Err DiskFault) a b kept
-          by (inr (allowed, kept)) = kept_behind a b c (inl (next_of end c is, allowed)) kept
+          by (inr (allowed, kept)) = kept_more a b c (inl (next_of end c is, allowed)) kept
 
 -- ---- two calls
 
@@ -192,9 +200,9 @@ module _
       let begins = runs_behind e.end l r a b start ran (e.causes.disks.left_telling.1 (ap is_some told_l))
       (e.causes.disks.right_telling.1 (ap is_some told_r)) were behind in
       let between = fold after (run start ran.requests).0 begins.0 in
-      let t = begins.2.stands.state in
-      let stands = begins.2.stands.is in
-      let same = kept_again a b between t begins.2 stands in
+      let t = begins.2.kept.stands.state in
+      let stands = begins.2.kept.stands.is in
+      let same = kept_again a b between t begins.2.kept stands in
       let f = two.ends word.Run asked_too in
       let second = found_of source_at sink_at disk_at again later f.end _ _ a b t told_a told_b stands f.leaves.1 a b
       told_a told_b in
@@ -202,7 +210,7 @@ module _
       record {
         image = same.0.image;
         records = same.0.records;
-        left = begins.2.stands.formed;
+        left = begins.2.kept.stands.formed;
         right = state_formed a b t
             stands;
       } in
@@ -216,6 +224,7 @@ module _
         state = t;
         is = stands;
         kept = same.1;
+        holds = begins.2.commands;
         begins = same.0;
         ending = f.end;
         later_is = f.status_is;

@@ -18,7 +18,7 @@ use Rattle.liq_word_arguments.specs.declared.reading.WordsFault.{WordsFault}
 use Rattle.liq_word_arguments.specs.declared.reading.WordsFault.TheVariants as fault
 use Rattle.liq_word_line.specs.Words.{Ask}
 use Rattle.liq_disk_pair.specs.Past.{NoFault}
-use Rattle.liq_disk_pair.specs.Kept.{IsKept}
+use Rattle.liq_disk_pair.specs.Kept.{IsKeptWith}
 use Rattle.liq_word_exit.specs.declared.halts.Halt.TheVariants.{BadLine, ReadFault, WriteFault, DiskFault, Damaged, DamagedInput, NoMemory, Limit, Rotated}
 use Rattle.liq_word_exit.specs.Causes.{DisksGoOn, HasCauses, LastCause, ReadCause}
 use Rattle.liq_word_exit.specs.Disks.{DisksStay, IsFaultOfTelling, LeavesOfRun, OfBoth}
@@ -149,8 +149,9 @@ module _ {D : Type 0} (disk_at : D → DiskAt) (left right : D) (l r : List ℕ)
       leaves = λ a b at_a at_b.
           let left_is = left_then left l a only_l at_a in
           let right_is = left_then right r b only_r at_b in
-          inl (subst (λ (y : List ℕ). IsKept a y start) (sym right_is)
-          (subst (λ (x : List ℕ). IsKept x r start) (sym left_is) kept));
+          inl (subst (λ (y : List ℕ). IsKeptWith a y start (commands_on l r)) (sym right_is)
+          (subst (λ (x : List ℕ). IsKeptWith x r start (commands_on l r)) (sym left_is)
+          (record { kept = kept; commands = refl })));
     };
     each = tt;
     rested = λ first later is. absurd cc;

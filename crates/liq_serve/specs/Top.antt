@@ -16,9 +16,9 @@ use Rattle.liq_text_lines.specs.Reading.{Reads, ReadsAtMost, taken_most}
 use Rattle.liq_text_lines.specs.Writing.{Writes}
 use Rattle.liq_journal.specs.declared.damage.Damage.{Damage}
 use Rattle.liq_disk_pair.specs.declared.side.Side.{Side}
-use Rattle.liq_disk_pair.specs.Kept.{IsKept}
+use Rattle.liq_disk_pair.specs.Kept.{IsKeptWith}
 use Rattle.liq_disk_pair.specs.Pair.{commands_on, state_on}
-use Rattle.liq_disk_pair.specs.Past.{AtCommand, Fault, NoFault}
+use Rattle.liq_disk_pair.specs.Past.{AtCommand, Fault, NoFault, held_at_end}
 use Rattle.liq_text_scripts.specs.declared.scripts.TheConstants.{SESSIONS}
 use Rattle.liq_text_scripts.specs.Asked.{Asks}
 use Rattle.liq_text_scripts.specs.Output.{served}
@@ -146,11 +146,12 @@ module _ {S K D : Type 0} (source_at : S → SourceAt) (sink_at : K → SinkAt) 
 
   -- ---- `serve`
 
-  -- the disks stood for a state, and this holds of what they hold then and of the state after the
-  -- history
-  abbrev pub Keep : List Entry → (List ℕ → List ℕ → State → Type 0) → Type 0
+  -- the disks stood for a state, and this holds of what they hold then, of the state after the
+  -- history, and of the commands with those that the history has more
+  abbrev pub Keep : List Entry → (List ℕ → List ℕ → State → List Command → Type 0) → Type 0
   Keep history P = OfTold (λ l r. IsOkAnd (state_on l r) (λ start.
-      OfBoth disk_at after.left after.right (λ a b. P a b (state_after start history))))
+      OfBoth disk_at after.left after.right (λ a b. P a b (state_after start history)
+      (held_at_end l r start (requests_of history)))))
 
   -- No store was opened: for a disk's fault, the disks' damage or want of memory.
   abbrev pub OpensNone : List Entry → Fault → End → Type 0
@@ -161,17 +162,18 @@ module _ {S K D : Type 0} (source_at : S → SourceAt) (sink_at : K → SinkAt) 
   -- What was answered once a store was open, whose disks are not damaged, and what they hold then.
   abbrev pub Answers : List (ℕ × Request) → List Entry → Fault → End → Type 0
   -- A call met the fault. Its command is the next request of its session, and is accepted after the
-  -- history: they are kept for the state then, or for the one after this command.
+  -- history: they are kept for the state then, or for the one after this command, with the
+  -- commands that were accepted by then.
   Answers asked history fault (Err DiskFault) =
       (session : ℕ) × (c : Command) × (fault ≡ AtCommand c) × (1 ≤ session) × (session ≤ SESSIONS)
       × ((later : List Request) × AreLeft asked history session (Do c ∷ later))
-      × Keep history (λ a b s. (ruling s c ≡ Allowed) × IsKeptAround s (Do c) a b)
+      × Keep history (λ a b s held. (ruling s c ≡ Allowed) × IsKeptAround s held (Do c) a b)
   -- nothing; or not all of some session, and the book had room for it
-  Answers asked history fault (Err NoMemory) = (fault ≡ NoFault) × Keep history IsKept
+  Answers asked history fault (Err NoMemory) = (fault ≡ NoFault) × Keep history IsKeptWith
       × ((history ≡ []) ⊎ ((length history < LINES_MOST)
       × ((session : ℕ) × Contains sessions session × (AreLeft asked history session [] → ⊥))))
   -- all, session by session, and they are kept for the state after the history
-  Answers asked history fault end = (fault ≡ NoFault) × Keep history IsKept
+  Answers asked history fault end = (fault ≡ NoFault) × Keep history IsKeptWith
       × Contains (0 ∷ 4 ∷ []) (status_of end)
       × All (λ session. AreLeft asked history session []) sessions
 

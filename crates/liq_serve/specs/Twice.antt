@@ -3,8 +3,9 @@
 -- requests that the first answered, or, where a disk met a fault, after one command more at most
 -- (`AreMore`). It finds what is read of the first one's disks or, if nothing was pending before the
 -- first, what a crash at its end may leave (`AreBehind`). All this follows from the top call's
--- clause, `Ends`, of either call (`laws::runs_follow_on`).
-use Rattle.std.specs.Prelude.{ℕ, ◌≡◌, ◌⊎◌, List, [], ◌∷◌, Option, Some, Ok, Err, fold}
+-- clause, `Ends`, of either call (`laws::runs_follow_on`). So does it that an audit behind a run is
+-- of the commands that were accepted in it (`AuditsAnswered`, `laws::audits_are_of_what_was_answered`).
+use Rattle.std.specs.Prelude.{ℕ, ◌≡◌, ◌⊎◌, List, [], ◌∷◌, ◌++◌, map, Option, Some, Ok, Err, fold}
 use Rattle.liq_outside.specs.At.{DiskAt, SinkAt, SourceAt}
 use Rattle.liq_outside.specs.Disk.{LeftNow, Only}
 use Rattle.liq_types.specs.declared.requests.Command.{Command}
@@ -13,15 +14,18 @@ use Rattle.liq_types.specs.declared.requests.Request.TheVariants.{Do}
 use Rattle.liq_types.specs.State.{State}
 use Rattle.liq_rule_step.specs.Image.{IsSameState}
 use Rattle.liq_rule_step.specs.Step as rule
-use Rattle.liq_rule_step.specs.Step.{Allowed, ruling, run}
-use Rattle.liq_disk_pair.specs.Kept.{IsKept}
-use Rattle.liq_disk_pair.specs.Pair.{state_on}
+use Rattle.liq_rule_step.specs.Step.{Allowed, accepted, ruling, run}
+use Rattle.liq_disk_pair.specs.Commands.{kept_behind, read_back}
+use Rattle.liq_disk_pair.specs.Kept.{IsKept, IsKeptWith}
+use Rattle.liq_disk_pair.specs.Pair.{commands_on, state_on}
+use Rattle.liq_disk_pair.specs.Past.{held_at_end}
 use Rattle.liq_disk_pair.specs.Unfinished.{HoldsUnfinished}
 use Rattle.liq_word_exit.specs.declared.halts.Halt.TheVariants.{DiskFault}
 use Rattle.liq_word_exit.specs.Requests.{IsNext}
 use Rattle.liq_word_exit.specs.Statuses.{End, status_of}
 use Rattle.liq_word_exit.specs.Outside.{Outside}
-use Rattle.liq_serve.specs.Top.{RunsTo}
+use Rattle.liq_word_state.specs.Audit.{IsAuditOf}
+use Rattle.liq_serve.specs.Top.{RunsTo, Tells}
 
 -- What disks hold behind the requests that a run answered: nothing; or, where a disk met a fault,
 -- one command more. It is accepted there, and the next line's where the source told its bytes; or,
@@ -35,14 +39,16 @@ AreMore told l r start requests end (c ∷ []) = (end ≡ Err DiskFault)
     ⊎ ((requests ≡ []) × HoldsUnfinished l r start c))
 AreMore told l r start requests end (c ∷ more) = ⊥
 
--- Two disks of this content are kept for the state after the requests and after these: so the next
--- run begins there, and what was acknowledged is in it.
+-- Two disks of this content are kept for the state after the requests and after these, and the
+-- commands that were accepted stand on them: so the next run begins there, and what was acknowledged
+-- is in it.
 abbrev pub BeginsBehind :
     Option (List ℕ) → List ℕ → List ℕ → State → List Request → End → List ℕ
     → List ℕ → Type 0
 BeginsBehind told l r start requests end a b =
     (more : List Command) × AreMore told l r start requests end more
-    × IsKept a b (fold rule.after (run start requests).0 more)
+    × IsKeptWith a b (fold rule.after (run start requests).0 more)
+    (kept_behind (held_at_end l r start requests) more)
 
 -- The functions are those of `Ends`.
 module _
@@ -56,8 +62,8 @@ module _
       × LeftNow disk_at after.left a × LeftNow disk_at after.right b)
 
   -- Two calls, both of `run`. The second begins in the state to which the first one's requests
-  -- lead, or one command further, which the first may have left unfinished. Its own requests lead
-  -- on from there.
+  -- lead, or one command further, which the first may have left unfinished; and the commands that
+  -- lead there stand on its disks. Its own requests lead on from there.
   pub record FollowOn
       (before middle again after : Outside S K D) (status later : ℕ) (l r a b : List ℕ)
       (start : State) : Type 0 where
@@ -69,6 +75,7 @@ module _
     pub state : State
     pub is : state_on a b ≡ Ok state
     pub kept : IsKept a b state
+    pub holds : commands_on a b ≡ kept_behind (held_at_end l r start first.requests) more
     pub begins : IsSameState (fold rule.after (run start first.requests).0 more) state
     pub ending : End
     pub later_is : later ≡ status_of ending
@@ -76,3 +83,22 @@ module _
     pub ends :
         IsSameState (run (fold rule.after (run start first.requests).0 more) second.requests).0
         (run state second.requests).0
+
+  -- A call of `run`, and then one of `audit`, which finds a state of the first generation. The review
+  -- is of the commands that stood on the disks before the run and, behind those, of the ones that it
+  -- accepted, as they are read back. They lead to the state in which the run ended.
+  pub record AuditsAnswered
+      (before middle again after : Outside S K D) (status later : ℕ) (l r : List ℕ) (start : State)
+      : Type 0 where
+    pub end : End
+    pub status_is : status ≡ status_of end
+    pub first : RunsTo source_at sink_at disk_at before middle end l r start
+    pub ending : End
+    pub later_is : later ≡ status_of ending
+    pub state : State
+    pub same : IsSameState state (run start first.requests).0
+    pub text : List ℕ
+    pub review :
+        IsAuditOf state (commands_on l r ++ map read_back (accepted start first.requests)) ending
+        text
+    pub told : Tells source_at sink_at disk_at again after [] text ending

@@ -1,7 +1,7 @@
 //! Laws of the top call. The functions here do nothing: they are the place where the facts of their
 //! contracts are proved.
 
-ghost use Rattle.std.specs.Prelude.{◌≡◌, Contains, List, ℕ, Ok, Some};
+ghost use Rattle.std.specs.Prelude.{◌≡◌, ◌≢◌, Contains, List, ℕ, Ok, Some};
 ghost use Rattle.liq_types.specs.State.{State};
 ghost use Rattle.liq_disk_pair.specs.Kept.{IsKept};
 ghost use Rattle.liq_disk_pair.specs.Pair.{state_on};
@@ -11,7 +11,7 @@ ghost use Rattle.liq_serve.specs.ByStatus.{ByStatus, statuses_of};
 ghost use Rattle.liq_serve.specs.Calm.{IsComplete};
 ghost use Rattle.liq_word_exit.specs.Outside.{Outside};
 ghost use Rattle.liq_serve.specs.Top.{Ends};
-ghost use Rattle.liq_serve.specs.Twice.{AreBehind, FollowOn};
+ghost use Rattle.liq_serve.specs.Twice.{AreBehind, AuditsAnswered, FollowOn};
 
 use liq_disk_pair::laws::{commands_lead_to_the_state, journals_keep_their_limit};
 use liq_follower::laws::faults_stay;
@@ -65,4 +65,22 @@ pub fn runs_follow_on<S: Source, K: Sink, D: Disk>()
         → AreBehind S.at K.at D.at before middle l r a b
         → FollowOn S.at K.at D.at before middle again after status later
         l r a b start }
+{}
+
+/// An audit behind a run tells of the commands that were answered: where the run met no disk's
+/// fault, and its disks stand for a state of the first generation then, the review is of the
+/// commands that stood there before and, behind them, of those that the run accepted.
+pub fn audits_are_of_what_was_answered<S: Source, K: Sink, D: Disk>()
+    ensures { (before middle again after : Outside S K D) (status later : ℕ)
+        (words others : List (List ℕ))
+        → Ends S.at K.at D.at before middle status words
+        → Ends S.at K.at D.at again after later others
+        → Ask words Word.Run → Ask others Word.Audit → (status ≢ 5)
+        → (l r a b : List ℕ) (start : State)
+        → (D.at before.left).seen ≡ Some l → (D.at before.right).seen ≡ Some r
+        → state_on l r ≡ Ok start
+        → (D.at middle.left).seen ≡ Some a → (D.at middle.right).seen ≡ Some b
+        → (D.at again.left).seen ≡ Some a → (D.at again.right).seen ≡ Some b
+        → ((state : State) → state_on a b ≡ Ok state → state.generation ≡ 1)
+        → AuditsAnswered S.at K.at D.at before middle again after status later l r start }
 {}

@@ -1,5 +1,5 @@
 -- What an append leaves of a store.
-use Rattle.std.proofs.Common.{◌≡◌, ◌⊎◌, ◌↔◌, inl, inr, ⊎_elim, ℕ, ◌≤◌, List, [], ◌∷◌, length, Bool, true, false, Option, Some, None, IfSome, IsSome, refl, sym, ◌∙◌, ap, subst, arith, length-append}
+use Rattle.std.proofs.Common.{◌≡◌, ◌⊎◌, ◌↔◌, inl, inr, ⊎_elim, ℕ, ◌≤◌, List, [], ◌∷◌, ◌++◌, length, Bool, true, false, if◌then◌else◌, Option, Some, None, IfSome, IsSome, refl, sym, ◌∙◌, ap, subst, arith, length-append}
 use Rattle.liq_outside.specs.At.{DiskAt}
 use Rattle.liq_outside.specs.Disk.{GoesOn, LeavesOnly, LeftNow, LeftSince, Only}
 use Rattle.liq_outside.proofs.Moments.{at_last, unmoved}
@@ -11,21 +11,22 @@ use Rattle.liq_types.specs.declared.requests.Request.TheVariants.{Do}
 use Rattle.liq_types.specs.State.{State}
 use Rattle.liq_core.specs.Core.{Core, StandsFor}
 use Rattle.liq_core.specs.Plan.{Plan, IsPlan}
-use Rattle.liq_rule_step.specs.Step.{Allowed, after, after_ruling, ruling, step}
+use Rattle.liq_rule_step.specs.Step.{Allowed, Ruling, after, after_ruling, is_allowed, newly_accepted, ruling, step}
 use Rattle.liq_rule_step.specs.Verbs.{unhinted}
 use Rattle.liq_journal.specs.Crash.{BeforeOrAfter, Stands, is_odd}
 use Rattle.liq_journal.specs.Settled.{IsSettled, JournalOn}
 use Rattle.liq_types.specs.Verbs.{is_rotate}
 use Rattle.liq_journal.specs.Written.{Open, Written, and_then, found_on, start_of}
 use Rattle.liq_disk_pair.specs.declared.side.Side.{Side}
-use Rattle.liq_disk_pair.specs.Kept.{IsKept}
+use Rattle.liq_disk_pair.specs.Commands.{kept_behind, read_back}
+use Rattle.liq_disk_pair.specs.Kept.{IsKept, IsKeptWith}
+use Rattle.liq_disk_pair.specs.Pair.{commands_on}
 use Rattle.liq_disk_pair.specs.Sides.{has_odd, on}
 use Rattle.liq_rule_step.proofs.AlikeReads.{Alike}
 use Rattle.liq_core.proofs.Alike.{core_alike}
 use Rattle.liq_disk_pair.proofs.Alike.{settled_alike}
 use Rattle.liq_disk_pair.proofs.Around.{kept_around, settled_after}
 use Rattle.liq_disk_pair.proofs.Hints.{heard_after, heard_ruling}
-use Rattle.liq_disk_records.specs.Bodies.{read_back}
 use Rattle.liq_store.specs.Calling.{WritesOn}
 use Rattle.liq_store.specs.Keeping.{IsAtRest, IsKeptAround, IsKeptNear}
 use Rattle.liq_store.specs.Rotating.{is_rotation}
@@ -51,6 +52,17 @@ has_same o generation start count generation' start' count' a b c has =
 -- the state after an allowed command is the step's, also by what is read back of it
 pub step_is_after : (s : State) (c : Command) → ruling s c ≡ Allowed → (step s (Do c)).0 ≡ after s c
 step_is_after s c allowed = ap (λ r. (after_ruling s c r).0) allowed
+
+-- behind one that is accepted its command stands
+pub behind_newly : (held : List Command) (s : State) (c : Command) → ruling s c ≡ Allowed
+    → kept_behind held (newly_accepted s (Do c)) ≡ kept_behind held (c ∷ [])
+behind_newly held s c allowed =
+    ap (λ (x : Ruling). kept_behind held (if is_allowed x then c ∷ [] else [])) allowed
+
+behind_appended : (held : List Command) (s : State) (c : Command) → ruling s c ≡ Allowed → is_rotate c.call ≡ false
+    → kept_behind held (newly_accepted s (Do c)) ≡ held ++ read_back c ∷ []
+behind_appended held s c allowed stays =
+    behind_newly held s c allowed ∙ ap (λ (b : Bool). if b then [] else held ++ read_back c ∷ []) stays
 
 one_record : (odd : Bool) (generation start count : ℕ) (bytes : List ℕ) (w : Written) → is_odd generation ≡ odd
     → found_on odd bytes ≡ Open w → w.generation ≡ generation → start_of w ≡ start → count ≤ length w.commands
@@ -138,8 +150,9 @@ module _ {D : Type 0} (at : D → DiskAt) (side : Side) (taken new : JournalOn D
   around : (held other image : List ℕ) (told : (at taken.disk).seen ≡ Some held) → (at b).seen ≡ Some other
       → (s : State) → StandsFor core s
       → BeforeOrAfter (is_odd taken.generation) (settled_on held told).written (read_back c) image
-      → IsKept (on side image other) (on side other image) s ⊎ IsKept (on side image other) (on side other image)
-      (after s (read_back c))
+      → IsKeptWith (on side image other) (on side other image) s (commands_on (on side held other) (on side other held))
+      ⊎ IsKeptWith (on side image other) (on side other image) (after s (read_back c))
+      (commands_on (on side held other) (on side other held) ++ read_back c ∷ [])
   around held other image told to s stands left =
       let is = settled_on held told in
       kept_around side held other image s is.written (read_back c) (app.going.settled held other told to s stands)
@@ -148,18 +161,21 @@ module _ {D : Type 0} (at : D → DiskAt) (side : Side) (taken new : JournalOn D
       (subst (λ (o : Bool). BeforeOrAfter o is.written (read_back c) image) app.parity left)
 
   -- every pair that a crash in it may have left
-  kept_pairs : (held other : List ℕ) (s : State) → (at taken.disk).seen ≡ Some held → (at b).seen ≡ Some other
-      → StandsFor core s
+  kept_pairs : is_rotate c.call ≡ false → (held other : List ℕ) (s : State) → (at taken.disk).seen ≡ Some held
+      → (at b).seen ≡ Some other → StandsFor core s
       → (x y : List ℕ) → LeftSince at new.disk (at taken.disk).moment x → LeftSince at b (at b).moment y
-      → IsKeptAround s (Do c) (on side x y) (on side y x)
-  kept_pairs held other s told to stands x y lx ly =
+      → IsKeptAround s (commands_on (on side held other) (on side other held)) (Do c) (on side x y) (on side y x)
+  kept_pairs stays held other s told to stands x y lx ly =
       let same : y ≡ other = rest_only at b other to app.going.beside_rests y ly in
       let one : (step s (Do c)).0 ≡ after s (read_back c) = step_is_after s c (app.allowed s stands)
       ∙ sym (heard_after s c) in
       let kept = around held other x told to s stands ((leaves held told).each x lx) in
-      subst (λ (z : List ℕ). IsKeptAround s (Do c) (on side x z) (on side z x)) (sym same)
-      (⊎_elim (λ before. inl before) (λ more. inr (subst (λ (t : State). IsKept (on side x other) (on side other x) t)
-      (sym one) more)) kept)
+      let begun = commands_on (on side held other) (on side other held) in
+      subst (λ (z : List ℕ). IsKeptAround s begun (Do c) (on side x z) (on side z x)) (sym same)
+      (⊎_elim (λ before. inl before) (λ more. inr (record {
+        kept = subst (λ (t : State). IsKept (on side x other) (on side other x) t) (sym one) more.kept;
+        commands = more.commands ∙ sym (behind_appended begun s c (app.allowed s stands) stays);
+      })) kept)
 
   -- every pair that a crash after it may leave
   pub kept_near : (now other x y : List ℕ) → (at new.disk).seen ≡ Some now → (at b).seen ≡ Some other
@@ -171,7 +187,8 @@ module _ {D : Type 0} (at : D → DiskAt) (side : Side) (taken new : JournalOn D
       let left = at_last at taken.disk new.disk _ (leaves before.0 before.1) x lx in
       let kept = around before.0 other x before.1 to s stands left in
       subst (λ (z : List ℕ). IsKeptNear s (on side x z) (on side z x)) (sym same)
-      (⊎_elim (λ still. inl still) (λ then. inr (read_back c, heard_ruling s c ∙ app.allowed s stands, then)) kept)
+      (⊎_elim (λ still. inl still.kept) (λ next. inr (read_back c, heard_ruling s c ∙ app.allowed s stands, next.kept))
+      kept)
 
   -- the records before it are there after it, whatever became of it
   pub still_has : ((disk : D) (held : List ℕ) → (at disk).seen ≡ Some held → LeftNow at disk held)
@@ -223,7 +240,7 @@ module _ {D : Type 0} (at : D → DiskAt) (side : Side) (taken new : JournalOn D
             subst (λ (d : Command). LeavesOnly at taken.disk new.disk (BeforeOrAfter (has_odd side) w (read_back d)))
             one (written_as held w told found);
         created = λ none s stands held k told is_k rotation. absurd (not_one s stays rotation);
-        kept = λ none held other s th to stands x y lx ly. kept_pairs held other s th to stands x y lx ly;
+        kept = λ none held other s th to stands x y lx ly. kept_pairs stays held other s th to stands x y lx ly;
         taken_telling = app.telling;
         aside_telling = (λ told. told, λ told. told);
         taken_time = time;
@@ -232,13 +249,13 @@ module _ {D : Type 0} (at : D → DiskAt) (side : Side) (taken new : JournalOn D
 
   -- ---- the record is on the disk, and the step is made
 
-  pub went_on : (then : Core) (s : State) → StandsFor core s → ((t : State) → StandsFor core t
-      → StandsFor then (after t c)) → IsAtRest at new.disk
+  pub went_on : (next : Core) (s : State) → StandsFor core s → ((t : State) → StandsFor core t
+      → StandsFor next (after t c)) → IsAtRest at new.disk
       → ((held : List ℕ) (w : Written) → (at taken.disk).seen ≡ Some held → Stands (is_odd taken.generation) held w
       → (now : List ℕ) × ((at new.disk).seen ≡ Some now)
       × Stands (is_odd taken.generation) now (and_then w (read_back c)))
-      → Going at side new.disk b then
-  went_on then s stands steps rests appended = record {
+      → Going at side new.disk b next
+  went_on next s stands steps rests appended = record {
     taken_rests = rests;
     beside_rests = app.going.beside_rests;
     settled = λ now other tn to t so.
@@ -254,6 +271,6 @@ module _ {D : Type 0} (at : D → DiskAt) (side : Side) (taken new : JournalOn D
         (subst (λ (o : Bool). found_on o before.0 ≡ Open is.written) app.parity is.stands.found) (heard_ruling s c
         ∙ app.allowed s stands) last in
         let alike : Alike (after s (read_back c)) t = subst (λ (u : State). Alike u t) (sym (heard_after s c))
-        (core_alike then (after s c) t (steps s stands) so) in
+        (core_alike next (after s c) t (steps s stands) so) in
         settled_alike alike side (on side now other) (on side other now) settled;
   }

@@ -22,10 +22,11 @@ use Rattle.liq_types.specs.Verbs.{is_rotate}
 use Rattle.liq_journal.specs.Written.{Open, Written, found_on, start_of}
 use Rattle.liq_disk_pair.specs.declared.side.Side.{Side}
 use Rattle.liq_disk_pair.specs.declared.side.Side.TheVariants.{Left, Right}
-use Rattle.liq_disk_pair.specs.Kept.{IsKept}
+use Rattle.liq_disk_pair.specs.Kept.{IsKeptWith}
+use Rattle.liq_disk_pair.specs.Pair.{commands_on}
 use Rattle.liq_disk_pair.specs.Sides.{has_odd, on, other}
 use Rattle.liq_disk_pair.proofs.Keeping.{settled_kept}
-use Rattle.liq_disk_records.specs.Bodies.{read_back}
+use Rattle.liq_disk_pair.specs.Commands.{read_back}
 use Rattle.liq_store.specs.Calling.{WritesOn}
 use Rattle.liq_store.specs.Keeping.{IsKeptAround}
 use Rattle.liq_rule_step.specs.Memory.{IsAccepted}
@@ -105,7 +106,8 @@ module _ {D : Type 0} (at : D → DiskAt) where
     pub kept : stopped ≡ None → (held aside_held : List ℕ) (s : State) → (at t).seen ≡ Some held
         → (at b).seen ≡ Some aside_held → StandsFor core s
         → (x y : List ℕ) → LeftSince at t' (at t).moment x → LeftSince at b' (at b).moment y
-        → IsKeptAround s request (on side x y) (on side y x)
+        → IsKeptAround s (commands_on (on side held aside_held) (on side aside_held held)) request (on side x y)
+        (on side y x)
     pub taken_telling : IsSome (at t').seen ↔ IsSome (at t).seen
     pub aside_telling : IsSome (at b').seen ↔ IsSome (at b).seen
     pub taken_time : GoesOn at t t'
@@ -211,16 +213,20 @@ module _ {D : Type 0} (at : D → DiskAt) where
     pairs_left : stopped ≡ None → (held aside_held : List ℕ) (s : State) → (at taken.disk).seen ≡ Some held
         → (at b).seen ≡ Some aside_held → StandsFor core s → (request : Request)
         → (x y : List ℕ) → LeftSince at taken.disk (at taken.disk).moment x → LeftSince at b (at b).moment y
-        → IsKeptAround s request (on side x y) (on side y x)
+        → IsKeptAround s (commands_on (on side held aside_held) (on side aside_held held)) request (on side x y)
+        (on side y x)
     pairs_left none held aside_held s th ta stands request x y lx ly =
         let going = going_by at before side taken b core stopped none within.order in
         let ex : x ≡ held = rest_only at taken.disk held th going.taken_rests x lx in
         let ey : y ≡ aside_held = rest_only at b aside_held ta going.beside_rests y ly in
-        let kept : IsKept (on side held aside_held) (on side aside_held held) s =
-        settled_kept side (on side held aside_held) (on side aside_held held) s (going.settled held aside_held th ta s
-        stands) in
-        inl (subst (λ (l : List ℕ). IsKept (on side l y) (on side y l) s) (sym ex)
-        (subst (λ (l : List ℕ). IsKept (on side held l) (on side l held) s) (sym ey) kept))
+        let commands = commands_on (on side held aside_held) (on side aside_held held) in
+        let kept : IsKeptWith (on side held aside_held) (on side aside_held held) s commands = record {
+          kept = settled_kept side (on side held aside_held) (on side aside_held held) s
+              (going.settled held aside_held th ta s stands);
+          commands = refl;
+        } in
+        inl (subst (λ (l : List ℕ). IsKeptWith (on side l y) (on side y l) s commands) (sym ex)
+        (subst (λ (l : List ℕ). IsKeptWith (on side held l) (on side l held) s commands) (sym ey) kept))
 
     -- the disks stay as they are
     pub stays_on : (old : Stored D) → stored side taken b core stopped before ≡ old

@@ -8,19 +8,19 @@ use Rattle.liq_outside.proofs.Moments.{chained, weaker}
 use Rattle.liq_types.specs.State.{State}
 use Rattle.liq_core.specs.Core.{Core, StandsFor}
 use Rattle.liq_journal.specs.Causes.{Counted}
-use Rattle.liq_journal.specs.Crash.{CreateLeaves, beginning}
+use Rattle.liq_journal.specs.Crash.{CreateLeaves, IsClosed, beginning}
 use Rattle.liq_journal.specs.Opened.{CrashOfOpen, IsUnshut, OpenLeaves, ReadsOfOpen}
-use Rattle.liq_journal.specs.Written.{found_on}
+use Rattle.liq_journal.specs.Written.{Absent, found_on}
 use Rattle.liq_journal.specs.declared.damage.Damage.{Damage}
-use Rattle.liq_disk_pair.specs.declared.side.Side.{Side}
 use Rattle.liq_disk_pair.specs.declared.side.Side.TheVariants.{Left, Right}
 use Rattle.liq_disk_pair.specs.Pair.{Faulty, standing, state_on}
-use Rattle.liq_disk_pair.specs.Kept.{IsKept}
+use Rattle.liq_disk_pair.specs.Kept.{IsFirst, IsKept}
 use Rattle.liq_disk_pair.specs.Unfinished.{IsRecovered, LeftLeaves}
 use Rattle.liq_disk_pair.proofs.Beginning.{created_from, left_faulty, right_faulty, right_faulty_beside}
 use Rattle.liq_disk_pair.proofs.Commands.{commands_alike}
+use Rattle.liq_disk_pair.proofs.FirstPlace.{closed_settled}
 use Rattle.liq_disk_pair.proofs.Recovering.{recovered}
-use Rattle.liq_disk_pair.proofs.Standings.{standing_absent, standing_open, state_alike, state_by}
+use Rattle.liq_disk_pair.proofs.Standings.{standing_absent, standing_open, state_alike}
 use Rattle.liq_store.specs.declared.answers.StoreFault.{StoreFault}
 use Rattle.liq_store.specs.declared.answers.StoreWhy.{StoreWhy}
 use Rattle.liq_store.specs.declared.answers.StoreWhy.TheVariants as why
@@ -34,7 +34,7 @@ use Rattle.liq_store.specs.Causes.{CausesWhy, Faults, OneRose, counts_of}
 use Rattle.liq_store.specs.Judging.{IsDamagedBy, IsFine, IsJudged, MetFault, disk_of}
 use Rattle.liq_disk_records.specs.Reading.{CountsFault}
 use Rattle.liq_store.specs.Keeping.{IsAtRest}
-use Rattle.liq_store.specs.Opening.{IsNotOpened, IsWhyOf, OpensOn, left_after, right_after}
+use Rattle.liq_store.specs.Opening.{IsNotOpened, IsWhyOf, OnlyOpens, OpensOn, left_after, right_after}
 use Rattle.liq_store.specs.Standing.{CountsStand, IsCounted, IsFaultless, IsFoundOn, IsLeftOn, IsWhyOn, OnlyShuts, disk_in}
 use Rattle.liq_store.specs.Stored.{Stored}
 use Rattle.liq_store.proofs.OneDisk.{told_too}
@@ -336,31 +336,6 @@ judged_faultless lr rr (why.Damaged Left damage) judged other = (judged.1, judge
 judged_faultless lr rr (why.Damaged Right damage) judged other = (judged.2, judged.3)
 judged_faultless lr rr why.NoMemory judged other = judged
 
--- two with which nothing is wrong stand for a state
-fine_stand : {D : Type 0} (l r : List ℕ) (first : Side × Damage) (stood_left stood_right : Stood D)
-    → IsFoundOn true l (Ok stood_left) → IsFoundOn false r (Ok stood_right)
-    → state_on l r ≡ Err first → ⊥
-fine_stand l r first (Nothing dl) (Nothing dr) fl fr is =
-    absurd (cc (state_by l r _ _ (standing_absent true l fl) (standing_absent false r fr), is))
-fine_stand l r first (Nothing dl) (Holding jr cr) fl fr is =
-    absurd (cc (
-      state_by l r _ _ (standing_absent true l fl) (standing_open false r fr.written fr.state fr.found
-          fr.came),
-      is,
-    ))
-fine_stand l r first (Holding jl cl) (Nothing dr) fl fr is =
-    absurd (cc (
-      state_by l r _ _ (standing_open true l fl.written fl.state fl.found fl.came)
-          (standing_absent false r fr),
-      is,
-    ))
-fine_stand l r first (Holding jl cl) (Holding jr cr) fl fr is =
-    absurd (cc (
-      state_by l r _ _ (standing_open true l fl.written fl.state fl.found fl.came)
-          (standing_open false r fr.written fr.state fr.found fr.came),
-      is,
-    ))
-
 damaged_so : {D : Type 0} (odd : Bool) (held : List ℕ) (damage : Damage) (result : Result (Stood D) (StandFault D))
     → IsDamagedBy damage result → IsFoundOn odd held result → standing odd held ≡ Faulty damage
 damaged_so odd held damage (Ok stood) is found = absurd is
@@ -472,22 +447,49 @@ module _ {D : Type 0} (at : D → DiskAt) where
       → StandsAs at true left lr → StandsAs at false right rr
       → (e : StoreFault D) → e.left ≡ disk_in lr → e.right ≡ disk_in rr → IsJudged lr rr e.why
       → e.why ≢ why.DiskFault → (l r a b : List ℕ) → (at left).seen ≡ Some l → (at right).seen ≡ Some r
-      → (at e.left).seen ≡ Some a → (at e.right).seen ≡ Some b → OnlyShuts true l a × OnlyShuts false r b
+      → (at e.left).seen ≡ Some a → (at e.right).seen ≡ Some b → OnlyOpens l r a b
   judged_shuts left right lr rr sl sr e is_left is_right judged other l r a b tl tr ta tb =
       let faultless = judged_faultless lr rr e.why judged other in (
-        sl.shut faultless.0 l a tl (ap (λ (d : D). (at d).seen) (sym is_left) ∙ ta),
         sr.shut faultless.1 r b tr (ap (λ (d : D). (at d).seen) (sym is_right) ∙ tb),
+        inl (sl.shut faultless.0 l a tl (ap (λ (d : D). (at d).seen) (sym is_left) ∙ ta)),
       )
 
-  -- where both were fine, neither was damaged
-  pub begun_undamaged : (left right : D) (stood_left stood_right : Stood D)
-      → StandsAs at true left (Ok stood_left)
-      → StandsAs at false right (Ok stood_right) → (result : Result (Stored D) (StoreFault D))
-      → IfErr result (λ e. (e.why ≢ why.DiskFault) → (l r a b : List ℕ) (first : Side × Damage)
-      → (at left).seen ≡ Some l
-      → (at right).seen ≡ Some r → state_on l r ≡ Err first → (at e.left).seen ≡ Some a → (at e.right).seen ≡ Some b
-      → OnlyShuts true l a × OnlyShuts false r b)
-  begun_undamaged left right stood_left stood_right sl sr (Ok store) = tt
-  begun_undamaged left right stood_left stood_right sl sr (Err e) =
-      λ other l r a b first tl tr is ta tb.
-      absurd (fine_stand l r first stood_left stood_right (sl.found l tl) (sr.found r tr) is)
+  -- what a creation leaves on a disk whose gate is shut
+  created_so : (m a : List ℕ) → (IsUnshut m → ⊥) → CreateLeaves true m (beginning 1 []) a
+      → IsClosed a ⊎ IsFirst true a
+  created_so m a shut (inl closed) = inl closed
+  created_so m a shut (inr (inl settled)) = inl (closed_settled m a shut settled)
+  created_so m a shut (inr (inr stands)) = inr (record {
+    written = beginning 1 [];
+    stands = stands;
+    first = refl;
+    limit_is = refl;
+    none = refl;
+  })
+
+  left_shuts : (left right : D) (stood_left stood_right : Stood D) (now : D) → StandsAs at true left (Ok stood_left)
+      → StandsAs at false right (Ok stood_right) → BeginsLeft at stood_left stood_right now
+      → (l r a : List ℕ) → (at left).seen ≡ Some l → (at right).seen ≡ Some r → (at now).seen ≡ Some a
+      → OnlyShuts true l a ⊎ ((found_on true l ≡ Absent) × (found_on false r ≡ Absent)
+      × (IsClosed a ⊎ IsFirst true a))
+  left_shuts left right stood_left stood_right now sl sr (inl same) l r a tl tr ta =
+      inl (sl.shut tt l a tl (ap (λ (d : D). (at d).seen) (sym (same_disk at stood_left now same)) ∙ ta))
+  left_shuts left right (Nothing dl) (Nothing dr) now sl sr (inr made) l r a tl tr ta =
+      let m = told_too (at left).seen (at dl).seen sl.lasts.telling l tl in
+      let shut : IsUnshut m.0 → ⊥ = subst (λ (o : Option (List ℕ)). IfSome o (λ after. IsUnshut after → ⊥)) m.1 sl.left
+      in
+      inr (sl.found l tl, sr.found r tr, created_so m.0 a shut (made.2.reads m.0 a m.1
+      (only_it at left right dl dr now sl sr made.2 m.0 m.1) ta))
+  left_shuts left right (Nothing dl) (Holding journal core) now sl sr (inr made) l r a tl tr ta = absurd made.1
+  left_shuts left right (Holding journal core) stood_right now sl sr (inr made) l r a tl tr ta = absurd made.0
+
+  -- where nothing was wrong with either
+  pub begun_shuts : (left right : D) (stood_left stood_right : Stood D) (a_left a_right : D)
+      → StandsAs at true left (Ok stood_left) → StandsAs at false right (Ok stood_right)
+      → BeginsLeft at stood_left stood_right a_left → a_right ≡ disk_of stood_right
+      → (l r a b : List ℕ) → (at left).seen ≡ Some l → (at right).seen ≡ Some r
+      → (at a_left).seen ≡ Some a → (at a_right).seen ≡ Some b → OnlyOpens l r a b
+  begun_shuts left right stood_left stood_right a_left a_right sl sr begins same l r a b tl tr ta tb = (
+    sr.shut tt r b tr (ap (λ (d : D). (at d).seen) (sym (same_disk at stood_right a_right same)) ∙ tb),
+    left_shuts left right stood_left stood_right a_left sl sr begins l r a tl tr ta,
+  )

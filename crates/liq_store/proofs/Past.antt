@@ -1,6 +1,7 @@
 -- A store in the midst of a run: how that begins, goes on and ends, by what a call says of both disks.
-use Rattle.std.proofs.Common.{◌≡◌, ◌⊎◌, ◌↔◌, inl, inr, ⊎_elim, ℕ, ◌+◌, ◌≤◌, List, [], ◌∷◌, ◌++◌, fold, Ok, Option, Some, None, IfSome, IsSome, is_some, Bool, true, false, ◌&&◌, if◌then◌else◌, refl, sym, ◌∙◌, ap, subst, arith}
+use Rattle.std.proofs.Common.{◌≡◌, ◌⊎◌, ◌↔◌, inl, inr, ⊎_elim, ℕ, ◌+◌, ◌≤◌, List, [], ◌∷◌, ◌++◌, fold, Ok, Option, Some, None, IfSome, IsSome, is_some, Bool, true, false, ◌&&◌, if◌then◌else◌, refl, sym, ◌∙◌, ap, ap₂, subst, arith}
 use Rattle.std.specs.Prelude.{count_by}
+use Rattle.std.proofs.lemmas.List.{append-nil}
 use Rattle.liq_outside.specs.At.{DiskAt}
 use Rattle.liq_outside.specs.Disk.{GoesOn, LeavesOnly, LeftNow, LeftSince, Only}
 use Rattle.liq_outside.proofs.Moments.{law}
@@ -14,7 +15,7 @@ use Rattle.liq_types.specs.declared.requests.Request.{Request}
 use Rattle.liq_types.specs.declared.requests.Request.TheVariants.{Do, Ask}
 use Rattle.liq_types.specs.State.{State}
 use Rattle.liq_core.specs.Core.{StandsFor}
-use Rattle.liq_rule_step.specs.Step.{Allowed, Refused, Repeated, Ruling, accepted, after, is_allowed, ruling, run, step}
+use Rattle.liq_rule_step.specs.Step.{Allowed, Refused, Repeated, Ruling, accepted, after, is_allowed, newly_accepted, ruling, run, step}
 use Rattle.liq_rule_step.specs.Image.{image}
 use Rattle.liq_rule_step.proofs.AlikeReads.{Alike}
 use Rattle.liq_rule_step.proofs.AlikeReplies.{accepted_alike}
@@ -25,18 +26,20 @@ use Rattle.liq_types.specs.Verbs.{is_rotate}
 use Rattle.liq_journal.specs.Written.{Absent, Open, Written, found_on}
 use Rattle.liq_disk_pair.specs.declared.side.Side.{Side}
 use Rattle.liq_disk_pair.specs.declared.side.Side.TheVariants.{Left, Right}
-use Rattle.liq_disk_pair.specs.Kept.{IsKept, IsSettledFor}
-use Rattle.liq_disk_pair.specs.Past.{AtCommand, Fault, IsAsItStood, IsOfRun, IsTakenFirst, KeptAtEnd, LeavesPast, NoFault, failed_commands, rotations}
-use Rattle.liq_disk_pair.specs.Pair.{state_on}
+use Rattle.liq_disk_pair.specs.Commands.{kept_behind, read_back}
+use Rattle.liq_disk_pair.specs.Kept.{IsKept, IsKeptWith, IsSettledFor}
+use Rattle.liq_disk_pair.specs.Past.{AtCommand, Fault, IsAsItStood, IsOfRun, IsTakenFirst, KeptAtEnd, LeavesPast, NoFault, failed_commands, held_at_end, rotations}
+use Rattle.liq_disk_pair.specs.Pair.{StandFor, commands_on, state_on}
 use Rattle.liq_disk_pair.specs.Sides.{beside, has_odd, on, other}
 use Rattle.liq_disk_pair.specs.Unfinished.{LeftLeaves}
 use Rattle.liq_disk_pair.proofs.Alone.{IsOpenFor, first_parity, isnt_absent, later_leads, of_append, of_creation, open_alone, open_with, settled_first, settled_holds_none, settled_open}
+use Rattle.liq_disk_pair.proofs.Behind.{held_longer}
+use Rattle.liq_disk_pair.proofs.KeptWith.{settled_commands}
 use Rattle.liq_disk_pair.proofs.FirstPlace.{absent_isnt_open}
 use Rattle.liq_disk_pair.proofs.Hints.{heard_after, heard_ruling}
 use Rattle.liq_disk_pair.proofs.Keeping.{LeadsTo, leads_generation, none_alike, settled_kept, settled_leads, settled_parity}
 use Rattle.liq_disk_pair.proofs.Past.{generation_counts, left_of, left_whole, of_alike, of_halted, of_longer, of_same, opening_of, opening_whole, opening_with, prefix_whole, rotations_failed, rotations_halted, rotations_longer, rotations_more, run_folds}
 use Rattle.liq_disk_pair.proofs.Standings.{pair_ends}
-use Rattle.liq_disk_records.specs.Bodies.{read_back}
 use Rattle.liq_store.specs.Answering.{Answers}
 use Rattle.liq_store.specs.Calling.{WritesOn}
 use Rattle.liq_store.specs.Keeping.{IsAtRest, IsGoing, IsInOrder, IsKeptAround, LeavesPairs}
@@ -45,9 +48,10 @@ use Rattle.liq_store.specs.Opening.{OpensOn}
 use Rattle.liq_store.specs.Past.{Past}
 use Rattle.liq_store.specs.Rotating.{is_rotation, rotation_of}
 use Rattle.liq_store.specs.Stored.{Stored, disk_beside, taken_disk}
-use Rattle.liq_store.proofs.Appending.{step_is_after}
+use Rattle.liq_store.proofs.Appending.{behind_newly, step_is_after}
 use Rattle.liq_store.proofs.Going.{going_of, rest_now, rest_only}
 use Rattle.liq_store.proofs.OneDisk.{some_same}
+use Rattle.liq_store.proofs.Recovered.{accepted_changes}
 
 -- ---- sides
 
@@ -99,6 +103,38 @@ module _ {D : Type 0} (at : D → DiskAt) where
       → P (on side x y) (on side y x)
   pair_by Left left right now_left now_right P leaves x y lx ly = leaves x y lx ly
   pair_by Right left right now_left now_right P leaves x y lx ly = leaves y x ly lx
+
+-- an opening leaves the commands that lead to the state
+pub opened_holds : {D : Type 0} (at : D → DiskAt) (l r : List ℕ) (s : State) (left right : D) (store : Stored D) → (at left).seen ≡ Some l
+    → (at right).seen ≡ Some r → OpensOn at left right store → IsInOrder at store → StandsFor store.core s
+    → (a b : List ℕ) → (at store.left).seen ≡ Some a → (at store.right).seen ≡ Some b
+    → commands_on a b ≡ commands_on l r
+opened_holds at l r s left right store told_left told_right opened order stands a b ta tb =
+    let settled = (going_of at store opened.going order).settled a b ta tb s stands in
+    let holds = opened.commands l r (on store.side a b) told_left told_right
+    (on_told at store.side store.left store.right a b ta tb) in
+    let both : Open settled.written ≡ Open holds.written = sym settled.open_on.found ∙ holds.found in
+    let one : settled.written ≡ holds.written = cc (both) in
+    settled_commands store.side a b s settled ∙ ap (λ (w : Written). w.commands) one ∙ holds.are
+
+-- ---- what was accepted
+
+-- a request that isn't accepted adds no command
+none_ruled : (c : Command) (r : Ruling) → (r ≡ Allowed → ⊥) → (if is_allowed r then c ∷ [] else []) ≡ []
+none_ruled c Allowed isnt = absurd (isnt refl)
+none_ruled c (Refused refusal) isnt = refl
+none_ruled c (Repeated kept) isnt = refl
+
+none_newly : (s : State) (request : Request) → (IsAccepted s request → ⊥) → newly_accepted s request ≡ []
+none_newly s (Do c) refused = none_ruled c (ruling s c) refused
+none_newly s (Ask query) refused = refl
+
+-- two states for which a pair stands have one image
+one_image : (a b : List ℕ) (s t : State) → StandFor a b s → StandFor a b t → image s ≡ image t
+one_image a b s t first second =
+    let both : pair_ends first.state ≡ pair_ends second.state = sym first.is ∙ second.is in
+    let same : first.state ≡ second.state = cc (both) in
+    sym first.same.image ∙ ap image same ∙ second.same.image
 
 -- ---- what a run leaves of one disk
 
@@ -255,10 +291,11 @@ module _ {D : Type 0} (at : D → DiskAt)
           grown at l r start side (since side) requests later NoFault (on side old.left old.right) grows
           (one_of at l r start since requests NoFault old.left old.right past.leaves side))
 
-      -- where both disks are as they were
-      still : new.left ≡ old.left → new.right ≡ old.right → new.side ≡ old.side
+      -- where both disks are as they were, and no more commands were accepted
+      still : held_at_end l r start later ≡ held_at_end l r start requests
+          → new.left ≡ old.left → new.right ≡ old.right → new.side ≡ old.side
           → Past at since l r start later new
-      still same_left same_right same_side = record {
+      still none_more same_left same_right same_side = record {
         kept = past.kept;
         going = none;
         stands = stands;
@@ -268,6 +305,8 @@ module _ {D : Type 0} (at : D → DiskAt)
         leaves = subst (λ (d : D). LeavesPast at since l r start later NoFault d new.right) (sym same_left)
             (subst (λ (d : D). LeavesPast at since l r start later NoFault old.left d) (sym same_right)
             grown_past);
+        holds = λ a b ta tb. past.holds a b (ap (λ (d : D). (at d).seen) (sym same_left) ∙ ta)
+            (ap (λ (d : D). (at d).seen) (sym same_right) ∙ tb) ∙ sym none_more;
         aside = λ held image told stood.
             subst (λ (side : Side). IsOfRun (other side) l r start later NoFault image) (sym same_side)
             (grows.images (other old.side) image (past.aside held image (ap (λ (d : D). (at d).seen) (sym aside_there)
@@ -399,9 +438,11 @@ module _ {D : Type 0} (at : D → DiskAt)
           -- beside the taken disk it is kept for the state, or for it after the rotation
           turn_kept : (image : List ℕ)
               → LeftSince at (beside old.side new.left new.right) (at (disk_beside old)).moment image
-              → IsKeptAround now (Do c) (on old.side taken_bytes image) (on old.side image taken_bytes)
+              → IsKeptAround now (commands_on left_held.0 right_held.0) (Do c) (on old.side taken_bytes image)
+              (on old.side image taken_bytes)
           turn_kept image was =
-              pair_by at old.side old.left old.right new.left new.right (IsKeptAround now (Do c))
+              pair_by at old.side old.left old.right new.left new.right
+              (IsKeptAround now (commands_on left_held.0 right_held.0) (Do c))
               (writes.kept past.going left_held.0 right_held.0 now left_held.1 right_held.1 past.stands)
               taken_bytes image still_taken was
 
@@ -421,14 +462,14 @@ module _ {D : Type 0} (at : D → DiskAt)
                   settled.open_on.found found
                   (let g = generation in omega (arith, g)) kept.stands
 
-              by : IsKeptAround now (Do c) (on old.side taken_bytes image) (on old.side image taken_bytes)
-                  → IsOpenFor (other old.side) image (after now c)
+              by : IsKeptAround now (commands_on left_held.0 right_held.0) (Do c) (on old.side taken_bytes image)
+                  (on old.side image taken_bytes) → IsOpenFor (other old.side) image (after now c)
               by (inl kept) =
                   let same : next.generation ≡ now.generation =
-                  leads_generation (has_odd (other old.side)) image next now found (leads now kept) in
+                  leads_generation (has_odd (other old.side)) image next now found (leads now kept.kept) in
                   absurd (omega (arith, same))
               by (inr kept) =
-                  let done = leads (step now (Do c)).0 kept in
+                  let done = leads (step now (Do c)).0 kept.kept in
                   record {
                     written = next;
                     found = found;
@@ -531,9 +572,32 @@ module _ {D : Type 0} (at : D → DiskAt)
             (inr (inr (inl (prefix_whole old.side start requests image still_open)))))
             (open_with old.side held image now opens stood))
 
-        replied : new.stopped ≡ None → StandsFor new.core (step now (Do c)).0
+        -- what both tell then holds the command
+        holds_then : IsGoing at new → StandsFor new.core (step now (Do c)).0 → (a b : List ℕ)
+            → (at new.left).seen ≡ Some a → (at new.right).seen ≡ Some b
+            → commands_on a b ≡ held_at_end l r start longer
+        holds_then goes_then stands a b ta tb =
+            let begun = commands_on left_held.0 right_held.0 in
+            let kept : IsKeptAround now begun (Do c) a b =
+            writes.kept past.going left_held.0 right_held.0 now left_held.1 right_held.1 past.stands a b
+            ((at new.left).moment, writes.left_time.later, omega arith, stays new.left a ta)
+            ((at new.right).moment, writes.right_time.later, omega arith, stays new.right b tb) in
+            let settled_then = (goes_then.settled a b ta tb (step now (Do c)).0 stands).stands in
+            ⊎_elim
+            (λ (before : IsKeptWith a b now begun). absurd (accepted_changes now c allowed
+            (one_image a b now (after now c) before.kept.stands
+            (subst (λ (s : State). StandFor a b s) (step_is_after now c allowed) settled_then))))
+            (λ (done : IsKeptWith a b (step now (Do c)).0 (kept_behind begun (newly_accepted now (Do c)))).
+            done.commands
+            ∙ ap (λ (cs : List Command). kept_behind cs (newly_accepted now (Do c)))
+            (past.holds left_held.0 right_held.0 left_held.1 right_held.1)
+            ∙ ap (kept_behind (held_at_end l r start requests)) (sym (append-nil (newly_accepted now (Do c))))
+            ∙ sym (held_longer l r start requests (Do c ∷ [])))
+            kept
+
+        replied : new.stopped ≡ None → IsInOrder at new → StandsFor new.core (step now (Do c)).0
             → Past at since l r start longer new
-        replied none stands = record {
+        replied none order_then stands = record {
           kept = past.kept;
           going = none;
           stands = subst (λ (s : State). StandsFor new.core s) (sym (run_state start requests (Do c ∷ []))) stands;
@@ -541,6 +605,7 @@ module _ {D : Type 0} (at : D → DiskAt)
           right_tells = writes.right_telling.1 past.right_tells;
           later = later_then;
           leaves = called c (answer.Reply reply) allowed writes longer NoFault makes;
+          holds = holds_then (going_of at new none order_then) stands;
           aside = by (is_rotate c.call) refl;
         }
           where
@@ -560,14 +625,16 @@ module _ {D : Type 0} (at : D → DiskAt)
           still since l r start requests old new past (requests ++ request ∷ [])
           (grows_more l r start requests (request ∷ [])) none
           (subst (λ (s : State). StandsFor new.core s) (sym (run_state start requests (request ∷ []))) stands)
-          same.0 same.1 side
+          (held_longer l r start requests (request ∷ [])
+          ∙ ap (λ (cs : List Command). kept_behind (held_at_end l r start requests) (cs ++ []))
+          (none_newly now request refused)) same.0 same.1 side
 
       -- A request is answered.
-      pub goes_on : (request : Request) (reply : Reply) → new.stopped ≡ None
+      pub goes_on : (request : Request) (reply : Reply) → new.stopped ≡ None → IsInOrder at new
           → ((s : State) → StandsFor old.core s → Answers s request (answer.Reply reply) new.core)
           → WritesOn at old request (answer.Reply reply) new
           → Past at since l r start (requests ++ request ∷ []) new
-      goes_on (Do c) reply none answers writes = by (ruling now c) refl
+      goes_on (Do c) reply none order_then answers writes = by (ruling now c) refl
         where
           stands : StandsFor new.core (step now (Do c)).0
           stands = (answers now past.stands).0
@@ -582,10 +649,10 @@ module _ {D : Type 0} (at : D → DiskAt)
               (all ∙ and_false (is_rotate c.call))
 
           by : (x : Ruling) → ruling now c ≡ x → Past at since l r start (requests ++ Do c ∷ []) new
-          by Allowed is = replied c reply is writes none stands
+          by Allowed is = replied c reply is writes none order_then stands
           by (Refused refusal) is = refused (Refused refusal) is refl (λ is_one. absurd (cc (is_one)))
           by (Repeated kept) is = refused (Repeated kept) is refl (λ is_one. absurd (cc (is_one)))
-      goes_on (Ask query) reply none answers writes =
+      goes_on (Ask query) reply none order_then answers writes =
           idle (Ask query) reply none (answers now past.stands).0 writes (λ accepted. accepted) refl
 
       -- Memory was wanted for it.
@@ -596,7 +663,7 @@ module _ {D : Type 0} (at : D → DiskAt)
       waits request none answers writes =
           let same = writes.no_memory refl in
           still since l r start requests old new past requests (grows_halted l r start requests NoFault) none
-          (answers now past.stands).0 same.0 same.1 (writes.side now past.stands)
+          (answers now past.stands).0 refl same.0 same.1 (writes.side now past.stands)
 
       -- A disk met a fault at it.
       stops_at : (c : Command) → ((s : State) → StandsFor old.core s → Answers s (Do c) answer.DiskFault new.core)
@@ -622,12 +689,22 @@ module _ {D : Type 0} (at : D → DiskAt)
           → KeptAtEnd l r start requests (AtCommand c) a b
       kept_at c answers writes a b la lb =
           let allowed = (answers now past.stands).1 in
-          let kept : IsKeptAround now (Do c) a b =
+          let begun = commands_on left_held.0 right_held.0 in
+          let here : begun ≡ held_at_end l r start requests =
+          past.holds left_held.0 right_held.0 left_held.1 right_held.1 in
+          let kept : IsKeptAround now begun (Do c) a b =
           writes.kept past.going left_held.0 right_held.0 now left_held.1 right_held.1 past.stands a b
           ((at new.left).moment, writes.left_time.later, omega arith, la)
           ((at new.right).moment, writes.right_time.later, omega arith, lb) in
-          ⊎_elim (λ before. inl before)
-          (λ done. inr (allowed, subst (λ (s : State). IsKept a b s) (step_is_after now c allowed) done)) kept
+          ⊎_elim
+          (λ (before : IsKeptWith a b now begun).
+          inl (record { kept = before.kept; commands = before.commands ∙ here }))
+          (λ (done : IsKeptWith a b (step now (Do c)).0 (kept_behind begun (newly_accepted now (Do c)))).
+          inr (allowed, record {
+            kept = subst (λ (s : State). IsKept a b s) (step_is_after now c allowed) done.kept;
+            commands = done.commands ∙ behind_newly begun now c allowed
+                ∙ ap (λ (cs : List Command). kept_behind cs (c ∷ [])) here;
+          })) kept
 
       pub stops_kept : (request : Request) (c : Command) → request ≡ Do c
           → ((s : State) → StandsFor old.core s → Answers s request answer.DiskFault new.core)
@@ -652,11 +729,14 @@ module _ {D : Type 0} (at : D → DiskAt)
       let right = right_held since l r start requests store store past order in
       let same_left : a ≡ left.0 = rest_now at store.left left.0 left.1 go.left a la in
       let same_right : b ≡ right.0 = rest_now at store.right right.0 right.1 go.right b lb in
-      let kept : IsKept left.0 right.0 (run start requests).0 =
-      settled_kept store.side left.0 right.0 (run start requests).0
-      (settled since l r start requests store store past order) in
-      subst (λ (x : List ℕ). IsKept x b (run start requests).0) (sym same_left)
-      (subst (λ (y : List ℕ). IsKept left.0 y (run start requests).0) (sym same_right) kept)
+      let held = held_at_end l r start requests in
+      let kept : IsKeptWith left.0 right.0 (run start requests).0 held = record {
+        kept = settled_kept store.side left.0 right.0 (run start requests).0
+            (settled since l r start requests store store past order);
+        commands = past.holds left.0 right.0 left.1 right.1;
+      } in
+      subst (λ (x : List ℕ). IsKeptWith x b (run start requests).0 held) (sym same_left)
+      (subst (λ (y : List ℕ). IsKeptWith left.0 y (run start requests).0 held) (sym same_right) kept)
 
   -- ---- the same run
 
@@ -669,7 +749,8 @@ module _ {D : Type 0} (at : D → DiskAt)
       run_folds start requests ∙ ap (fold after start) (sym same) ∙ sym (run_folds start others) in
       still since l r start requests store store past others (grows_same l r start requests others (sym same))
       past.going
-      (subst (λ (s : State). StandsFor store.core s) ends past.stands) refl refl refl
+      (subst (λ (s : State). StandsFor store.core s) ends past.stands)
+      (ap (kept_behind (commands_on l r)) same) refl refl refl
 
   -- of a store with other changes of the list
   pub with_changes : (since : Side → ℕ) (l r : List ℕ) (start : State) (requests : List Request) (store : Stored D)
@@ -677,7 +758,7 @@ module _ {D : Type 0} (at : D → DiskAt)
       → Past at since l r start requests (record store { changes = changes })
   with_changes since l r start requests store changes past =
       still since l r start requests store (record store { changes = changes }) past requests
-      (grows_halted l r start requests NoFault) past.going past.stands refl refl refl
+      (grows_halted l r start requests NoFault) past.going past.stands refl refl refl refl
 
   -- ---- how a run begins
 
@@ -705,6 +786,11 @@ module _ {D : Type 0} (at : D → DiskAt)
         (beside_told at store.side store.left store.right l r told_left told_right) in
         inr (inl (subst (λ (x : List ℕ). IsAsItStood x image) (bytes ∙ sym (on_other store.side l r)) stood))
 
+    here_holds : (a b : List ℕ) → (at store.left).seen ≡ Some a → (at store.right).seen ≡ Some b
+        → commands_on a b ≡ commands_on l r
+    here_holds a b ta tb = ap₂ commands_on (some_same a l (at store.left).seen ta told_left)
+        (some_same b r (at store.right).seen tb told_right)
+
     pub begins_here : Past at (λ side. (at (on side store.left store.right)).moment) l r start [] store
     begins_here = record {
       kept = settled_kept store.side l r start here_settled;
@@ -718,6 +804,7 @@ module _ {D : Type 0} (at : D → DiskAt)
         whole = λ side first few image was absent. absent_isnt_open (has_odd side) image first.written absent
             (ap (found_on (has_odd side)) (here_only side image was) ∙ first.found);
       };
+      holds = here_holds;
       aside = here_aside;
     }
 
@@ -737,6 +824,7 @@ module _ {D : Type 0} (at : D → DiskAt)
         whole = λ side first few image was absent. begins_here.leaves.whole side first few image
             (subst (λ (n : ℕ). LeftSince at (on side store.left store.right) n image) (starts side) was) absent;
       };
+      holds = here_holds;
       aside = here_aside;
     }
 
@@ -870,6 +958,7 @@ module _ {D : Type 0} (at : D → DiskAt)
       right_tells = opened_right_tells;
       later = later;
       leaves = opening_leaves l r start left right store.left store.right kept left_leaves right_leaves NoFault;
+      holds = opened_holds at l r start left right store told_left told_right opened order opened_stands;
       aside = λ held image told stood. opened_aside store.side refl held image told stood;
     }
       where

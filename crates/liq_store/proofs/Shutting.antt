@@ -4,7 +4,8 @@ use Rattle.liq_outside.specs.Disk.{overwritten}
 use Rattle.liq_journal.specs.Crash.{Stands}
 use Rattle.liq_journal.specs.Opened.{IsUnshut, OpenLeaves}
 use Rattle.liq_journal.specs.Written.{Absent, Open, Written, end_of, found_on}
-use Rattle.liq_disk_pair.proofs.FirstPlace.{absent_isnt_open}
+use Rattle.liq_disk_pair.proofs.AtEnd.{shut_found}
+use Rattle.liq_disk_pair.proofs.FirstPlace.{absent_isnt_open, closed_absent}
 use Rattle.liq_disk_pair.proofs.OneByte.{byte_there}
 use Rattle.liq_store.specs.Standing.{OnlyShuts}
 
@@ -59,3 +60,14 @@ module _ (odd : Bool) (held after : List ℕ) where
             there = omega arith;
             isnt = λ none. let no : suc n ≡ 0 = sym first ∙ none in absurd (omega (arith, no));
           })))
+
+-- it leaves what is found
+pub shuts_alike : (odd : Bool) (held after : List ℕ) → OnlyShuts odd held after → found_on odd after ≡ found_on odd held
+shuts_alike odd held after (inl same) = ap (found_on odd) same
+shuts_alike odd held after (inr (place, inl some, is)) =
+    ap (found_on odd) (is ∙ ap (λ (n : ℕ). overwritten held n (0 ∷ [])) some.2)
+    ∙ shut_found odd held some.0 some.1 ∙ sym some.1
+shuts_alike odd held after (inr (place, inr none, is)) =
+    ap (found_on odd) (is ∙ ap (λ (n : ℕ). overwritten held n (0 ∷ [])) none.1)
+    ∙ closed_absent odd (overwritten held 0 (0 ∷ [])) (inr (omega arith, byte_there 0 0 held (omega arith)))
+    ∙ sym none.0

@@ -1,6 +1,6 @@
 -- What is answered is the reply of the step, and the step is made, also of a command that is planned without its own
 -- hint words.
-use Rattle.std.proofs.Common.{◌≡◌, ◌∙◌, refl, sym, ap, subst}
+use Rattle.std.proofs.Common.{◌≡◌, ◌∙◌, List, refl, sym, ap, subst}
 use Rattle.liq_types.specs.declared.replies.Done.{Done}
 use Rattle.liq_types.specs.declared.replies.Reply.{Reply}
 use Rattle.liq_types.specs.declared.replies.Reply.TheVariants.{Said}
@@ -9,13 +9,18 @@ use Rattle.liq_types.specs.declared.requests.Call.TheVariants.{Open, Adjust, Gai
 use Rattle.liq_types.specs.declared.requests.Command.{Command}
 use Rattle.liq_types.specs.declared.requests.Request.TheVariants.{Do}
 use Rattle.liq_types.specs.State.{State}
-use Rattle.liq_core.specs.Core.{Core, StandsFor}
+use Rattle.liq_types.specs.Ranked.{Ranked}
+use Rattle.liq_list_index.specs.Followed.{all_listed}
+use Rattle.liq_core.specs.Core.{Core, SameContent, StandsFor}
 use Rattle.liq_core.specs.Plan.{Plan, IsPlan}
+use Rattle.liq_core.specs.Steps.{last_put, words_of}
 use Rattle.liq_core.proofs.HintsAside.{after_same, ruling_same}
+use Rattle.liq_core_hinted.specs.declared.hints.Hints.{Hints}
+use Rattle.liq_core_hinted.specs.Hints.{IsExact}
 use Rattle.liq_core_hinted.proofs.Steps.{planned_allowed, stepped}
 use Rattle.liq_rule_step.specs.Rules.{call_changes}
 use Rattle.liq_rule_step.specs.Step.{Allowed, Ruling, after, ruling, step}
-use Rattle.liq_rule_step.specs.Verbs.{unhinted, unhinted_call}
+use Rattle.liq_rule_step.specs.Verbs.{no_hint, unhinted, unhinted_call}
 use Rattle.liq_rule_step.proofs.Runs.{hints_idle}
 use Rattle.liq_store.specs.Telling.{told_by, told_of}
 
@@ -58,3 +63,24 @@ unhinted_rotation c rotates = ap (λ (call : Call). record {
   call = unhinted_call call;
 }) rotates
     ∙ ap (λ (call : Call). record { client = c.client; number = c.number; call = call }) (sym rotates)
+
+-- ---- the guide's hint
+
+-- no hint words are left of a command's own
+pub unhinted_words : (c : Command) → words_of (unhinted c).call ≡ no_hint
+unhinted_words c = by c.call
+  where
+    by : (call : Call) → words_of (unhinted_call call) ≡ no_hint
+    by (Open account coll borrow bound hint) = refl
+    by (Adjust account coll_in coll_out borrow repay bound hint) = refl
+    by (GainToTrove account hint) = refl
+    by (Redeem account lusd bound hint) = refl
+    by _ = refl
+
+-- it says so of the list that is prepared, too
+pub guided_there : (old prepared : Core) (plan : Plan) (hints : Hints) → SameContent old prepared
+    → IsExact (all_listed old.list plan.changes) (last_put plan.changes) hints.exact
+    → IsExact (all_listed prepared.list plan.changes) (last_put plan.changes) hints.exact
+guided_there old prepared plan hints same exact =
+    subst (λ (l : List Ranked). IsExact (all_listed l plan.changes) (last_put plan.changes) hints.exact)
+    (sym same.list) exact

@@ -22,18 +22,20 @@ use Rattle.liq_types.specs.Verbs.{is_rotate}
 use Rattle.liq_journal.specs.Written.{Written, start_of}
 use Rattle.liq_disk_pair.specs.declared.side.Side.{Side}
 use Rattle.liq_disk_pair.specs.declared.side.Side.TheVariants.{Left, Right}
-use Rattle.liq_disk_pair.specs.Kept.{IsKept, IsRotationOf, IsSettledFor}
+use Rattle.liq_disk_pair.specs.Kept.{IsKept, IsKeptWith, IsRotationOf, IsSettledFor}
+use Rattle.liq_disk_pair.specs.Pair.{commands_on}
 use Rattle.liq_disk_pair.specs.Sides.{has_odd, on, other}
 use Rattle.liq_core.proofs.Alike.{core_alike}
 use Rattle.liq_disk_pair.proofs.Alike.{settled_alike}
+use Rattle.liq_disk_pair.proofs.KeptWith.{behind_rotation}
 use Rattle.liq_disk_pair.proofs.Turning.{rotation_kept, rotation_settled}
-use Rattle.liq_disk_records.specs.Bodies.{read_back}
+use Rattle.liq_disk_pair.specs.Commands.{read_back}
 use Rattle.liq_store.specs.Calling.{WritesOn}
 use Rattle.liq_store.specs.Keeping.{IsAtRest, IsKeptAround, IsKeptNear}
 use Rattle.liq_store.specs.Rotating.{is_rotation, rotation_of, side_after, start_after}
 use Rattle.liq_store.specs.Stored.{Stored}
 use Rattle.liq_store.specs.Within.{IsWithin, stored}
-use Rattle.liq_store.proofs.Appending.{all_has, some_isnt_none, step_is_after}
+use Rattle.liq_store.proofs.Appending.{all_has, behind_newly, some_isnt_none, step_is_after}
 use Rattle.liq_store.proofs.Calling.{Writes, taken_left, turned_on, writes_on}
 use Rattle.liq_store.proofs.Generations.{next_generation, next_side, no_records}
 use Rattle.liq_store.proofs.Going.{Going, going_by, order_going, order_halted, rest_now, rest_only, within_same}
@@ -44,7 +46,8 @@ use Rattle.liq_store.proofs.OneDisk.{some_same, told_too}
 kept_turning : (side : Side) (held aside image : List ℕ) (s : State) (c : Command) (w : Written)
     → IsSettledFor side (on side held aside) (on side aside held) s
     → IsRotationOf s w c → w.commands ≡ [] → CreateLeaves (has_odd (other side)) aside w image
-    → IsKept (on side held image) (on side image held) s ⊎ IsKept (on side held image) (on side image held) (after s c)
+    → IsKeptWith (on side held image) (on side image held) s (commands_on (on side held aside) (on side aside held))
+    ⊎ IsKeptWith (on side held image) (on side image held) (after s c) []
 kept_turning Left held aside image s c w settled rotation none left =
     rotation_kept Left held aside held image s c w settled rotation refl none left
 kept_turning Right held aside image s c w settled rotation none left =
@@ -121,8 +124,8 @@ module _ {D : Type 0} (at : D → DiskAt) (side : Side) (taken : JournalOn D) (b
   around : (held aside image : List ℕ) → (at taken.disk).seen ≡ Some held → (at b).seen ≡ Some aside → (s : State)
       → StandsFor core s
       → CreateLeaves (has_odd (other side)) aside (beginning (s.generation + 1) bytes) image
-      → IsKept (on side held image) (on side image held) s ⊎ IsKept (on side held image) (on side image held)
-      (after s c)
+      → IsKeptWith (on side held image) (on side image held) s (commands_on (on side held aside) (on side aside held))
+      ⊎ IsKeptWith (on side held image) (on side image held) (after s c) []
   around held aside image th ta s stands left =
       kept_turning side held aside image s c (beginning (s.generation + 1) bytes)
       (turns.going.settled held aside th ta s stands) (turns.rotation s stands) refl left
@@ -131,13 +134,17 @@ module _ {D : Type 0} (at : D → DiskAt) (side : Side) (taken : JournalOn D) (b
   kept_pairs : (held aside : List ℕ) (s : State) → (at taken.disk).seen ≡ Some held → (at b).seen ≡ Some aside
       → StandsFor core s
       → (x y : List ℕ) → LeftSince at taken.disk (at taken.disk).moment x → LeftSince at now (at b).moment y
-      → IsKeptAround s (Do c) (on side x y) (on side y x)
+      → IsKeptAround s (commands_on (on side held aside) (on side aside held)) (Do c) (on side x y) (on side y x)
   kept_pairs held aside s th ta stands x y lx ly =
       let same : x ≡ held = rest_only at taken.disk held th turns.going.taken_rests x lx in
       let one : (step s (Do c)).0 ≡ after s c = step_is_after s c (turns.rotation s stands).allowed in
-      subst (λ (l : List ℕ). IsKeptAround s (Do c) (on side l y) (on side y l)) (sym same)
-      (⊎_elim (λ before. inl before) (λ next. inr (subst (λ (t : State). IsKept (on side held y) (on side y held) t)
-      (sym one) next))
+      let begun = commands_on (on side held aside) (on side aside held) in
+      subst (λ (l : List ℕ). IsKeptAround s begun (Do c) (on side l y) (on side y l)) (sym same)
+      (⊎_elim (λ before. inl before) (λ next. inr (record {
+        kept = subst (λ (t : State). IsKept (on side held y) (on side y held) t) (sym one) next.kept;
+        commands = next.commands ∙ sym (behind_newly begun s c (turns.rotation s stands).allowed
+            ∙ behind_rotation begun c (turns.rotation s stands).rotates);
+      }))
       (around held aside y th ta s stands ((leaves s stands aside ta).each y ly)))
 
   -- every pair that a crash after it may leave
@@ -149,7 +156,7 @@ module _ {D : Type 0} (at : D → DiskAt) (side : Side) (taken : JournalOn D) (b
       let same : x ≡ held = rest_now at taken.disk held th turns.going.taken_rests x lx in
       let left = at_last at b now _ (leaves s stands aside.0 aside.1) y ly in
       subst (λ (l : List ℕ). IsKeptNear s (on side l y) (on side y l)) (sym same)
-      (⊎_elim (λ still. inl still) (λ next. inr (c, (turns.rotation s stands).allowed, next))
+      (⊎_elim (λ still. inl still.kept) (λ next. inr (c, (turns.rotation s stands).allowed, next.kept))
       (around held aside.0 y th aside.1 s stands left))
 
   -- ---- the next generation stands, and the step is made

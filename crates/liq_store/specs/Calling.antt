@@ -11,8 +11,9 @@ use Rattle.liq_types.specs.State.{State}
 use Rattle.liq_core.specs.Core.{StandsFor}
 use Rattle.liq_journal.specs.Crash.{BeforeOrAfter, CreateLeaves}
 use Rattle.liq_journal.specs.Written.{Open, Written, found_on}
+use Rattle.liq_disk_pair.specs.Commands.{read_back}
+use Rattle.liq_disk_pair.specs.Pair.{commands_on}
 use Rattle.liq_disk_pair.specs.Sides.{beside, has_odd, on, other}
-use Rattle.liq_disk_records.specs.Bodies.{read_back}
 use Rattle.liq_store.specs.Keeping.{IsKeptAround, LeavesPairs}
 use Rattle.liq_rule_step.specs.Memory.{IsAccepted}
 use Rattle.liq_store.specs.Rotating.{is_rotation, rotation_of, side_after, start_after}
@@ -58,11 +59,12 @@ pub record WritesOn {D : Type 0} (at : D → DiskAt) (old : Stored D) (request :
       → (at (disk_beside old)).seen ≡ Some held → request ≡ Do c → is_rotation s request ≡ true
       → LeavesOnly at (disk_beside old) (beside old.side new.left new.right)
       (CreateLeaves (has_odd (other old.side)) held (rotation_of s c))
-  -- what a stop leaves of both: they are kept for the state before the call or after it
+  -- what a stop leaves of both: they are kept for the state before the call or after it, and the
+  -- commands that lead there stand on them
   pub kept :
       old.stopped ≡ None → (l r : List ℕ) (s : State)
       → (at old.left).seen ≡ Some l → (at old.right).seen ≡ Some r → StandsFor old.core s
-      → LeavesPairs at old.left old.right new.left new.right (IsKeptAround s request)
+      → LeavesPairs at old.left old.right new.left new.right (IsKeptAround s (commands_on l r) request)
   pub left_telling : IsSome (at new.left).seen ↔ IsSome (at old.left).seen
   pub right_telling : IsSome (at new.right).seen ↔ IsSome (at old.right).seen
   pub left_time : GoesOn at old.left new.left

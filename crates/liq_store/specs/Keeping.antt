@@ -6,13 +6,17 @@ use Rattle.liq_types.specs.declared.requests.Command.{Command}
 use Rattle.liq_types.specs.declared.requests.Request.{Request}
 use Rattle.liq_types.specs.State.{State}
 use Rattle.liq_core.specs.Core.{StandsFor}
-use Rattle.liq_rule_step.specs.Step.{Allowed, after, ruling, step}
-use Rattle.liq_disk_pair.specs.Kept.{IsKept, IsSettledFor}
+use Rattle.liq_rule_step.specs.Step.{Allowed, after, newly_accepted, ruling, step}
+use Rattle.liq_disk_pair.specs.Commands.{kept_behind}
+use Rattle.liq_disk_pair.specs.Kept.{IsKept, IsKeptWith, IsSettledFor}
 use Rattle.liq_store.specs.Stored.{Stored}
 
--- kept for the state before the request, or after it
-abbrev pub IsKeptAround : State → Request → List ℕ → List ℕ → Type 0
-IsKeptAround s request left right = IsKept left right s ⊎ IsKept left right (step s request).0
+-- Kept for the state before the request, with the commands that were held by then; or for the one
+-- after it, with its command behind those where it is accepted.
+abbrev pub IsKeptAround : State → List Command → Request → List ℕ → List ℕ → Type 0
+IsKeptAround s held request left right =
+    IsKeptWith left right s held
+    ⊎ IsKeptWith left right (step s request).0 (kept_behind held (newly_accepted s request))
 
 -- kept for the state, or for it after one command that it accepts
 abbrev pub IsKeptNear : State → List ℕ → List ℕ → Type 0

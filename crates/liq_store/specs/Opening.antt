@@ -1,13 +1,14 @@
 -- What an opening finds, and what it leaves.
-use Rattle.std.specs.Prelude.{◌≡◌, ◌≢◌, ℕ, List, Some, None, IfSome, Result, Ok, Err, Bool}
+use Rattle.std.specs.Prelude.{◌≡◌, ◌≢◌, ◌⊎◌, ℕ, List, Some, None, IfSome, Result, Ok, Err, Bool, true, false}
 use Rattle.liq_types.specs.declared.requests.Command.{Command}
 use Rattle.liq_types.specs.State.{State}
 use Rattle.liq_outside.specs.At.{DiskAt}
 use Rattle.liq_core.specs.Core.{StandsFor}
+use Rattle.liq_journal.specs.Crash.{IsClosed}
 use Rattle.liq_journal.specs.Opened.{IsUnshut}
 use Rattle.liq_journal.specs.Written.{Absent, Open, Written, found_on, start_of}
 use Rattle.liq_disk_pair.specs.declared.side.Side.{Side}
-use Rattle.liq_disk_pair.specs.Kept.{IsKept}
+use Rattle.liq_disk_pair.specs.Kept.{IsFirst, IsKept}
 use Rattle.liq_disk_pair.specs.Pair.{commands_on, state_on}
 use Rattle.liq_disk_pair.specs.Sides.{has_odd, other}
 use Rattle.liq_disk_pair.specs.Unfinished.{IsRecovered}
@@ -15,6 +16,7 @@ use Rattle.liq_store.specs.declared.answers.StoreFault.{StoreFault}
 use Rattle.liq_store.specs.declared.answers.StoreWhy.{StoreWhy}
 use Rattle.liq_store.specs.declared.answers.StoreWhy.TheVariants as why
 use Rattle.liq_store.specs.Causes.{CausesWhy, counts_of}
+use Rattle.liq_store.specs.Standing.{OnlyShuts}
 use Rattle.liq_store.specs.Stored.{Stored, taken_disk}
 
 -- the disks after it, whatever it answers
@@ -52,6 +54,20 @@ pub record OpensOn {D : Type 0} (at : D → DiskAt) (left right : D) (store : St
       → (at left).seen ≡ Some l → (at right).seen ≡ Some r
       → (at store.left).seen ≡ Some a → (at store.right).seen ≡ Some b
       → state_on a b ≡ state_on l r
+
+-- no disk met a fault
+abbrev pub MeetsNone : {D : Type 0} → Result (Stored D) (StoreFault D) → Type 0
+MeetsNone (Ok store) = Unit {0}
+MeetsNone (Err fault) = fault.why ≢ why.DiskFault
+
+-- What an opening that met no fault leaves of these disks: their bytes, or with a 0 at the one place
+-- that it shuts; or, where neither was open, on the left one what the creation of the first
+-- generation leaves.
+abbrev pub OnlyOpens : List ℕ → List ℕ → List ℕ → List ℕ → Type 0
+OnlyOpens l r a b =
+    OnlyShuts false r b
+    × (OnlyShuts true l a
+    ⊎ ((found_on true l ≡ Absent) × (found_on false r ≡ Absent) × (IsClosed a ⊎ IsFirst true a)))
 
 -- the disk beside this side has no other byte than 0 at place 0, if it has one, where no journal is
 -- open on it

@@ -1,11 +1,15 @@
 //! A command on its way: planned and given room before it is written, and made behind that.
-ghost use Rattle.std.specs.Prelude.{◌≡◌, vec_capacity, vec_len};
+ghost use Rattle.std.specs.Prelude.{◌≡◌, ◌≤◌, ◌+◌, vec_capacity, vec_len};
 ghost use Rattle.liq_types.specs.State.{State};
 ghost use Rattle.liq_types.specs.declared.replies.Reply.TheVariants.{Said};
 ghost use Rattle.liq_types.specs.declared.requests.Request.TheVariants.{Do};
 ghost use Rattle.liq_core.specs.Core.{SameContent, StandsFor, state_of};
 ghost use Rattle.liq_core.specs.Plan.{HasRoom, IsPlannedOn};
+ghost use Rattle.liq_core.specs.Steps.{last_put, words_of};
+ghost use Rattle.liq_core_hinted.specs.Hints.{IsExact};
+ghost use Rattle.liq_list_index.specs.Followed.{all_listed};
 ghost use Rattle.liq_rule_step.specs.Step.{step};
+ghost use Rattle.liq_rule_step.specs.Verbs.{no_hint};
 ghost use Rattle.liq_store.specs.Preparing.{HasRoomBehind, IsGuided, IsHinted, IsPrepared, IsReady};
 
 use liq_core::laws::protocols_stand;
@@ -78,11 +82,36 @@ pub fn make<L: Ledger>(protocol: &mut Guided, planned: Planned, hints: &Hints, b
     requires one { L.parts ≡ 1 }
     requires planned { IsPlannedOn protocol.old planned }
     requires room { HasRoom protocol.old planned }
+    requires unhinted { words_of planned.command.call ≡ no_hint }
+    requires guided { IsExact (all_listed protocol.old.list planned.changes)
+        (last_put planned.changes) hints.now.exact }
     ensures state { (s : State) → StandsFor protocol.old s
         → StandsFor protocol.new (step s (Do planned.command)).0 }
     ensures reply { (s : State) → StandsFor protocol.old s → (step s (Do planned.command)).1
         ≡ Said result }
 {
     let mut steps = Steps::<L>::new(blank);
-    protocol.apply(planned, hints, &mut steps)
+    make_counted(protocol, planned, hints, &mut steps)
+}
+
+// The same, with the steps handed out: the guide's hint is used, so that the place of the trove
+// takes at most four, however long the list is.
+fn make_counted<L: Ledger>(
+    protocol: &mut Guided,
+    planned: Planned,
+    hints: &Hints,
+    steps: &mut Steps<L>,
+) -> Done
+    requires planned { IsPlannedOn protocol.old planned }
+    requires room { HasRoom protocol.old planned }
+    requires unhinted { words_of planned.command.call ≡ no_hint }
+    requires guided { IsExact (all_listed protocol.old.list planned.changes)
+        (last_put planned.changes) hints.now.exact }
+    ensures state { (s : State) → StandsFor protocol.old s
+        → StandsFor protocol.new (step s (Do planned.command)).0 }
+    ensures reply { (s : State) → StandsFor protocol.old s → (step s (Do planned.command)).1
+        ≡ Said result }
+    ensures few { steps.new ≤ steps.old + 4 }
+{
+    protocol.apply(planned, hints, steps)
 }

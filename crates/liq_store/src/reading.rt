@@ -1,8 +1,9 @@
 //! The accepted commands, read back from the disk that is taken.
-ghost use Rattle.std.specs.Prelude.{◌≡◌, ◌≤◌, Some, List, ℕ, length, take, false, IfOk, IfErr};
+ghost use Rattle.std.specs.Prelude.{◌≡◌, ◌≤◌, Some, List, ℕ, length, take, false, IfOk, IfErr, IfSome};
 ghost use Rattle.std.specs.List.{All};
 ghost use Rattle.liq_types.specs.declared.requests.Command.{Command};
 ghost use Rattle.liq_journal.specs.Bodies.{IsJournalOf};
+ghost use Rattle.liq_journal.specs.Parts.{IsPartOf};
 ghost use Rattle.liq_outside.specs.Disk.{Looked};
 ghost use Rattle.liq_types.specs.Verbs.{is_rotate};
 ghost use Rattle.liq_journal.specs.Written.{Written};
@@ -11,15 +12,20 @@ ghost use Rattle.liq_store.specs.Answering.{IsUnreadable};
 ghost use Rattle.liq_store.specs.Within.{HasRecords};
 
 use liq_disk_records::AcceptedFault;
-use liq_journal::Journal;
+use liq_journal::{Block, Journal};
 use liq_outside::Disk;
 use liq_types::Command;
-use liq_wire::decode;
 use std::alloc::Global;
 
-// The command of the record of this number.
-pub fn read_command<D: Disk>(journal: &mut Journal<D>, index: u64) -> Result<Command, AcceptedFault>
+// The command of the record of this number, read through a block. The opening has tested it.
+pub fn read_command<D: Disk>(
+    journal: &mut Journal<D>,
+    block: &mut Block,
+    index: u64,
+) -> Result<Command, AcceptedFault>
     requires there { IsRecordNumber journal.old.count index }
+    requires part { IfSome (D.at journal.old.disk).seen (IsPartOf block.old) }
+    ensures part { IfSome (D.at journal.new.disk).seen (IsPartOf block.new) }
     ensures looked { Looked D.at journal.old.disk journal.new.disk }
     ensures same { journal.new ≡ record journal.old { disk = journal.new.disk } }
     ensures command { IfOk result (IsCommandThere D.at journal.old index) }
@@ -30,11 +36,7 @@ pub fn read_command<D: Disk>(journal: &mut Journal<D>, index: u64) -> Result<Com
     ensures cause { CountsReading result (D.at journal.old.disk).faults
         (D.at journal.new.disk).faults }
 {
-    let body = journal.body(index)?;
-    let Ok(command) = decode(&body) else {
-        unreachable!()
-    };
-    Ok(command)
+    Ok(journal.command(block, index)?)
 }
 
 // The commands of all of a journal's records, in order.
@@ -61,9 +63,10 @@ pub fn read_commands<D: Disk>(
         (D.at journal.new.disk).faults }
 {
     let mut commands = Vec::new(alloc);
+    let mut block = Block::new();
     for done in 0..journal.records() {
         // odd: match for ?
-        let command = match read_command(journal, done + 1) {
+        let command = match read_command(journal, &mut block, done + 1) {
             Ok(command) => command,
             Err(why) => return Err(why),
         };

@@ -27,7 +27,7 @@ ghost use Rattle.liq_store.specs.Calling.{AppendsOnce, WritesOn};
 ghost use Rattle.liq_store.specs.Causes.{CausesAccepted, CausesAnswer, StopsAfter, faults_of, stopped_after_reading};
 ghost use Rattle.liq_store.specs.Judging.{disk_of};
 ghost use Rattle.liq_store.specs.Keeping.{IsAtRest, IsInOrder, LeavesPairs};
-ghost use Rattle.liq_store.specs.Opening.{IsShutBeside, OpensOn, left_after, right_after};
+ghost use Rattle.liq_store.specs.Opening.{IsShutBeside, MeetsNone, OnlyOpens, OpensOn, left_after, right_after};
 ghost use Rattle.liq_store.specs.declared.standing.Stood.TheVariants.{Holding};
 ghost use Rattle.liq_store.specs.Standing.{OnlyShuts};
 ghost use Rattle.liq_store.specs.Stored.{disk_beside, taken_disk};
@@ -131,13 +131,12 @@ impl<D: Disk> Store<D> {
         ensures rests { IfErr result (λ e. (e.why ≢ StoreWhy.DiskFault)
             → IsAtRest D.at e.left × IsAtRest D.at e.right) }
 
-        // Where one of them was damaged, and no disk met a fault, both tell their bytes as they
-        // were, or with a 0 at the one place that an opening shuts.
-        ensures damaged { IfErr result (λ e. (e.why ≢ StoreWhy.DiskFault)
-            → (l r a b : List ℕ) (first : Side × Damage)
-            → (D.at left).seen ≡ Some l → (D.at right).seen ≡ Some r → state_on l r ≡ Err first
-            → (D.at e.left).seen ≡ Some a → (D.at e.right).seen ≡ Some b
-            → OnlyShuts true l a × OnlyShuts false r b) }
+        // Where no disk met a fault, both tell their bytes as they were, or with a 0 at the one place
+        // that an opening shuts; or neither was open, and the left one is the first generation. So
+        // they stand for what they stood for, by the same commands.
+        ensures shuts { MeetsNone result → (l r a b : List ℕ) → (D.at left).seen ≡ Some l
+            → (D.at right).seen ≡ Some r → (D.at (left_after result)).seen ≡ Some a
+            → (D.at (right_after result)).seen ≡ Some b → OnlyOpens l r a b }
 
         // Of two disks that are kept for a state a stop leaves two that are kept for it, or for it
         // after the command that they held unfinished; and so does a fault, whatever was pending.

@@ -12,7 +12,7 @@ use Rattle.liq_disk_pair.specs.Unfinished.{LeftLeaves}
 use Rattle.liq_disk_pair.proofs.Standings.{state_none}
 use Rattle.liq_store.specs.declared.answers.StoreWhy.{StoreWhy}
 use Rattle.liq_store.specs.declared.answers.StoreWhy.TheVariants as why
-use Rattle.liq_store.specs.Opening.{IsNotOpened}
+use Rattle.liq_store.specs.Opening.{IsNotOpened, OnlyOpens}
 use Rattle.liq_store.specs.Standing.{OnlyShuts}
 use Rattle.liq_word_exit.specs.declared.halts.Halt.TheVariants.{NoMemory}
 use Rattle.liq_word_exit.specs.Disks.{EndsDamaged, LeavesDamaged}
@@ -27,6 +27,11 @@ pub left_opened : (l r image : List ℕ) (first : Side × Damage) → LeftLeaves
     → OpenLeaves true l image
 left_opened l r image first (inl opened) is = opened
 left_opened l r image first (inr created) is = absurd (cc (state_none l r created.0 created.1, is))
+
+damaged_shuts : (l r a b : List ℕ) (first : Side × Damage) → OnlyOpens l r a b → state_on l r ≡ Err first
+    → OnlyShuts true l a × OnlyShuts false r b
+damaged_shuts l r a b first (right, inl left) is = (left, right)
+damaged_shuts l r a b first (right, inr created) is = absurd (cc (state_none l r created.0 created.1, is))
 
 module _ {D : Type 0} (at : D → DiskAt)
     (left right : D) (l r : List ℕ) (side : Side) (damage : Damage) (told_l : (at left).seen ≡ Some l)
@@ -68,7 +73,7 @@ module _ {D : Type 0} (at : D → DiskAt)
         → (Only l (LeftNow at left) → LeavesOnly at left fl (LeftLeaves l r))
         → (Only r (LeftNow at right) → LeavesOnly at right fr (OpenLeaves false r))
         → (why_is ≢ why.DiskFault → (a b : List ℕ) → (at fl).seen ≡ Some a → (at fr).seen ≡ Some b
-        → OnlyShuts true l a × OnlyShuts false r b)
+        → OnlyOpens l r a b)
         → LeavesDamaged at left right l r side damage (Err (halt_of why_is)) fl fr
     unopened_damaged why_is h left_so right_so shut_so = record {
       ends = unopened_ends why_is h;
@@ -76,6 +81,7 @@ module _ {D : Type 0} (at : D → DiskAt)
         left_leaves = λ only. weaker at left fl (LeftLeaves l r) (OpenLeaves true l) (left_so only)
             (λ image was. left_opened l r image (side, damage) was is);
         right_leaves = right_so;
-        shut = λ other. shut_so (λ w. other (ap (λ (y : StoreWhy). Err (halt_of y)) w));
+        shut = λ other a b told_a told_b. damaged_shuts l r a b (side, damage)
+            (shut_so (λ w. other (ap (λ (y : StoreWhy). Err (halt_of y)) w)) a b told_a told_b) is;
       };
     }

@@ -9,16 +9,17 @@ use Rattle.liq_rule_step.proofs.AlikeReads.{Alike}
 use Rattle.liq_journal.specs.declared.damage.Damage.{Damage}
 use Rattle.liq_disk_pair.specs.declared.side.Side.{Side}
 use Rattle.liq_disk_pair.specs.Kept.{IsKept}
-use Rattle.liq_disk_pair.specs.Pair.{StandFor, state_on}
+use Rattle.liq_disk_pair.specs.Pair.{StandFor, commands_on, state_on}
 use Rattle.liq_disk_pair.proofs.Alike.{kept_alike}
 pub use Rattle.liq_disk_pair.proofs.Formed.{state_formed}
 use Rattle.liq_disk_pair.proofs.Keeping.{settled_kept}
 use Rattle.liq_store.specs.declared.answers.StoreFault.{StoreFault}
 use Rattle.liq_store.specs.declared.answers.StoreWhy.TheVariants as why
 use Rattle.liq_store.specs.Keeping.{IsInOrder, IsInOrderWith}
-use Rattle.liq_store.specs.Opening.{IsNotOpened, OpensOn}
+use Rattle.liq_store.specs.Opening.{IsNotOpened, OnlyOpens, OpensOn}
 use Rattle.liq_store.specs.Stored.{Stored}
-use Rattle.liq_store.proofs.Recovered.{still_kept}
+use Rattle.liq_store.proofs.Past.{opened_holds}
+use Rattle.liq_store.proofs.Recovered.{opens_commands, still_kept}
 use Rattle.liq_word_exit.specs.declared.halts.Halt.{Halt}
 use Rattle.liq_word_exit.specs.declared.halts.Halt.TheVariants.{NoMemory}
 use Rattle.liq_word_exit.specs.Disks.{DisksHold, DisksStay, EndsDamaged, OfBoth}
@@ -46,6 +47,7 @@ untouched at left right l r s told_l told_r is a b told_a told_b =
     let left_is : a ≡ l = cc in
     let right_is : b ≡ r = cc in (
       ap₂ state_on left_is right_is ∙ is,
+      ap₂ commands_on left_is right_is,
       λ kept. subst (λ (x : List ℕ). IsKept x b s) (sym left_is)
           (subst (λ (x : List ℕ). IsKept l x s) (sym right_is) kept),
     )
@@ -53,11 +55,17 @@ untouched at left right l r s told_l told_r is a b told_a told_b =
 -- disks at which a store was not opened, for want of memory
 pub unopened : {D : Type 0} (at : D → DiskAt) (left right : D) (fault : StoreFault D) → IsNotOpened at left right fault
     → (fault.why ≡ why.DiskFault → ⊥)
+    → ((l r a b : List ℕ) → (at left).seen ≡ Some l → (at right).seen ≡ Some r → (at fault.left).seen ≡ Some a
+    → (at fault.right).seen ≡ Some b → OnlyOpens l r a b)
     → (l r : List ℕ) (s : State) → (at left).seen ≡ Some l → (at right).seen ≡ Some r → state_on l r ≡ Ok s
     → DisksStay at (Err NoMemory) l r s fault.left fault.right
-unopened at left right fault h other l r s told_l told_r is a b told_a told_b =
+unopened at left right fault h other shuts l r s told_l told_r is a b told_a told_b =
     let stands : state_on a b ≡ Ok s = h.stays other l r a b told_l told_r told_a told_b ∙ is in
-    (stands, λ kept. still_kept l r a b s stands (h.reads l r a b s told_l told_r kept told_a told_b))
+    (
+      stands,
+      opens_commands l r a b (shuts l r a b told_l told_r told_a told_b),
+      λ kept. (still_kept l r a b s stands (h.reads l r a b s told_l told_r kept told_a told_b)).kept,
+    )
 
 -- so they are left by a run that read nothing
 pub standing_still : {D : Type 0} (at : D → DiskAt) (left right : D) (l r : List ℕ) (told unread : Option (List ℕ))
@@ -65,7 +73,7 @@ pub standing_still : {D : Type 0} (at : D → DiskAt) (left right : D) (l r : Li
     → DisksHold at (Err NoMemory) told unread l r s left right []
 standing_still at left right l r told unread s none is still a b told_a told_b =
     let so = still a b told_a told_b in
-    (still_stand l r a b s (so.0 ∙ sym is) is, λ were. so.1 (were (refl, none)))
+    (still_stand l r a b s (so.0 ∙ sym is) is, so.1, λ were. so.2 (were (refl, none)))
 
 -- disks of a store that was opened
 pub opened_still : {D : Type 0} (at : D → DiskAt) (left right : D) (store : Stored D) (l r : List ℕ) (s : State)
@@ -75,7 +83,10 @@ opened_still at left right store l r s opened order stands told_l told_r is a b 
     let now = subst (λ (stopped : Option ℕ). IsInOrderWith at stopped store) opened.going order in (
       opened.stays l r a b told_l told_r told_a told_b
           ∙ is,
-      settled_kept store.side a b s (now.settled a b told_a told_b s stands),
+      record {
+        kept = settled_kept store.side a b s (now.settled a b told_a told_b s stands);
+        commands = opened_holds at l r s left right store told_l told_r opened order stands a b told_a told_b;
+      },
     )
 
 -- disks of a store that goes on

@@ -9,8 +9,8 @@ use Rattle.liq_journal.specs.Opened.{OpenLeaves}
 use Rattle.liq_journal.specs.Written.{found_on}
 use Rattle.liq_disk_pair.specs.declared.side.Side.{Side}
 use Rattle.liq_disk_pair.specs.declared.side.Side.TheVariants.{Left, Right}
-use Rattle.liq_disk_pair.specs.Kept.{IsKept}
-use Rattle.liq_disk_pair.specs.Pair.{state_on}
+use Rattle.liq_disk_pair.specs.Kept.{IsKept, IsKeptWith}
+use Rattle.liq_disk_pair.specs.Pair.{commands_on, state_on}
 use Rattle.liq_disk_pair.specs.Past.{Fault, InOpening, IsOfRun, LeavesPast, NoFault}
 use Rattle.liq_disk_pair.specs.Sides.{has_odd, on}
 use Rattle.liq_disk_pair.specs.Unfinished.{IsRecovered, LeftLeaves}
@@ -169,7 +169,7 @@ module _ {D : Type 0} (at : D → DiskAt)
     pub looked_past : (end : Result (Unit {0}) Halt) (l r : List ℕ) (start : State) (ol or nl nr : D)
         → ((side : Side) → since side ≤ (at (on side ol or)).moment) → Looked at ol nl → Looked at or nr
         → IsAtRest at ol → IsAtRest at or → LeavesPast at since l r start [] NoFault ol or
-        → ((a b : List ℕ) → LeftNow at ol a → LeftNow at or b → IsKept a b start)
+        → ((a b : List ℕ) → LeftNow at ol a → LeftNow at or b → IsKeptWith a b start (commands_on l r))
         → LeavesBoth at since_left since_right (IsFaultOfTelling end) l r start [] nl nr
     looked_past (Err DiskFault) l r start ol or nl nr later left right rest_l rest_r past kept =
         record {

@@ -7,22 +7,30 @@ use Rattle.liq_outside.specs.Showings.{AllFrom, LeavesBetween, first_of, shown_a
 use Rattle.liq_types.specs.declared.requests.Command.{Command}
 use Rattle.liq_types.specs.declared.requests.Request.{Request}
 use Rattle.liq_types.specs.State.{State}
-use Rattle.liq_rule_step.specs.Step.{Allowed, after, ruling, run}
-use Rattle.liq_disk_pair.specs.Kept.{IsKept}
+use Rattle.liq_rule_step.specs.Step.{Allowed, accepted, after, ruling, run}
+use Rattle.liq_disk_pair.specs.Commands.{kept_behind}
+use Rattle.liq_disk_pair.specs.Kept.{IsKept, IsKeptWith}
+use Rattle.liq_disk_pair.specs.Pair.{commands_on}
 use Rattle.liq_disk_pair.specs.Past.{AtCommand, Fault, LeavesPast}
 use Rattle.liq_disk_pair.specs.Sides.{on}
 use Rattle.liq_disk_pair.specs.Unfinished.{IsRecovered}
 use Rattle.liq_word_exit.specs.Output.{lines}
 
--- A run from this state answered these requests, and met this fault. Its sink held so many bytes
--- before it.
-module _ (start : State) (requests : List Request) (fault : Fault) (before : ℕ) where
-  -- They are kept for the state after the first n. Where these are all, they may be so for it after
-  -- the command at which a disk met a fault.
+-- A run from this state, with these commands on its disks, answered these requests, and met this
+-- fault. Its sink held so many bytes before it.
+module _ (begun : List Command) (start : State) (requests : List Request) (fault : Fault)
+    (before : ℕ) where
+  -- the commands on its disks behind the first n
+  abbrev pub held_behind : ℕ → List Command
+  held_behind n = kept_behind begun (accepted start (take n requests))
+
+  -- They are kept for the state after the first n, with the commands by then. Where these are all,
+  -- they may be so for it after the command at which a disk met a fault, with this one more.
   abbrev pub IsKeptBehind : ℕ → List ℕ → List ℕ → Type 0
-  IsKeptBehind n a b = let s = (run start requests).0 in IsKept a b (run start (take n requests)).0
+  IsKeptBehind n a b = let s = (run start requests).0 in
+      IsKeptWith a b (run start (take n requests)).0 (held_behind n)
       ⊎ ((n ≡ length requests) × ((c : Command) × (fault ≡ AtCommand c) × (ruling s c ≡ Allowed)
-      × IsKept a b (after s c)))
+      × IsKeptWith a b (after s c) (kept_behind (held_behind n) (c ∷ []))))
 
   -- Two disks of which a stop leaves this, while the sink holds so many bytes, have all that was
   -- answered by then: they are kept behind the first n requests, and these bytes answer none behind
@@ -52,13 +60,14 @@ module _ {D : Type 0} (at : D → DiskAt) (l r : List ℕ) (start : State) (requ
     -- From there on, and up to the end, the disks have what was answered: whatever they were
     -- before.
     pub each : AllFrom
-        (LeavesBetween at left right (HoldsAnswered start requests fault (length before)))
+        (LeavesBetween at left right (HoldsAnswered (commands_on l r) start requests fault
+        (length before)))
         (since ++ shown_as at now left right ∷ [])
     -- Nothing was pending at the first showing. From there on each image of either disk is one of
     -- the run.
     pub rested : (first : Showing) (later : List Showing) → since ≡ first ∷ later → (a b : List ℕ)
         × Only a ((at left).left_at first.left) × Only b ((at right).left_at first.right)
-        × IsKept a b start × LeavesPast at (λ side. on side first.left first.right) a b start
+        × IsKeptWith a b start (commands_on l r) × LeavesPast at (λ side. on side first.left first.right) a b start
         requests fault left right
 
 -- where a sink tells what it held before and now, and what it was shown by then, this holds of it

@@ -1,5 +1,5 @@
 -- What a run leaves on the disks.
-use Rattle.std.specs.Prelude.{ℕ, ◌≡◌, ◌≢◌, ◌⊎◌, [], List, Option, Some, Ok, Err, true, false}
+use Rattle.std.specs.Prelude.{ℕ, ◌≡◌, ◌≢◌, ◌⊎◌, [], ◌∷◌, List, Option, Some, Ok, Err, true, false}
 use Rattle.liq_outside.specs.At.{DiskAt}
 use Rattle.liq_outside.specs.Disk.{LeavesOnly, LeftNow, Only}
 use Rattle.liq_types.specs.declared.requests.Command.{Command}
@@ -10,9 +10,10 @@ use Rattle.liq_rule_step.specs.Step.{Allowed, after, ruling, run}
 use Rattle.liq_journal.specs.declared.damage.Damage.{Damage}
 use Rattle.liq_journal.specs.Opened.{OpenLeaves}
 use Rattle.liq_disk_pair.specs.declared.side.Side.{Side}
-use Rattle.liq_disk_pair.specs.Kept.{IsKept}
-use Rattle.liq_disk_pair.specs.Pair.{StandFor, state_on}
-use Rattle.liq_disk_pair.specs.Past.{AtCommand, Fault, InOpening, NoFault}
+use Rattle.liq_disk_pair.specs.Commands.{kept_behind}
+use Rattle.liq_disk_pair.specs.Kept.{IsKept, IsKeptWith}
+use Rattle.liq_disk_pair.specs.Pair.{StandFor, commands_on, state_on}
+use Rattle.liq_disk_pair.specs.Past.{AtCommand, Fault, InOpening, NoFault, held_at_end}
 use Rattle.liq_disk_pair.specs.Unfinished.{IsRecovered}
 use Rattle.liq_store.specs.Leaving.{LeavesBoth}
 use Rattle.liq_store.specs.Standing.{OnlyShuts}
@@ -66,34 +67,41 @@ module _ {D : Type 0} (at : D → DiskAt) where
       (side : Side) (damage : Damage) → state_on l r ≡ Err (side, damage) → P l r side damage)
 
   -- The disks of a run that began with l and r on them, for which they stood for the state `start`:
-  -- they are kept for the state after the requests.
+  -- they are kept for the state after the requests, and the commands that were accepted stand on
+  -- them behind those that stood there.
   abbrev pub DisksHold : End → Option (List ℕ) → Option (List ℕ) → List ℕ → List ℕ → State → D → D
       → List Request → Type 0
   -- After a disk's fault they are kept for that state, or for it after the next line's command, if
-  -- it is accepted there. Or the opening failed, and left what it may leave of disks that were
-  -- kept.
+  -- it is accepted there, which then stands on them too. Or the opening failed, and left what it
+  -- may leave of disks that were kept.
   DisksHold (Err DiskFault) told unread l r start left right asked = OfBoth left right (λ a b.
       let s = (run start asked).0 in
+      let held = held_at_end l r start asked in
       (IsUnread told unread asked × (IsKept l r start → IsRecovered l r start a b))
-      ⊎ (IsKept a b s ⊎ ((c : Command) × IsNext told asked (Do c) × (ruling s c ≡ Allowed)
-      × IsKept a b (after s c))))
-  -- Where memory may have been wanted for the opening they stand for that state, and stay kept.
+      ⊎ (IsKeptWith a b s held ⊎ ((c : Command) × IsNext told asked (Do c) × (ruling s c ≡ Allowed)
+      × IsKeptWith a b (after s c) (kept_behind held (c ∷ [])))))
+  -- Where memory may have been wanted for the opening they stand for that state, by those commands,
+  -- and stay kept.
   DisksHold (Err NoMemory) told unread l r start left right asked = OfBoth left right (λ a b.
       let s = (run start asked).0 in
-      StandFor a b s × ((IsUnread told unread asked → IsKept l r start) → IsKept a b s))
+      StandFor a b s × (commands_on a b ≡ held_at_end l r start asked)
+      × ((IsUnread told unread asked → IsKept l r start) → IsKept a b s))
   DisksHold _ told unread l r start left right asked =
-      OfBoth left right (λ a b. IsKept a b (run start asked).0)
+      OfBoth left right (λ a b.
+      IsKeptWith a b (run start asked).0 (held_at_end l r start asked))
 
   -- The disks of a word that only tells what is on them: they stand for just the state for which l
-  -- and r stood, and are kept for it.
+  -- and r stood, by just the same commands, and are kept for it.
   abbrev pub DisksStay : End → List ℕ → List ℕ → State → D → D → Type 0
   -- A disk's fault may be the opening's: then it left what it may leave of disks that were kept.
   -- `audit` may meet one behind the opening too, and nothing shows which it was.
   DisksStay (Err DiskFault) l r s left right = IsKept l r s → OfBoth left right (IsRecovered l r s)
   -- memory may have been wanted for the opening
   DisksStay (Err NoMemory) l r s left right =
-      OfBoth left right (λ a b. (state_on a b ≡ Ok s) × (IsKept l r s → IsKept a b s))
-  DisksStay _ l r s left right = OfBoth left right (λ a b. (state_on a b ≡ Ok s) × IsKept a b s)
+      OfBoth left right (λ a b. (state_on a b ≡ Ok s) × (commands_on a b ≡ commands_on l r)
+      × (IsKept l r s → IsKept a b s))
+  DisksStay _ l r s left right =
+      OfBoth left right (λ a b. (state_on a b ≡ Ok s) × IsKeptWith a b s (commands_on l r))
 
   -- How a word ends over damaged disks: the first damage is told; or a disk met a fault, or there
   -- was no memory, before it was found. It stays, but where a disk met a fault.

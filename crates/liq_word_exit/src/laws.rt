@@ -2,6 +2,7 @@
 //! the facts of their contracts are proved.
 
 ghost use Rattle.std.specs.Prelude.{◌≡◌, ◌≤◌, ◌<◌, ◌+◌, List, ℕ, Ok, length, take};
+ghost use Rattle.liq_types.specs.declared.requests.Command.{Command};
 ghost use Rattle.liq_types.specs.declared.requests.Request.{Request};
 ghost use Rattle.liq_types.specs.State.{State};
 ghost use Rattle.liq_rule_step.specs.Image.{IsSameState};
@@ -21,12 +22,12 @@ pub fn kept_disks_begin_again()
 
 /// Where a byte is out behind the replies to the first m requests, the next one was answered too.
 /// What a stop leaves then has it: both disks are kept for the state after the first n, which are
-/// more than m.
+/// more than m, and their commands stand on them.
 pub fn answered_is_kept()
-    ensures { (start : State) (requests : List Request) (fault : Fault) (before held m : ℕ)
-        (a b : List ℕ)
-        → HoldsAnswered start requests fault before held a b → m < length requests
+    ensures { (begun : List Command) (start : State) (requests : List Request) (fault : Fault)
+        (before held m : ℕ) (a b : List ℕ)
+        → HoldsAnswered begun start requests fault before held a b → m < length requests
         → before + length (lines start (take m requests)) < held
         → (n : ℕ) × (m < n) × (n ≤ length requests)
-        × IsKeptBehind start requests fault before n a b }
+        × IsKeptBehind begun start requests fault before n a b }
 {}

@@ -1,10 +1,10 @@
 -- The disks of a run, as it leaves them.
-use Rattle.std.proofs.Common.{◌≡◌, ℕ, List, [], ◌∷◌, Option, Some, None, Result, Ok, Err, refl, ap, sym, subst, ◌∙◌, append-nil, arith, inl, inr}
+use Rattle.std.proofs.Common.{◌≡◌, ◌≢◌, ℕ, List, [], ◌∷◌, ◌++◌, length, Option, Some, None, Result, Ok, Err, refl, ap, sym, subst, ◌∙◌, append-nil, arith, inl, inr, ⊎_elim}
 use Rattle.std.specs.Prelude.{◌⊎◌}
 use Rattle.liq_outside.specs.At.{DiskAt}
 use Rattle.liq_outside.specs.declared.showing.Showing.{Showing}
 use Rattle.liq_outside.specs.Disk.{GoesOn, LeftNow, LeftSince, Only}
-use Rattle.liq_outside.specs.Showings.{shown_as}
+use Rattle.liq_outside.specs.Showings.{AllNeighbours, LeavesBetween, shown_as}
 use Rattle.liq_outside.proofs.Moments.{unmoved}
 use Rattle.liq_types.specs.declared.requests.Command.{Command}
 use Rattle.liq_types.specs.declared.requests.Request.{Request}
@@ -16,27 +16,27 @@ use Rattle.liq_text_lines.specs.Lines.{lines_in}
 use Rattle.liq_text_lines.proofs.Bytes.{writes_nothing}
 use Rattle.liq_disk_pair.specs.declared.side.Side.{Side}
 use Rattle.liq_disk_pair.specs.declared.side.Side.TheVariants.{Left, Right}
-use Rattle.liq_disk_pair.specs.Kept.{IsKept}
-use Rattle.liq_disk_pair.specs.Pair.{state_on}
-use Rattle.liq_disk_pair.specs.Past.{AtCommand, Fault, InOpening, LeavesPast, NoFault}
+use Rattle.liq_disk_pair.specs.Kept.{IsKeptWith}
+use Rattle.liq_disk_pair.specs.Pair.{commands_on, state_on}
+use Rattle.liq_disk_pair.specs.Past.{AtCommand, Fault, InOpening, KeptAtEnd, LeavesPast, NoFault, held_at_end}
 use Rattle.liq_disk_pair.specs.Sides.{on}
 use Rattle.liq_disk_pair.specs.Unfinished.{IsRecovered}
 use Rattle.liq_store.specs.declared.answers.StoreWhy.{StoreWhy}
 use Rattle.liq_store.specs.declared.answers.StoreWhy.TheVariants as why
-use Rattle.liq_store.specs.Keeping.{IsInOrder, IsKeptAround}
+use Rattle.liq_store.specs.Keeping.{IsInOrder}
 use Rattle.liq_rule_step.specs.Memory.{IsAccepted}
-use Rattle.liq_store.specs.Opening.{IsNotOpened}
+use Rattle.liq_store.specs.Opening.{IsNotOpened, OnlyOpens}
 use Rattle.liq_store.specs.Stored.{Stored}
 use Rattle.liq_store.proofs.Past.{joins}
 use Rattle.liq_word_exit.specs.declared.halts.Halt.{Halt}
 use Rattle.liq_word_exit.specs.declared.halts.Halt.TheVariants.{BadLine, ReadFault, WriteFault, DiskFault, DamagedInput, NoMemory, Limit, Rotated}
 use Rattle.liq_word_exit.specs.declared.halts.Halt.TheVariants as halts
-use Rattle.liq_word_exit.specs.Answered.{KeepsAnswered, Told}
-use Rattle.liq_word_exit.specs.Disks.{DisksHold, IsFaultOfRun, LeavesOfRun}
+use Rattle.liq_word_exit.specs.Answered.{HoldsAnswered, KeepsAnswered, Told}
+use Rattle.liq_word_exit.specs.Disks.{DisksHold, IsFaultOfRun, LeavesOfRun, OfBoth}
 use Rattle.liq_word_exit.specs.Requests.{IsNext}
 use Rattle.liq_word_exit.specs.Unopened.{halt_of}
-use Rattle.liq_word_exit.proofs.Opened.{settled, standing_still, unopened}
-use Rattle.liq_word_run.specs.Calls.{GoOn, IsStopped, KeepsAround}
+use Rattle.liq_word_exit.proofs.Opened.{standing_still, unopened}
+use Rattle.liq_word_run.specs.Calls.{GoOn, IsStopped}
 use Rattle.liq_word_run.specs.Passing.{Begun, BeginsNone, BeginsRun, IsOver, IsPastOf, IsStoppedPastOf}
 use Rattle.liq_word_run.specs.Progress.{Begins, GivesBack, HaltsAt}
 use Rattle.liq_word_run.specs.Turns.{HasEnded, Reached}
@@ -99,8 +99,13 @@ module _ {D : Type 0} (at : D → DiskAt) where
           read = nothing_read told;
           written = writes_nothing before;
           disks = standing_still at fl fr l r told told start refl is
-              (unopened at left right (record { left = fl; right = fr; why = why.NoMemory }) h (λ e. cc) l r
-              start told_l told_r is);
+              (unopened at left right (record { left = fl; right = fr; why = why.NoMemory }) h (λ e. cc)
+              (λ m n a b told_m told_n told_a told_b.
+              let left_is : l ≡ m = cc (sym told_l ∙ told_m) in
+              let right_is : r ≡ n = cc (sym told_r ∙ told_n) in
+              subst (λ (x : List ℕ). OnlyOpens x n a b) left_is
+              (subst (λ (y : List ℕ). OnlyOpens l y a b) right_is (none.opens (λ e. cc) a b told_a told_b)))
+              l r start told_l told_r is);
           fault = NoFault;
           fault_is = refl;
           past = λ only_l only_r kept. let so = none.past only_l only_r kept in
@@ -110,45 +115,52 @@ module _ {D : Type 0} (at : D → DiskAt) where
 
   -- ---- a store was opened
 
-  -- a command that is accepted makes its step
-  around : (s : State) (request : Request) (told : Option (List ℕ)) (requests : List Request) (a b : List ℕ)
-      → IsNext told requests request → IsAccepted s request → IsKeptAround s request a b
-      → IsKept a b s ⊎ ((c : Command) × IsNext told requests (Do c) × (ruling s c ≡ Allowed)
-      × IsKept a b (after s c))
-  around s (Ask query) told requests a b next accepted kept = absurd accepted
-  around s (Do c) told requests a b next accepted (inl kept) = inl kept
-  around s (Do c) told requests a b next accepted (inr kept) =
-      inr (c, next, accepted, subst (λ (q : Ruling). IsKept a b (after_ruling s c q).0) accepted kept)
+  -- where no disk met a fault
+  ended : (begun : Begun D) (l r : List ℕ) (requests : List Request) (fault : Fault) (left right : D)
+      (shown : Option (List Showing)) → commands_on l r ≡ commands_on begun.l begun.r → fault ≡ NoFault
+      → IsOver at begun requests fault left right shown
+      → OfBoth at left right (λ a b. IsKeptWith a b (run begun.start requests).0
+      (held_at_end l r begun.start requests))
+  ended begun l r requests fault left right shown same none over a b told_a told_b =
+      subst (λ (f : Fault). KeptAtEnd l r begun.start requests f a b) none (over.ends l r a b same told_a told_b)
 
-  pub left_by : (store : Stored D) (end : Result (Unit {0}) Halt) (told unread : Option (List ℕ))
-      (l r : List ℕ) (start : State) (requests : List Request) → IsStopped end store.stopped
-      → IsInOrder at store
-      → StandsFor store.core (run start requests).0
-      → (past : List Request → Type 0) (stopped_past : List Request → Request → Type 0)
-      → HaltsAt end told requests [] start past (KeepsAround at store.left store.right) stopped_past
-      → DisksHold at end told unread l r start store.left store.right requests
-  left_by store (Err DiskFault) told unread l r start requests stopped order stands past stopped_past halted =
-      λ a b told_a told_b. inr (around (run start requests).0 halted.0 told requests a b halted.1 halted.2
-      (halted.4 a b told_a told_b))
-  left_by store (Ok done) told unread l r start requests stopped order stands past stopped_past halted =
-      settled at store (run start requests).0 stopped order stands
-  left_by store (Err (BadLine n)) told unread l r start requests stopped order stands past stopped_past halted =
-      settled at store (run start requests).0 stopped order stands
-  left_by store (Err ReadFault) told unread l r start requests stopped order stands past stopped_past halted =
-      settled at store (run start requests).0 stopped order stands
-  left_by store (Err WriteFault) told unread l r start requests stopped order stands past stopped_past halted =
-      settled at store (run start requests).0 stopped order stands
-  left_by store (Err (halts.Damaged side number)) told unread l r start requests stopped order stands past
-      stopped_past halted = settled at store (run start requests).0 stopped order stands
-  left_by store (Err NoMemory) told unread l r start requests stopped order stands past stopped_past halted =
-      λ a b told_a told_b. let kept = settled at store (run start requests).0 stopped order stands
-      a b told_a told_b in (kept.stands, λ were. kept)
-  left_by store (Err (Limit number)) told unread l r start requests stopped order stands past stopped_past
-      halted = settled at store (run start requests).0 stopped order stands
-  left_by store (Err (Rotated generation)) told unread l r start requests stopped order stands past stopped_past
-      halted = absurd stopped
-  left_by store (Err (DamagedInput number)) told unread l r start requests stopped order stands past stopped_past
-      halted = settled at store (run start requests).0 stopped order stands
+  -- a run that is over left them so
+  pub left_by : (begun : Begun D) (end : Result (Unit {0}) Halt) (told unread : Option (List ℕ)) (l r : List ℕ)
+      (requests : List Request) (fault : Fault) (left right : D) (shown : Option (List Showing))
+      → commands_on l r ≡ commands_on begun.l begun.r
+      → IsFaultOfRun begun.start end told unread requests fault → IsOver at begun requests fault left right shown
+      → DisksHold at end told unread l r begun.start left right requests
+  left_by begun (Err DiskFault) told unread l r requests fault left right shown same (inl opening) over =
+      λ a b told_a told_b. inl (
+        opening.1,
+        λ kept. (subst (λ (f : Fault). KeptAtEnd l r begun.start requests f a b) opening.0
+            (over.ends l r a b same told_a told_b)).1,
+      )
+  left_by begun (Err DiskFault) told unread l r requests fault left right shown same (inr (c, is, next, allowed)) over =
+      λ a b told_a told_b. inr (⊎_elim
+      (λ kept. inl kept)
+      (λ more. inr (c, next, more.0, more.1))
+      (subst (λ (f : Fault). KeptAtEnd l r begun.start requests f a b) is (over.ends l r a b same told_a told_b)))
+  left_by begun (Ok done) told unread l r requests fault left right shown same is over =
+      ended begun l r requests fault left right shown same is over
+  left_by begun (Err (BadLine n)) told unread l r requests fault left right shown same is over =
+      ended begun l r requests fault left right shown same is over
+  left_by begun (Err ReadFault) told unread l r requests fault left right shown same is over =
+      ended begun l r requests fault left right shown same is over
+  left_by begun (Err WriteFault) told unread l r requests fault left right shown same is over =
+      ended begun l r requests fault left right shown same is over
+  left_by begun (Err (halts.Damaged side number)) told unread l r requests fault left right shown same is over =
+      ended begun l r requests fault left right shown same is over
+  left_by begun (Err NoMemory) told unread l r requests fault left right shown same is over =
+      λ a b told_a told_b.
+      let so = ended begun l r requests fault left right shown same is over a b told_a told_b in
+      (so.kept.stands, so.commands, λ were. so.kept)
+  left_by begun (Err (Limit number)) told unread l r requests fault left right shown same is over =
+      ended begun l r requests fault left right shown same is over
+  left_by begun (Err (Rotated generation)) told unread l r requests fault left right shown same is over =
+      ended begun l r requests fault left right shown same is over
+  left_by begun (Err (DamagedInput number)) told unread l r requests fault left right shown same is over =
+      ended begun l r requests fault left right shown same is over
 
   module _ (stays : (disk : D) (held : List ℕ) → (at disk).seen ≡ Some held → LeftNow at disk held)
       (begun : Begun D) where
@@ -232,7 +244,7 @@ module _ {D : Type 0} (at : D → DiskAt) where
             fault opened store.left store.right begins.left begins.right
             (begins.past only_l only_r kept) begins.begun.order begins.left_is begins.right_is time.left time.right
             over.images;
-        rests = over.rests l r;
+        rests = over.rests l r (sym begins.holds);
       }
 
       -- nothing was pending when the run was opened
@@ -266,18 +278,20 @@ module _ {D : Type 0} (at : D → DiskAt) where
                 opening_left at old_left old_right opened.left opened.right store.left store.right
                 time.left time.right begins.left_time begins.right_time (IsRecovered l r start) held held
                 (begins.recovers only_l only_r kept);
-            each = shown.each is;
+            each = subst (λ (cs : List Command). AllNeighbours (LeavesBetween at store.left store.right
+                (HoldsAnswered cs start requests fault (length held))) first
+                (shown.since ++ shown_as at is store.left store.right ∷ [])) begins.holds (shown.each is);
             rested = λ s later same.
                 let so : first ≡ s = cc same in
                 subst (λ (s : Showing). (x y : List ℕ) × Only x ((at store.left).left_at s.left)
-                × Only y ((at store.right).left_at s.right) × IsKept x y start
+                × Only y ((at store.right).left_at s.right) × IsKeptWith x y start (commands_on l r)
                 × LeavesPast at (λ side. on side s.left s.right) x y start requests fault store.left
                 store.right) so (
                   begins.left,
                   begins.right,
                   rested_so opened.left store.left begins.left time.left begins.left_rests,
                   rested_so opened.right store.right begins.right time.right begins.right_rests,
-                  over.kept,
+                  record { kept = over.kept; commands = begins.holds },
                   since_opened,
                 );
           }
@@ -298,7 +312,8 @@ module _ {D : Type 0} (at : D → DiskAt) where
           why = h.why;
           read = h.read;
           written = h.written;
-          disks = left_by store end told place.left l r start h.requests stopped order h.stands _ _ h.halted;
+          disks = left_by here end told place.left l r h.requests over.0 store.left store.right place.sink.shown
+              (sym begins.holds) over.1 over.2;
           fault = over.0;
           fault_is = over.1;
           past = past_over store h.requests over.0 place.sink.shown time over.2;

@@ -20,9 +20,10 @@ use Rattle.liq_rule_step.specs.Step.{Allowed, accepted, ruling, run}
 use Rattle.liq_text_lines.specs.Writing.{Writes}
 use Rattle.liq_journal.specs.Opened.{OpenLeaves}
 use Rattle.liq_disk_pair.specs.declared.side.Side.{Side}
-use Rattle.liq_disk_pair.specs.Kept.{IsKept}
-use Rattle.liq_disk_pair.specs.Pair.{state_on}
-use Rattle.liq_disk_pair.specs.Past.{AtCommand, NoFault}
+use Rattle.liq_disk_pair.specs.Commands.{kept_behind}
+use Rattle.liq_disk_pair.specs.Kept.{IsKept, IsKeptWith}
+use Rattle.liq_disk_pair.specs.Pair.{commands_on, state_on}
+use Rattle.liq_disk_pair.specs.Past.{AtCommand, KeptAtEnd, NoFault, held_at_end}
 use Rattle.liq_disk_pair.specs.Sides.{on}
 use Rattle.liq_disk_pair.specs.Unfinished.{LeftLeaves}
 use Rattle.liq_store.specs.declared.answers.StoreWhy.TheVariants as why
@@ -32,8 +33,8 @@ use Rattle.liq_store.specs.Keeping.{IsInOrder, IsInOrderWith, IsKeptAround, Leav
 use Rattle.liq_store.specs.Opening.{OpensOn}
 use Rattle.liq_store.specs.Past.{Past}
 use Rattle.liq_store.specs.Stored.{Stored}
-use Rattle.liq_store.proofs.Appending.{step_is_after}
-use Rattle.liq_store.proofs.Past.{begins, cut, ends_kept, goes_on, opened_rests, stops, stops_kept, waits, with_changes}
+use Rattle.liq_store.proofs.Appending.{behind_newly, step_is_after}
+use Rattle.liq_store.proofs.Past.{begins, cut, ends_kept, goes_on, opened_holds, opened_rests, stops, stops_kept, waits, with_changes}
 use Rattle.liq_word_exit.specs.declared.halts.Halt.{Halt}
 use Rattle.liq_word_exit.specs.declared.halts.Halt.TheVariants.{BadLine, ReadFault, WriteFault, DiskFault, Damaged, DamagedInput, NoMemory, Limit, Rotated}
 use Rattle.liq_word_run.specs.Calls.{GoOn}
@@ -93,6 +94,31 @@ module _ {D : Type 0} (at : D → DiskAt) where
         right_telling = writes.right_telling;
       })
 
+-- what was kept at an end is kept behind other bytes with the same commands
+ended_alike : (m n l r : List ℕ) (start : State) (requests : List Request) (a b : List ℕ)
+    → commands_on m n ≡ commands_on l r → KeptAtEnd m n start requests NoFault a b
+    → KeptAtEnd l r start requests NoFault a b
+ended_alike m n l r start requests a b same kept = record {
+  kept = kept.kept;
+  commands = kept.commands ∙ ap (λ (cs : List Command). kept_behind cs (accepted start requests)) same;
+}
+
+ends_alike : (m n l r : List ℕ) (start : State) (requests : List Request) (c : Command) (a b : List ℕ)
+    → commands_on m n ≡ commands_on l r → KeptAtEnd m n start requests (AtCommand c) a b
+    → KeptAtEnd l r start requests (AtCommand c) a b
+ends_alike m n l r start requests c a b same (inl kept) = inl (record {
+  kept = kept.kept;
+  commands = kept.commands ∙ ap (λ (cs : List Command). kept_behind cs (accepted start requests)) same;
+})
+ends_alike m n l r start requests c a b same (inr (allowed, kept)) = inr (
+  allowed,
+  record {
+    kept = kept.kept;
+    commands = kept.commands
+        ∙ ap (λ (cs : List Command). kept_behind (kept_behind cs (accepted start requests)) (c ∷ [])) same;
+  },
+)
+
 -- where a showing is told afterwards, what came before it was
 told_before : {D : Type 0} (at : D → DiskAt) (bytes : List ℕ) (left right : D) (was is : Option (List Showing))
     (all : List Showing) → is ≡ Some all → Notes at (Some bytes) left right was is
@@ -114,12 +140,19 @@ module _ {D : Type 0} (at : D → DiskAt)
     abbrev at_first : State
     at_first = begun.start
 
+    -- the commands with which it began
+    abbrev begun_with : List Command
+    begun_with = commands_on begun.l begun.r
+
+    abbrev held_behind : List Request → List Command
+    held_behind requests = held_at_end begun.l begun.r at_first requests
+
     abbrev PastOf : List Request → Stored D → Option (List Showing) → Type 0
     PastOf = IsPastOf at begun
 
     abbrev ShownTo : List ℕ → List Showing → List Request → Stored D → List Showing → Type 0
     ShownTo before earlier requests store all =
-        IsShown at at_first (length before) requests store.left store.right
+        IsShown at begun_with at_first (length before) requests store.left store.right
         (shown_as at before begun.left begun.right) earlier all
 
     -- the sink was shown nothing more
@@ -135,7 +168,7 @@ module _ {D : Type 0} (at : D → DiskAt)
           past.past (asked-more at_first requests query);
       order = past.order;
       told = λ before earlier all b e a.
-          shown_on at at_first (length before) (shown_as at before begun.left begun.right) earlier
+          shown_on at begun_with at_first (length before) (shown_as at before begun.left begun.right) earlier
           requests (Ask query ∷ []) store.left store.right all
           (unmoved at store.left) (unmoved at store.right)
           (past.told before earlier all b e (sym same ∙ a));
@@ -148,11 +181,14 @@ module _ {D : Type 0} (at : D → DiskAt)
         (was : Option (List Showing)) (past : PastOf requests old was) where
       -- what it leaves of both disks
       leaves : (said : Answer) → WritesOn at old request said mid
-          → LeavesPairs at old.left old.right mid.left mid.right (IsKeptAround (run at_first requests).0 request)
+          → LeavesPairs at old.left old.right mid.left mid.right 
+          (IsKeptAround (run at_first requests).0 (held_behind requests) request)
       leaves said writes =
           let left = some_of (at old.left).seen past.past.left_tells in
           let right = some_of (at old.right).seen past.past.right_tells in
-          writes.kept past.past.going left.0 right.0 (run at_first requests).0 left.1 right.1 past.past.stands
+          subst (λ (cs : List Command). LeavesPairs at old.left old.right mid.left mid.right
+          (IsKeptAround (run at_first requests).0 cs request)) (past.past.holds left.0 right.0 left.1 right.1)
+          (writes.kept past.past.going left.0 right.0 (run at_first requests).0 left.1 right.1 past.past.stands)
 
       -- it replied, when all replies before it were out, and the sink was shown the disks
       replied_to : (held : Option (List ℕ)) (is : Option (List Showing)) (reply : Reply)
@@ -170,21 +206,21 @@ module _ {D : Type 0} (at : D → DiskAt)
           (subst (λ (h : Option (List ℕ)). Notes at h new.left new.right was is) told notes) in
           let first = told_before at now mid.left mid.right was is all a here in
           subst (λ (t : List Showing). ShownTo before earlier (requests ++ request ∷ []) mid t) (sym first.2)
-          (shown_again at at_first (length before) (shown_as at before begun.left begun.right)
+          (shown_again at begun_with at_first (length before) (shown_as at before begun.left begun.right)
           earlier requests old.left old.right mid.left mid.right first.0
           writes.left_time writes.right_time (past.told before earlier first.0 b e first.1) request now
           (omega (arith, length-append before (lines at_first requests))) (leaves (answer.Reply reply) writes))
 
       pub replied_past : (held : Option (List ℕ)) (is : Option (List Showing)) (reply : Reply) → mid.stopped ≡ None
-          → ((s : State) → StandsFor old.core s → Answers s request (answer.Reply reply) mid.core)
+          → IsInOrder at mid → ((s : State) → StandsFor old.core s → Answers s request (answer.Reply reply) mid.core)
           → WritesOn at old request (answer.Reply reply) mid
           → Writes begun.held (lines at_first requests) held → Notes at held new.left new.right was is
           → PastOf (requests ++ request ∷ []) new is
-      replied_past held is reply going answers writes out notes = record {
+      replied_past held is reply going order_then answers writes out notes = record {
         past = subst (Past at since begun.l begun.r at_first (requests ++ request ∷ [])) (sym cleared)
             (with_changes at stays since begun.l begun.r at_first (requests ++ request ∷ []) mid []
             (goes_on at stays since begun.l begun.r at_first requests old mid past.past past.order
-            request reply going answers writes));
+            request reply going order_then answers writes));
         order = order;
         told = λ before earlier all b e a.
             subst (λ (s : Stored D). ShownTo before earlier (requests ++ request ∷ []) s all) (sym cleared)
@@ -207,9 +243,11 @@ module _ {D : Type 0} (at : D → DiskAt)
             told = λ before earlier all b e a.
                 let first = shown_as at before begun.left begun.right in
                 subst (λ (s : Stored D). ShownTo before earlier requests s all) (sym cleared)
-                (subst (λ (d : D). IsShown at at_first (length before) requests d mid.right first earlier all)
+                (subst (λ (d : D). IsShown at begun_with at_first (length before) requests d mid.right first earlier
+                all)
                 (sym same.0)
-                (subst (λ (d : D). IsShown at at_first (length before) requests old.left d first earlier all)
+                (subst (λ (d : D). IsShown at begun_with at_first (length before) requests old.left d first earlier
+                all)
                 (sym same.1) (past.told before earlier all b e a)));
           }
 
@@ -229,23 +267,41 @@ module _ {D : Type 0} (at : D → DiskAt)
                   kept = past.past.kept;
                   images = stops at stays since begun.l begun.r at_first requests old mid past.past
                       past.order request c is answers writes;
-                  rests = λ l r. stops_kept at stays since begun.l begun.r at_first requests old mid
-                      past.past past.order request c is answers writes;
+                  rests = λ l r same x y at_x at_y. ends_alike begun.l begun.r l r at_first requests c x y (sym same)
+                      (kept_then c is answers writes x y at_x at_y);
+                  ends = λ l r x y same told_x told_y. ends_alike begun.l begun.r l r at_first requests c x y (sym same)
+                      (kept_then c is answers writes x y (stays mid.left x told_x) (stays mid.right y told_y));
                   told = λ before earlier all b e a.
-                      shown_failed at at_first (length before) (shown_as at before begun.left begun.right) earlier
+                      shown_failed at begun_with at_first (length before) (shown_as at before begun.left begun.right) earlier
                       requests (AtCommand c) old.left old.right mid.left mid.right all
                       writes.left_time writes.right_time (past.told before earlier all b e a)
                       (λ x y at_x at_y. failed s c x y allowed
-                      (subst (λ (q : Request). IsKeptAround s q x y) is
+                      (subst (λ (q : Request). IsKeptAround s (held_behind requests) q x y) is
                       (leaves answer.DiskFault writes x y at_x at_y)));
                 }),
           )
         where
-          failed : (s : State) (c : Command) (x y : List ℕ) → ruling s c ≡ Allowed → IsKeptAround s (Do c) x y
-              → IsKept x y s ⊎ IsKeptFailed (AtCommand c) s x y
+          kept_then : (c : Command) → request ≡ Do c
+              → ((s : State) → StandsFor old.core s → Answers s request answer.DiskFault mid.core)
+              → WritesOn at old request answer.DiskFault mid
+              → (x y : List ℕ) → LeftNow at mid.left x → LeftNow at mid.right y
+              → KeptAtEnd begun.l begun.r at_first requests (AtCommand c) x y
+          kept_then c is answers writes = stops_kept at stays since begun.l begun.r at_first requests old mid past.past
+              past.order request c is answers writes
+
+          failed : (s : State) (c : Command) (x y : List ℕ) → ruling s c ≡ Allowed
+              → IsKeptAround s (held_behind requests) (Do c) x y
+              → IsKeptWith x y s (held_behind requests) ⊎ IsKeptFailed (AtCommand c) s (held_behind requests) x y
           failed s c x y allowed (inl kept) = inl kept
-          failed s c x y allowed (inr kept) = inr
-              (c, refl, allowed, subst (λ (t : State). IsKept x y t) (step_is_after s c allowed) kept)
+          failed s c x y allowed (inr kept) = inr (
+            c,
+            refl,
+            allowed,
+            record {
+              kept = subst (λ (t : State). IsKept x y t) (step_is_after s c allowed) kept.kept;
+              commands = kept.commands ∙ behind_newly (held_behind requests) s c allowed;
+            },
+          )
 
     -- ---- at its end
 
@@ -260,9 +316,12 @@ module _ {D : Type 0} (at : D → DiskAt)
         record {
           kept = here.kept;
           images = here.leaves;
-          rests = λ l r. (now.left, now.right);
+          rests = λ l r same. (now.left, now.right);
+          ends = λ l r x y same told_x told_y. ended_alike begun.l begun.r l r at_first requests x y (sym same)
+              (ends_kept at stays since begun.l begun.r at_first requests store here past.order x y
+              (stays store.left x told_x) (stays store.right y told_y));
           told = λ before earlier all b e a.
-              shown_ended at at_first (length before) (shown_as at before begun.left begun.right)
+              shown_ended at begun_with at_first (length before) (shown_as at before begun.left begun.right)
               earlier requests later NoFault store.left store.right all (sym same)
               (unmoved at store.left) (unmoved at store.right)
               (past.told before earlier all b e a)
@@ -294,6 +353,8 @@ module _ {D : Type 0} (at : D → DiskAt)
         right = here.1;
         left_is = here.2;
         right_is = here.3;
+        holds = opened_holds at l r start old_left old_right store told_l told_r opened order_first
+            here.6.stands here.0 here.1 here.2 here.3;
         left_rests = here.4;
         right_rests = here.5;
         begun = record {
@@ -306,9 +367,9 @@ module _ {D : Type 0} (at : D → DiskAt)
               let told = told_before at before store.left store.right was is all all_is noted in
               let first = shown_as at before store.left store.right in
               let same : told.0 ≡ earlier = cc (sym told.1 ∙ earlier_is) in
-              subst (λ (t : List Showing). IsShown at start (length before) [] store.left store.right
-              first earlier t) (sym (told.2 ∙ ap (λ (t : List Showing). t ++ first ∷ []) same))
-              (shown_first at start (length before) first earlier store.left store.right refl refl);
+              subst (λ (t : List Showing). IsShown at (commands_on here.0 here.1) start (length before) []
+              store.left store.right first earlier t) (sym (told.2 ∙ ap (λ (t : List Showing). t ++ first ∷ []) same))
+              (shown_first at (commands_on here.0 here.1) start (length before) first earlier store.left store.right refl refl);
         };
         past = λ only_l only_r kept.
             with_changes at stays _ l r start [] store []
@@ -329,7 +390,9 @@ module _ {D : Type 0} (at : D → DiskAt)
     left_time = omega arith;
     right_time = omega arith;
     past = untouched_past at stays left right l r start _ refl told_l told_r;
+    opens = λ other a b told_a told_b. (inl (cc (sym told_b ∙ told_r)), inl (inl (cc (sym told_a ∙ told_l))));
     recovers = λ only_l only_r kept a b at_a at_b.
-        inl (subst (λ (x : List ℕ). IsKept x b start) (sym (only_l a (now_only left a at_a)))
-        (subst (λ (y : List ℕ). IsKept l y start) (sym (only_r b (now_only right b at_b))) kept));
+        inl (subst (λ (x : List ℕ). IsKeptWith x b start (commands_on l r)) (sym (only_l a (now_only left a at_a)))
+        (subst (λ (y : List ℕ). IsKeptWith l y start (commands_on l r)) (sym (only_r b (now_only right b at_b)))
+        (record { kept = kept; commands = refl })));
   }

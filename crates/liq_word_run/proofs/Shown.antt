@@ -7,11 +7,13 @@ use Rattle.liq_outside.specs.Showings.{AllNeighbours, LeavesBetween, shown_as}
 use Rattle.liq_types.specs.declared.requests.Command.{Command}
 use Rattle.liq_types.specs.declared.requests.Request.{Request}
 use Rattle.liq_types.specs.State.{State}
-use Rattle.liq_rule_step.specs.Step.{Allowed, accepted, after, ruling, run, step}
+use Rattle.liq_rule_step.specs.Step.{Allowed, accepted, after, newly_accepted, ruling, run, step}
 use Rattle.liq_rule_step.proofs.Runs.{run_accepted}
 use Rattle.liq_text.specs.Replies.{reply_line}
-use Rattle.liq_disk_pair.specs.Kept.{IsKept}
+use Rattle.liq_disk_pair.specs.Commands.{kept_behind}
+use Rattle.liq_disk_pair.specs.Kept.{IsKept, IsKeptWith}
 use Rattle.liq_disk_pair.specs.Past.{AtCommand, Fault}
+use Rattle.liq_disk_pair.proofs.Behind.{behind_more}
 use Rattle.liq_disk_pair.proofs.Past.{run_folds}
 use Rattle.liq_store.specs.Keeping.{IsKeptAround, LeavesPairs}
 use Rattle.liq_word_exit.specs.Answered.{HoldsAnswered}
@@ -20,9 +22,10 @@ use Rattle.liq_word_run.specs.Passing.{Covers, HoldsFirst, IsShown, WasShown, la
 use Rattle.liq_word_run.proofs.Progressing.{after-more, lines-more}
 
 -- kept for the state after the command at which a disk met a fault
-abbrev pub IsKeptFailed : Fault → State → List ℕ → List ℕ → Type 0
-IsKeptFailed fault s a b =
-    (c : Command) × (fault ≡ AtCommand c) × (ruling s c ≡ Allowed) × IsKept a b (after s c)
+abbrev pub IsKeptFailed : Fault → State → List Command → List ℕ → List ℕ → Type 0
+IsKeptFailed fault s held a b =
+    (c : Command) × (fault ≡ AtCommand c) × (ruling s c ≡ Allowed)
+    × IsKeptWith a b (after s c) (kept_behind held (c ∷ []))
 
 -- ---- lists
 
@@ -73,59 +76,94 @@ at_most n m = grind arith
 
 -- ---- what the disks hold, while a run goes on
 
-module _ (start : State) (before : ℕ) where
+module _ (begun : List Command) (start : State) (before : ℕ) where
+  -- the commands behind these requests
+  abbrev pub held_behind : List Request → List Command
+  held_behind requests = kept_behind begun (accepted start requests)
+
+  abbrev KeptBehind : List Request → List ℕ → List ℕ → Type 0
+  KeptBehind requests a b = IsKeptWith a b (run start requests).0 (held_behind requests)
+
+  -- behind one request more
+  held_more : (requests : List Request) (request : Request)
+      → kept_behind (held_behind requests) (newly_accepted (run start requests).0 request)
+      ≡ held_behind (requests ++ request ∷ [])
+  held_more requests request =
+      let s = (run start requests).0 in
+      ap (kept_behind (held_behind requests)) (sym (append-nil (newly_accepted s request)))
+      ∙ sym (behind_more begun (accepted start requests) (accepted s (request ∷ [])))
+      ∙ ap (kept_behind begun) (sym (run_accepted start requests (request ∷ [])))
+
   -- more requests were answered
-  further : (requests more : List Request) (held : ℕ) (a b : List ℕ) → HoldsFirst start before requests held a b
-      → HoldsFirst start before (requests ++ more) held a b
+  further : (requests more : List Request) (held : ℕ) (a b : List ℕ) → HoldsFirst begun start before requests held a b
+      → HoldsFirst begun start before (requests ++ more) held a b
   further requests more held a b h =
       let same : take h.0 requests ≡ take h.0 (requests ++ more) = sym (take_of_more h.0 requests more h.1) in (
         h.0,
         omega (arith, h.1, length-append requests more),
         subst (λ (rs : List Request). held ≤ before + length (lines start rs)) same h.2,
-        subst (λ (rs : List Request). IsKept a b (run start rs).0) same h.3,
+        subst (λ (rs : List Request). KeptBehind rs a b) same h.3,
       )
 
   -- all of them
   of_all : (requests : List Request) (held : ℕ) (a b : List ℕ) → held ≤ before + length (lines start requests)
-      → IsKept a b (run start requests).0 → HoldsFirst start before requests held a b
+      → KeptBehind requests a b → HoldsFirst begun start before requests held a b
   of_all requests held a b le kept =
       let same : requests ≡ take (length requests) requests = sym (take_all requests) in (
         length requests,
         omega arith,
         subst (λ (rs : List Request). held ≤ before + length (lines start rs)) same le,
-        subst (λ (rs : List Request). IsKept a b (run start rs).0) same kept,
+        subst (λ (rs : List Request). KeptBehind rs a b) same kept,
       )
 
   -- a call: before it or after it
   around : (requests : List Request) (request : Request) (held : ℕ) (a b : List ℕ)
       → held ≤ before + length (lines start requests)
-      → IsKeptAround (run start requests).0 request a b → HoldsFirst start before (requests ++ request ∷ []) held a b
+      → IsKeptAround (run start requests).0 (held_behind requests) request a b → HoldsFirst begun start before (requests ++ request ∷ []) held a b
   around requests request held a b le (inl kept) = further requests (request ∷ []) held a b
       (of_all requests held a b le kept)
   around requests request held a b le (inr kept) =
       let longer = ap length (lines-more start requests request)
       ∙ length-append (lines start requests) (reply_line (step (run start requests).0 request).1) in
       of_all (requests ++ request ∷ []) held a b (omega (arith, le, longer))
-      (subst (λ (s : State). IsKept a b s) (sym (after-more start requests request)) kept)
+      (record {
+        kept = subst (λ (s : State). IsKept a b s) (sym (after-more start requests request)) kept.kept;
+        commands = kept.commands ∙ held_more requests request;
+      })
 
   -- ---- and at its end
 
   in_all : (requests : List Request) (fault : Fault) (held : ℕ) (a b : List ℕ)
-      → HoldsFirst start before requests held a b → HoldsAnswered start requests fault before held a b
+      → HoldsFirst begun start before requests held a b → HoldsAnswered begun start requests fault before held a b
   in_all requests fault held a b h = (h.0, h.1, inl h.2, inl h.3)
 
   -- kept for the state after all, or after the command that failed
   at_end : (requests : List Request) (fault : Fault) (held : ℕ) (a b : List ℕ)
-      → IsKept a b (run start requests).0 ⊎ IsKeptFailed fault (run start requests).0 a b
-      → HoldsAnswered start requests fault before held a b
+      → KeptBehind requests a b ⊎ IsKeptFailed fault (run start requests).0 (held_behind requests) a b
+      → HoldsAnswered begun start requests fault before held a b
   at_end requests fault held a b (inl kept) = (
     length requests,
     omega arith,
     inr refl,
     inl
-        (subst (λ (rs : List Request). IsKept a b (run start rs).0) (sym (take_all requests)) kept),
+        (subst (λ (rs : List Request). KeptBehind rs a b) (sym (take_all requests)) kept),
   )
-  at_end requests fault held a b (inr failed) = (length requests, omega arith, inr refl, inr (refl, failed))
+  at_end requests fault held a b (inr failed) = (
+    length requests,
+    omega arith,
+    inr refl,
+    inr (
+      refl,
+      (
+        failed.0,
+        failed.1,
+        failed.2,
+        subst (λ (rs : List Request).
+            IsKeptWith a b (after (run start requests).0 failed.0) (kept_behind (held_behind rs) (failed.0 ∷ [])))
+            (sym (take_all requests)) failed.3,
+      ),
+    ),
+  )
 
   -- if all accept what the first ones accept, so do more of them
   same_first : (these more rest : List Request) → accepted start these ≡ accepted start (these ++ (more ++ rest))
@@ -148,7 +186,7 @@ module _ (start : State) (before : ℕ) where
   -- of one that was cut in what it answered last
   of_cut : (these later : List Request) (fault : Fault) (held : ℕ) (a b : List ℕ)
       → accepted start these ≡ accepted start (these ++ later)
-      → HoldsFirst start before (these ++ later) held a b → HoldsAnswered start these fault before held a b
+      → HoldsFirst begun start before (these ++ later) held a b → HoldsAnswered begun start these fault before held a b
   of_cut these later fault held a b same h = ⊎_elim
       (λ le.
       let is : take h.0 (these ++ later) ≡ take h.0 these = take_of_more h.0 these later le in
@@ -156,7 +194,7 @@ module _ (start : State) (before : ℕ) where
         h.0,
         le,
         subst (λ (rs : List Request). held ≤ before + length (lines start rs)) is h.2,
-        subst (λ (rs : List Request). IsKept a b (run start rs).0) is h.3,
+        subst (λ (rs : List Request). KeptBehind rs a b) is h.3,
       ))
       (λ le.
       let k = h.0 - length these in
@@ -166,7 +204,10 @@ module _ (start : State) (before : ℕ) where
       (same ∙ ap (λ (rs : List Request). accepted start (these ++ rs)) (sym (take-append-drop k later))) in
       let ends : (run start (take h.0 (these ++ later))).0 ≡ (run start these).0 =
       ap (λ (rs : List Request). (run start rs).0) is ∙ same_state (these ++ take k later) these so in
-      at_end these fault held a b (inl (subst (λ (s : State). IsKept a b s) ends h.3)))
+      at_end these fault held a b (inl (record {
+        kept = subst (λ (s : State). IsKept a b s) ends h.3.kept;
+        commands = h.3.commands ∙ ap (kept_behind begun) (ap (accepted start) is ∙ so);
+      })))
       (at_most h.0 (length these))
 
 -- ---- what the sink was shown
@@ -213,9 +254,12 @@ module _ {D : Type 0} (at : D → DiskAt) where
         (since_then mr (at or).moment b (earlier_left mr nr (at or).moment (at mr).moment b right (omega arith) at_b));
   }
 
-  module _ (start : State) (before : ℕ) (first : Showing) (earlier : List Showing) where
+  module _ (begun : List Command) (start : State) (before : ℕ) (first : Showing) (earlier : List Showing) where
+    abbrev behind : List Request → List Command
+    behind requests = kept_behind begun (accepted start requests)
+
     abbrev ShownSo : List Request → D → D → List Showing → Type 0
-    ShownSo requests left right all = IsShown at start before requests left right first earlier all
+    ShownSo requests left right all = IsShown at begun start before requests left right first earlier all
 
     -- before the first request
     pub shown_first : (left right : D) → first.left ≡ (at left).moment → first.right ≡ (at right).moment
@@ -231,7 +275,7 @@ module _ {D : Type 0} (at : D → DiskAt) where
       since = shown.since;
       are = shown.are;
       each = all_weaker _ _ (later_on left right left right _ _ time_left time_right
-          (λ held a b h. further start before requests more held a b h)) first shown.since shown.each;
+          (λ held a b h. further begun start before requests more held a b h)) first shown.since shown.each;
       left_is = shown.left_is;
       right_is = shown.right_is;
     }
@@ -263,22 +307,22 @@ module _ {D : Type 0} (at : D → DiskAt) where
       -- one request more, and a showing behind it
       pub shown_again : (request : Request) (now : List ℕ) → length now ≤ before + length (lines start requests)
           → ((a b : List ℕ) → LeftSince at nl (at ol).moment a → LeftSince at nr (at or).moment b
-          → IsKeptAround (run start requests).0 request a b)
+          → IsKeptAround (run start requests).0 (behind requests) request a b)
           → ShownSo (requests ++ request ∷ []) nl nr (all ++ shown_as at now nl nr ∷ [])
       shown_again request now within leaves =
           let next = shown_as at now nl nr in
           let is = last_is first shown.since next in
-          let holds = HoldsFirst start before (requests ++ request ∷ []) in
+          let holds = HoldsFirst begun start before (requests ++ request ∷ []) in
           record {
             since = shown.since ++ next ∷ [];
             are = ap (λ (t : List Showing). t ++ next ∷ []) shown.are
                 ∙ append_assoc earlier (first ∷ shown.since) (next ∷ []);
             each = one_more (Covers at nl nr holds) first shown.since next
                 (all_weaker _ _ (later_on ol or nl nr _ _ time_left time_right
-                (λ held a b h. further start before requests (request ∷ []) held a b h)) first shown.since
+                (λ held a b h. further begun start before requests (request ∷ []) held a b h)) first shown.since
                 shown.each)
                 (record {
-                  between = until_now now holds (λ a b at_a at_b. around start before requests request (length now) a
+                  between = until_now now holds (λ a b at_a at_b. around begun start before requests request (length now) a
                       b within (leaves a b at_a at_b));
                   left_by = omega arith;
                   right_by = omega arith;
@@ -289,31 +333,33 @@ module _ {D : Type 0} (at : D → DiskAt) where
 
       -- the end, of these requests or of others that hold what they held
       pub shown_all : (others : List Request) (fault : Fault)
-          → ((held : ℕ) (a b : List ℕ) → HoldsFirst start before requests held a b
-          → HoldsAnswered start others fault before held a b)
+          → ((held : ℕ) (a b : List ℕ) → HoldsFirst begun start before requests held a b
+          → HoldsAnswered begun start others fault before held a b)
           → ((a b : List ℕ) → LeftSince at nl (at ol).moment a → LeftSince at nr (at or).moment b
-          → IsKept a b (run start others).0 ⊎ IsKeptFailed fault (run start others).0 a b)
-          → WasShown at start before others fault nl nr first earlier all
+          → IsKeptWith a b (run start others).0 (behind others)
+          ⊎ IsKeptFailed fault (run start others).0 (behind others) a b)
+          → WasShown at begun start before others fault nl nr first earlier all
       shown_all others fault more gives = record {
         since = shown.since;
         are = shown.are;
-        each = λ now. one_more (LeavesBetween at nl nr (HoldsAnswered start others fault before)) first
+        each = λ now. one_more (LeavesBetween at nl nr (HoldsAnswered begun start others fault before)) first
             shown.since (shown_as at now nl nr)
             (all_weaker _ _ (λ p q covers. (later_on ol or nl nr _ _ time_left time_right more p q covers).between)
             first shown.since shown.each)
-            (until_now now (HoldsAnswered start others fault before)
-            (λ a b at_a at_b. at_end start before others fault (length now) a b (gives a b at_a at_b)));
+            (until_now now (HoldsAnswered begun start others fault before)
+            (λ a b at_a at_b. at_end begun start before others fault (length now) a b (gives a b at_a at_b)));
       }
 
     -- at a command
     pub shown_failed : (requests : List Request) (fault : Fault) (ol or nl nr : D) (all : List Showing)
         → GoesOn at ol nl → GoesOn at or nr → ShownSo requests ol or all
         → ((a b : List ℕ) → LeftSince at nl (at ol).moment a → LeftSince at nr (at or).moment b
-        → IsKept a b (run start requests).0 ⊎ IsKeptFailed fault (run start requests).0 a b)
-        → WasShown at start before requests fault nl nr first earlier all
+        → IsKeptWith a b (run start requests).0 (behind requests)
+        ⊎ IsKeptFailed fault (run start requests).0 (behind requests) a b)
+        → WasShown at begun start before requests fault nl nr first earlier all
     shown_failed requests fault ol or nl nr all time_left time_right shown gives =
         shown_all requests ol or nl nr all time_left time_right shown requests fault
-        (λ held a b h. in_all start before requests fault held a b h) gives
+        (λ held a b h. in_all begun start before requests fault held a b h) gives
 
     -- at rest, where the replies to some later requests were cut, of which none was accepted
     pub shown_ended : (requests later : List Request) (fault : Fault) (left right : D) (all : List Showing)
@@ -321,9 +367,9 @@ module _ {D : Type 0} (at : D → DiskAt) where
         → GoesOn at left left → GoesOn at right right
         → ShownSo (requests ++ later) left right all
         → ((a b : List ℕ) → LeftSince at left (at left).moment a → LeftSince at right (at right).moment b
-        → IsKept a b (run start requests).0)
-        → WasShown at start before requests fault left right first earlier all
+        → IsKeptWith a b (run start requests).0 (behind requests))
+        → WasShown at begun start before requests fault left right first earlier all
     shown_ended requests later fault left right all same time_left time_right shown gives =
         shown_all (requests ++ later) left right left right all time_left time_right shown requests fault
-        (λ held a b h. of_cut start before requests later fault held a b same h)
+        (λ held a b h. of_cut begun start before requests later fault held a b same h)
         (λ a b at_a at_b. inl (gives a b at_a at_b))

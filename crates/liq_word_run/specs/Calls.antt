@@ -1,5 +1,5 @@
 -- One request, as the store of two disks answers it.
-use Rattle.std.specs.Prelude.{ℕ, ◌≡◌, ◌↔◌, List, Option, Some, None, IsSome, Result, Ok, Err}
+use Rattle.std.specs.Prelude.{ℕ, ◌≡◌, ◌⊎◌, ◌↔◌, List, Option, Some, None, IsSome, Result, Ok, Err}
 use Rattle.liq_outside.specs.At.{DiskAt}
 use Rattle.liq_outside.specs.Disk.{GoesOn}
 use Rattle.liq_types.specs.declared.replies.Reply.{Reply}
@@ -8,7 +8,7 @@ use Rattle.liq_types.specs.declared.requests.Request.TheVariants.{Do, Ask}
 use Rattle.liq_types.specs.State.{State}
 use Rattle.liq_core.specs.Core.{Core, StandsFor}
 use Rattle.liq_rule_step.specs.Step.{step}
-use Rattle.liq_store.specs.Keeping.{IsKeptAround}
+use Rattle.liq_disk_pair.specs.Kept.{IsKept}
 use Rattle.liq_rule_step.specs.Memory.{IsAccepted, TakesMemory}
 use Rattle.liq_store.specs.Stored.{Stored}
 use Rattle.liq_word_exit.specs.declared.halts.Halt.{Halt}
@@ -37,7 +37,7 @@ module _ {D : Type 0} (at : D → DiskAt) where
   abbrev pub KeepsAround : D → D → State → Request → Type 0
   KeepsAround left right s request =
       (l r : List ℕ) → (at left).seen ≡ Some l → (at right).seen ≡ Some r
-      → IsKeptAround s request l r
+      → IsKept l r s ⊎ IsKept l r (step s request).0
 
 -- For both disks of a store time goes on, and what a crash may have left at a past moment stays
 -- what it was. Each tells its bytes where it told them before, and there alone.

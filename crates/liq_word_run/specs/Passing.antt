@@ -1,6 +1,6 @@
 -- What a crash at some moment may have left of the disks of a run that is on its way, and what its
 -- sink was shown of them.
-use Rattle.std.specs.Prelude.{ℕ, ◌≡◌, ◌≤◌, ◌+◌, List, [], ◌∷◌, ◌++◌, length, take, Option, Some, Result, Ok, Err}
+use Rattle.std.specs.Prelude.{ℕ, ◌≡◌, ◌≢◌, ◌≤◌, ◌+◌, List, [], ◌∷◌, ◌++◌, length, take, Option, Some, Result, Ok, Err}
 use Rattle.liq_outside.specs.At.{DiskAt}
 use Rattle.liq_outside.specs.declared.showing.Showing.{Showing}
 use Rattle.liq_outside.specs.Disk.{LeftNow, Only}
@@ -9,14 +9,18 @@ use Rattle.liq_types.specs.declared.requests.Command.{Command}
 use Rattle.liq_types.specs.declared.requests.Request.{Request}
 use Rattle.liq_types.specs.declared.requests.Request.TheVariants.{Do}
 use Rattle.liq_types.specs.State.{State}
-use Rattle.liq_rule_step.specs.Step.{run}
-use Rattle.liq_disk_pair.specs.Kept.{IsKept}
-use Rattle.liq_disk_pair.specs.Past.{AtCommand, Fault, LeavesPast}
+use Rattle.liq_rule_step.specs.Step.{accepted, run}
+use Rattle.liq_disk_pair.specs.Commands.{kept_behind}
+use Rattle.liq_disk_pair.specs.Kept.{IsKept, IsKeptWith}
+use Rattle.liq_disk_pair.specs.Pair.{commands_on}
+use Rattle.liq_disk_pair.specs.Past.{AtCommand, Fault, KeptAtEnd, LeavesPast}
 use Rattle.liq_disk_pair.specs.Sides.{on}
 use Rattle.liq_disk_pair.specs.Unfinished.{IsRecovered}
 use Rattle.liq_store.specs.declared.answers.StoreWhy.{StoreWhy}
+use Rattle.liq_store.specs.declared.answers.StoreWhy.TheVariants as whys
 use Rattle.liq_store.specs.Keeping.{IsInOrder, LeavesPairs}
 use Rattle.liq_store.specs.Leaving.{RestAtEnd}
+use Rattle.liq_store.specs.Opening.{OnlyOpens}
 use Rattle.liq_store.specs.Past.{Past}
 use Rattle.liq_store.specs.Stored.{Stored}
 use Rattle.liq_word_exit.specs.declared.halts.Halt.{Halt}
@@ -62,12 +66,14 @@ abbrev pub last_of : {A : Type 0} → A → List A → A
 last_of first [] = first
 last_of first (next ∷ later) = last_of next later
 
--- The disks are kept for the state after the first n of the requests, and no reply is out but those
--- to them. So many bytes were out at the start.
-abbrev pub HoldsFirst : State → ℕ → List Request → ℕ → List ℕ → List ℕ → Type 0
-HoldsFirst start before requests held a b =
+-- The disks are kept for the state after the first n of the requests, with the commands by then, and
+-- no reply is out but those to them. So many bytes were out at the start, when these commands stood
+-- on the disks.
+abbrev pub HoldsFirst : List Command → State → ℕ → List Request → ℕ → List ℕ → List ℕ → Type 0
+HoldsFirst begun start before requests held a b =
     (n : ℕ) × (n ≤ length requests) × (held ≤ before + length (lines start (take n requests)))
-    × IsKept a b (run start (take n requests)).0
+    × IsKeptWith a b (run start (take n requests)).0
+    (kept_behind begun (accepted start (take n requests)))
 
 module _ {D : Type 0} (at : D → DiskAt) where
   -- between two showings, the later of which was made by now
@@ -80,24 +86,24 @@ module _ {D : Type 0} (at : D → DiskAt) where
   -- A run whose sink was shown this first answered these requests, and left the disks so. The sink
   -- was shown all this, and the last time both disks were as they are.
   pub record IsShown
-      (start : State) (before : ℕ) (requests : List Request) (left right : D) (first : Showing)
+      (begun : List Command) (start : State) (before : ℕ) (requests : List Request) (left right : D) (first : Showing)
       (earlier all : List Showing) : Type 0 where
     pub since : List Showing
     pub are : all ≡ earlier ++ first ∷ since
-    pub each : AllNeighbours (Covers left right (HoldsFirst start before requests)) first since
+    pub each : AllNeighbours (Covers left right (HoldsFirst begun start before requests)) first since
     pub left_is : (last_of first since).left ≡ (at left).moment
     pub right_is : (last_of first since).right ≡ (at right).moment
 
   -- The same of one that met this fault, and is at its end: whatever its sink holds by then, the
   -- disks have what was answered.
   pub record WasShown
-      (start : State) (before : ℕ) (requests : List Request) (fault : Fault) (left right : D)
+      (begun : List Command) (start : State) (before : ℕ) (requests : List Request) (fault : Fault) (left right : D)
       (first : Showing) (earlier all : List Showing) : Type 0 where
     pub since : List Showing
     pub are : all ≡ earlier ++ first ∷ since
     pub each :
         (now : List ℕ)
-        → AllNeighbours (LeavesBetween at left right (HoldsAnswered start requests fault before))
+        → AllNeighbours (LeavesBetween at left right (HoldsAnswered begun start requests fault before))
         first (since ++ shown_as at now left right ∷ [])
 
 -- ---- a run on its way
@@ -112,7 +118,7 @@ module _ {D : Type 0} (at : D → DiskAt) where
           begun.l begun.r begun.start requests store
       pub order : IsInOrder at store
       pub told : Tells begun shown (λ before earlier all.
-          IsShown at begun.start (length before) requests store.left store.right
+          IsShown at (commands_on begun.l begun.r) begun.start (length before) requests store.left store.right
           (shown_as at before begun.left begun.right) earlier all)
 
     -- They were, it met this fault, and is at its end.
@@ -123,9 +129,16 @@ module _ {D : Type 0} (at : D → DiskAt) where
       pub images :
           LeavesPast at (λ side. (at (on side begun.left begun.right)).moment)
           begun.l begun.r begun.start requests fault left right
-      pub rests : (l r : List ℕ) → RestAtEnd at l r begun.start requests fault left right
+      -- behind any bytes with the commands with which it began
+      pub rests :
+          (l r : List ℕ) → commands_on l r ≡ commands_on begun.l begun.r
+          → RestAtEnd at l r begun.start requests fault left right
+      pub ends :
+          (l r a b : List ℕ) → commands_on l r ≡ commands_on begun.l begun.r
+          → (at left).seen ≡ Some a → (at right).seen ≡ Some b
+          → KeptAtEnd l r begun.start requests fault a b
       pub told : Tells begun shown (λ before earlier all.
-          WasShown at begun.start (length before) requests fault left right
+          WasShown at (commands_on begun.l begun.r) begun.start (length before) requests fault left right
           (shown_as at before begun.left begun.right) earlier all)
 
     -- They were, and at this command a disk met a fault.
@@ -152,7 +165,7 @@ module _ {D : Type 0} (at : D → DiskAt) where
       → LeavesPairs at old_left old_right left right (IsRecovered l r start)
 
   -- A store was opened over these two disks, on which l and r stood, for this state. So a run
-  -- begins over its disks as they are now, at rest; and, where they were kept before, and nothing
+  -- begins over its disks as they are now, at rest, with the same commands; and, where they were kept before, and nothing
   -- was pending, it began there.
   pub record BeginsRun
       (old_left old_right : D) (l r : List ℕ) (start : State) (store : Stored D)
@@ -161,6 +174,7 @@ module _ {D : Type 0} (at : D → DiskAt) where
     pub right : List ℕ
     pub left_is : (at store.left).seen ≡ Some left
     pub right_is : (at store.right).seen ≡ Some right
+    pub holds : commands_on left right ≡ commands_on l r
     pub left_rests : Only left (LeftNow at store.left)
     pub right_rests : Only right (LeftNow at store.right)
     pub begun :
@@ -191,4 +205,8 @@ module _ {D : Type 0} (at : D → DiskAt) where
     pub past :
         LeavesOfRun at old_left old_right (IsFaultOfTelling (Err (halt_of why))) l r start []
         left right
+    -- where no disk met a fault
+    pub opens :
+        why ≢ whys.DiskFault → (a b : List ℕ) → (at left).seen ≡ Some a → (at right).seen ≡ Some b
+        → OnlyOpens l r a b
     pub recovers : Recovers old_left old_right l r start left right

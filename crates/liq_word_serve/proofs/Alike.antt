@@ -1,5 +1,5 @@
 -- Serving says the same of each state for which the store's protocol stands.
-use Rattle.std.proofs.Common.{ℕ, inl, inr, ⊎_elim, List, Option, Some, None, ◌∙◌, ◌≡◌, sym, subst, refl}
+use Rattle.std.proofs.Common.{ℕ, inl, inr, ⊎_elim, List, [], ◌∷◌, Option, Some, None, ◌∙◌, ◌≡◌, sym, ap, subst, refl}
 use Rattle.liq_types.specs.declared.requests.Command.{Command}
 use Rattle.liq_types.specs.declared.requests.Request.{Request}
 use Rattle.liq_types.specs.declared.requests.Request.TheVariants.{Do, Ask}
@@ -9,14 +9,16 @@ use Rattle.liq_types.specs.declared.entries.Entry.{Entry}
 use Rattle.liq_rule_step.specs.History.{IsLegal, requests_of}
 use Rattle.liq_rule_step.specs.Memory.{IsAccepted}
 use Rattle.liq_rule_step.proofs.AlikeReads.{Alike}
-use Rattle.liq_rule_step.proofs.AlikeReplies.{after_alike, replies_alike, ruling_alike, run_alike, step_alike}
-use Rattle.liq_disk_pair.specs.Past.{AtCommand, Fault, LeavesPast, NoFault}
+use Rattle.liq_rule_step.proofs.AlikeReplies.{accepted_alike, after_alike, replies_alike, ruling_alike, run_alike, step_alike}
+use Rattle.liq_disk_pair.specs.Commands.{kept_behind}
+use Rattle.liq_disk_pair.specs.Pair.{commands_on}
+use Rattle.liq_disk_pair.specs.Past.{AtCommand, Fault, KeptAtEnd, LeavesPast, NoFault}
 use Rattle.liq_disk_pair.proofs.Alike.{kept_alike, settled_alike}
 use Rattle.liq_store.proofs.Past.{past_alike}
 use Rattle.liq_sessions.specs.declared.script.Script.{Script}
-use Rattle.liq_store.specs.Keeping.{IsKeptAround}
 use Rattle.liq_store.specs.Leaving.{RestAtEnd}
 use Rattle.liq_book.specs.declared.items.Halt.{Halt}
+use Rattle.liq_book.specs.Booked.{IsKeptByStep}
 use Rattle.liq_book.specs.Past.{IsFaultOf, LeavesFrom, since_origin}
 use Rattle.liq_word_serve.specs.Ends.{halt_of}
 use Rattle.liq_word_serve.specs.declared.served.End.{End}
@@ -30,14 +32,35 @@ legal_alike alike entries legal = record {
   indices = legal.indices;
 }
 
-accepted_alike : {s t : State} → Alike s t → (request : Request) → IsAccepted s request → IsAccepted t request
-accepted_alike alike (Do c) is = sym (ruling_alike alike c) ∙ is
-accepted_alike alike (Ask query) is = is
+request_alike : {s t : State} → Alike s t → (request : Request) → IsAccepted s request → IsAccepted t request
+request_alike alike (Do c) is = sym (ruling_alike alike c) ∙ is
+request_alike alike (Ask query) is = is
 
-around_alike : {s t : State} → Alike s t → (request : Request) (l r : List ℕ) → IsKeptAround s request l r
-    → IsKeptAround t request l r
+around_alike : {s t : State} → Alike s t → (request : Request) (l r : List ℕ) → IsKeptByStep s request l r
+    → IsKeptByStep t request l r
 around_alike alike request l r kept = ⊎_elim (λ before. inl (kept_alike alike l r before))
     (λ after. inr (kept_alike (step_alike alike request) l r after)) kept
+
+-- what is kept at the end of a run from the one state is so of a run from the other
+with_from : {s t : State} → Alike s t → (l r : List ℕ) (requests : List Request) (a b : List ℕ)
+    → KeptAtEnd l r s requests NoFault a b → KeptAtEnd l r t requests NoFault a b
+with_from alike l r requests a b kept = record {
+  kept = kept_alike (run_alike requests alike) a b kept.kept;
+  commands = kept.commands ∙ ap (kept_behind (commands_on l r)) (accepted_alike requests alike);
+}
+
+halted_from : {s t : State} → Alike s t → (l r : List ℕ) (requests : List Request) (c : Command) (a b : List ℕ)
+    → KeptAtEnd l r s requests (AtCommand c) a b → KeptAtEnd l r t requests (AtCommand c) a b
+halted_from alike l r requests c a b (inl kept) = inl (with_from alike l r requests a b kept)
+halted_from alike l r requests c a b (inr (allowed, kept)) = inr (
+  sym (ruling_alike (run_alike requests alike) c) ∙ allowed,
+  record {
+    kept = kept_alike (after_alike (run_alike requests alike) c) a b kept.kept;
+    commands = kept.commands
+        ∙ ap (λ (cs : List Command). kept_behind (kept_behind (commands_on l r) cs) (c ∷ []))
+        (accepted_alike requests alike);
+  },
+)
 
 module _ {D : Type 0} (at : D → DiskAt) where
   settles_alike : {s t : State} → Alike s t → (left right : D) → AreSettled at s left right → AreSettled at t left right
@@ -56,7 +79,7 @@ module _ {D : Type 0} (at : D → DiskAt) where
   disks_alike scripts entries alike end.NoMemory left right disks = settles_alike alike left right disks
   disks_alike scripts entries alike (end.DiskFault halt) left right disks = (
     disks.0,
-    accepted_alike alike halt.request disks.1,
+    request_alike alike halt.request disks.1,
     λ l r told_left told_right.
         let around = disks.2 l r told_left told_right in (
           around_alike alike halt.request l r around.0,
@@ -65,11 +88,16 @@ module _ {D : Type 0} (at : D → DiskAt) where
         ),
   )
 
+  abbrev EndsBy : List ℕ → List ℕ → State → List Request → Fault → D → D → Type 0
+  EndsBy l r s requests fault left right = (a b : List ℕ) → (at left).seen ≡ Some a → (at right).seen ≡ Some b
+      → KeptAtEnd l r s requests fault a b
+
   abbrev LeavesBy : DiskAt → DiskAt → List ℕ → List ℕ → State → List Request → Option Halt → D → D → Type 0
   LeavesBy left_origin right_origin l r s requests halt left right =
       (fault : Fault) × IsFaultOf halt fault
       × LeavesPast at (since_origin left_origin right_origin) l r s requests fault left right
       × RestAtEnd at l r s requests fault left right
+      × EndsBy l r s requests fault left right
 
   from_alike : {s t : State} → Alike s t → (left_origin right_origin : DiskAt) (requests : List Request)
       (halt : Option Halt) (left right : D)
@@ -91,24 +119,24 @@ module _ {D : Type 0} (at : D → DiskAt) where
 
         by : (h : Option Halt) → LeavesBy left_origin right_origin l r s requests h left right
             → LeavesBy left_origin right_origin l r t requests h left right
-        by None from = (NoFault, refl, leaves_at from.0 NoFault from.1 from.2, rests_at from.0 NoFault from.1 from.3)
+        by None from = (
+          NoFault,
+          refl,
+          leaves_at from.0 NoFault from.1 from.2,
+          rests_at from.0 NoFault from.1 from.3,
+          λ a b told_a told_b. with_from alike l r requests a b
+              (subst (λ (f : Fault). KeptAtEnd l r s requests f a b) from.1 (from.4 a b told_a told_b)),
+        )
         by (Some halt) from =
             let c : Command = from.1.0 in (
               AtCommand c,
               (c, from.1.1, refl),
               leaves_at from.0 (AtCommand c) from.1.2 from.2,
-              around c (rests_at from.0 (AtCommand c) from.1.2 from.3),
-            ) where
-              around : (c : Command) → RestAtEnd at l r s requests (AtCommand c) left right
-                  → RestAtEnd at l r t requests (AtCommand c) left right
-              around c kept a b in_left in_right = ⊎_elim
-                  (λ before. inl (kept_alike (run_alike requests alike) a b before))
-                  (λ later. inr (
-                    sym (ruling_alike (run_alike requests alike) c)
-                        ∙ later.0,
-                    kept_alike (after_alike (run_alike requests alike) c) a b later.1,
-                  ))
-                  (kept a b in_left in_right)
+              (λ a b in_left in_right. halted_from alike l r requests c a b
+                  (rests_at from.0 (AtCommand c) from.1.2 from.3 a b in_left in_right)),
+              λ a b told_a told_b. halted_from alike l r requests c a b
+                  (subst (λ (f : Fault). KeptAtEnd l r s requests f a b) from.1.2 (from.4 a b told_a told_b)),
+            )
 
   pub serves_alike : {s t : State} → Alike s t → (left_origin right_origin : DiskAt) (scripts : List Script)
       (served : Served D)

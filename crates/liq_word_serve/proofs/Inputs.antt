@@ -1,5 +1,5 @@
 -- What serving an input comes to, by what was read, opened and served.
-use Rattle.std.proofs.Common.{ℕ, zero, suc, ◌+◌, ◌<◌, ◌≤◌, ◌≡◌, ◌⊎◌, inl, inr, List, [], ◌∷◌, map, length, false, true, Option, Some, None, Result, Ok, Err, refl, sym, ap, ap₂, ◌∙◌, subst, arith}
+use Rattle.std.proofs.Common.{ℕ, zero, suc, ◌+◌, ◌<◌, ◌≤◌, ◌≡◌, ◌⊎◌, inl, inr, ⊎_elim, List, [], ◌∷◌, map, length, false, true, Option, Some, None, is_some, Result, Ok, Err, refl, sym, ap, ap₂, ◌∙◌, subst, arith}
 use Rattle.std.specs.Prelude.{◌↔◌, ◌≢◌, All, Contains, IsSome, Vec, slice_index_or}
 use Rattle.std.specs.List.{AllByRecursion}
 use Rattle.std.specs.Global.{Global}
@@ -13,25 +13,28 @@ use Rattle.liq_types.specs.declared.requests.Request.TheVariants.{Do, Ask}
 use Rattle.liq_types.specs.State.{State}
 use Rattle.liq_core.specs.Core.{StandsFor}
 use Rattle.liq_types.specs.declared.entries.Entry.{Entry}
+use Rattle.liq_types.proofs.Tests.{value_of}
 use Rattle.liq_rule_step.specs.History.{state_after}
+use Rattle.liq_rule_step.specs.History as histories
 use Rattle.liq_rule_step.specs.Memory.{IsAccepted}
-use Rattle.liq_rule_step.specs.Step.{Ruling, Allowed, after, after_ruling, ruling}
 use Rattle.liq_rule_step.proofs.Histories.{legal-empty}
 use Rattle.liq_journal.specs.declared.damage.Damage.{Damage}
 use Rattle.liq_journal.specs.Opened.{OpenLeaves}
 use Rattle.liq_disk_pair.specs.declared.side.Side.{Side}
 use Rattle.liq_disk_pair.specs.Kept.{IsKept}
-use Rattle.liq_disk_pair.specs.Pair.{state_on}
+use Rattle.liq_disk_pair.specs.Pair.{commands_on, state_on}
+use Rattle.liq_disk_pair.specs.Past.{Fault, KeptAtEnd, NoFault}
 use Rattle.liq_disk_pair.specs.Unfinished.{LeftLeaves}
-use Rattle.liq_disk_pair.proofs.Keeping.{settled_kept}
+use Rattle.liq_disk_pair.proofs.Standings.{state_none}
 use Rattle.liq_store.specs.declared.answers.StoreWhy.{StoreWhy}
 use Rattle.liq_store.specs.declared.answers.StoreWhy.TheVariants as why
 use Rattle.liq_store.specs.Causes.{Faults, counts_of}
-use Rattle.liq_store.specs.Keeping.{IsAtRest, IsInOrder, IsKeptAround}
-use Rattle.liq_store.specs.Opening.{IsNotOpened, OpensOn}
+use Rattle.liq_store.specs.Keeping.{IsAtRest, IsInOrder}
+use Rattle.liq_store.specs.Opening.{IsNotOpened, OnlyOpens, OpensOn}
 use Rattle.liq_store.specs.Standing.{OnlyShuts}
 use Rattle.liq_store.specs.Stored.{Stored}
-use Rattle.liq_store.proofs.Recovered.{still_kept}
+use Rattle.liq_store.proofs.Past.{opened_holds}
+use Rattle.liq_store.proofs.Recovered.{opens_commands, still_kept}
 use Rattle.liq_sessions.specs.declared.script.Script.{Script}
 use Rattle.liq_text_lines.specs.Lines.{lines_in}
 use Rattle.liq_text_lines.specs.declared.stops.Stop.{Stop}
@@ -43,6 +46,7 @@ use Rattle.liq_text_scripts.specs.Sessions.{sessions}
 use Rattle.liq_book.specs.declared.items.Halt.{Halt}
 use Rattle.liq_book.specs.Booked.{CausesHalt}
 use Rattle.liq_book.specs.Origin.{GoesOnFrom}
+use Rattle.liq_book.specs.Past.{IsFaultOf}
 use Rattle.liq_word_serve.specs.Answered.{AreServedFrom, IsNextOf, IsServedFrom, IsServedWhole, LacksMemory}
 use Rattle.liq_word_serve.specs.declared.input.Finish.{Finish}
 use Rattle.liq_word_serve.specs.declared.input.Finish.TheVariants as finish
@@ -52,8 +56,8 @@ use Rattle.liq_word_serve.specs.declared.served.End.TheVariants as end
 use Rattle.liq_word_serve.specs.declared.served.Served.{Served}
 use Rattle.liq_word_serve.specs.Ends.{halt_of}
 use Rattle.liq_word_serve.specs.Input.{Answers, AreAtRest, DiskCause, EndsDamaged, HoldsAfter, IsFinishOf, LeavesDamaged, ServesInput, StayFor, Written, reading_of}
-use Rattle.liq_word_serve.specs.Serves.{AreKeptAround, AreNumbered, AreSettled, LeavesDisks, Serves}
-use Rattle.liq_word_serve.proofs.Stops.{LeavesAt, LeavesOpening, called, halted_in, leaves_served, leaves_unopened, leaves_unread}
+use Rattle.liq_word_serve.specs.Serves.{AreNumbered, LeavesDisks, Serves}
+use Rattle.liq_word_serve.proofs.Stops.{LeavesAt, LeavesOpening, called, ended_behind, ends_behind, halted_in, leaves_served, leaves_unopened, leaves_unread}
 use Rattle.liq_word_serve.proofs.Told.{all_from, all_to, all_unmap}
 
 -- ---- the scripts of what was asked
@@ -113,14 +117,6 @@ in_range asked scripts script session are there whose =
     ∙ are_numbered asked scripts are there.0 script there.1 in
     (omega (arith, at), omega (arith, at, there.1, are_eight asked scripts are))
 
--- ---- a call that met a fault
-
--- the step of a command that is accepted was made, or not
-around : (s : State) (c : Command) → ruling s c ≡ Allowed → (a b : List ℕ) → IsKeptAround s (Do c) a b → IsKept a b s
-    ⊎ IsKept a b (after s c)
-around s c accepted a b (inl kept) = inl kept
-around s c accepted a b (inr kept) = inr (subst (λ (r : Ruling). IsKept a b (after_ruling s c r).0) accepted kept)
-
 -- ---- by the finish
 
 by_finish : (P : Finish → Type 0) (e : End) (how : Finish) → IsFinishOf e how
@@ -161,6 +157,7 @@ module _ {D : Type 0} (disk_at : D → DiskAt) (left right : D) where
       let left_is : a ≡ l = cc in
       let right_is : b ≡ r = cc in (
         ap₂ state_on left_is right_is ∙ is,
+        ap₂ commands_on left_is right_is,
         λ kept.
             subst (λ (x : List ℕ). IsKept x b start) (sym left_is)
             (subst (λ (x : List ℕ). IsKept l x start) (sym right_is) kept),
@@ -228,19 +225,34 @@ module _ {K D : Type 0} (sink_at : K → SinkAt) (disk_at : D → DiskAt)
     read = λ bytes told. (lines_in bytes, ([], tt, refl));
   })
 
+-- an opening that met no disk's fault only opened
+abbrev pub OnlyOpened : {D : Type 0} → (D → DiskAt) → D → D → StoreWhy → D → D → Type 0
+OnlyOpened disk_at left right why_not now_left now_right = why_not ≢ why.DiskFault → (l r a b : List ℕ)
+    → (disk_at left).seen ≡ Some l → (disk_at right).seen ≡ Some r
+    → (disk_at now_left).seen ≡ Some a → (disk_at now_right).seen ≡ Some b → OnlyOpens l r a b
+
+damaged_shuts : (l r a b : List ℕ) (first : Side × Damage) → OnlyOpens l r a b → state_on l r ≡ Err first
+    → OnlyShuts true l a × OnlyShuts false r b
+damaged_shuts l r a b first (right, inl left) is = (left, right)
+damaged_shuts l r a b first (right, inr created) is = absurd (cc (state_none l r created.0 created.1, is))
+
 module _ {D : Type 0} (disk_at : D → DiskAt) (left right : D) where
   unopened_holds : (why_not : StoreWhy) (now_left now_right : D)
       → IsNotOpened disk_at left right (record { left = now_left; right = now_right; why = why_not })
-      → (l r : List ℕ) (start : State)
+      → OnlyOpened disk_at left right why_not now_left now_right → (l r : List ℕ) (start : State)
       → (disk_at left).seen ≡ Some l → (disk_at right).seen ≡ Some r → state_on l r ≡ Ok start
       → HoldsAfter disk_at (finish.NotOpened why_not) None [] l r start now_left now_right
-  unopened_holds why.DiskFault now_left now_right unopened l r start told_l told_r is =
+  unopened_holds why.DiskFault now_left now_right unopened opens l r start told_l told_r is =
       λ kept a b told_a told_b. unopened.reads l r a b start told_l told_r kept told_a told_b
-  unopened_holds (why.Damaged side damage) now_left now_right unopened l r start told_l told_r is =
+  unopened_holds (why.Damaged side damage) now_left now_right unopened opens l r start told_l told_r is =
       cc (unopened.is_why l r told_l told_r, is)
-  unopened_holds why.NoMemory now_left now_right unopened l r start told_l told_r is = λ a b told_a told_b.
+  unopened_holds why.NoMemory now_left now_right unopened opens l r start told_l told_r is = λ a b told_a told_b.
       let stands : state_on a b ≡ Ok start = unopened.stays (λ e. cc) l r a b told_l told_r told_a told_b ∙ is in
-      (stands, λ kept. still_kept l r a b start stands (unopened.reads l r a b start told_l told_r kept told_a told_b))
+      (
+        stands,
+        opens_commands l r a b (opens (λ e. cc) l r a b told_l told_r told_a told_b),
+        λ kept. (still_kept l r a b start stands (unopened.reads l r a b start told_l told_r kept told_a told_b)).kept,
+      )
 
   unopened_damaged : (why_not : StoreWhy) (now_left now_right : D)
       → IsNotOpened disk_at left right (record { left = now_left; right = now_right; why = why_not })
@@ -268,24 +280,20 @@ module _ {K D : Type 0} (sink_at : K → SinkAt) (disk_at : D → DiskAt)
       → LeavesOpening disk_at left right now_left now_right
       → GoesOn disk_at left now_left → GoesOn disk_at right now_right
       → (why_not ≢ why.DiskFault → IsAtRest disk_at now_left × IsAtRest disk_at now_right)
-      → (why_not ≢ why.DiskFault → (l r a b : List ℕ) (first : Side × Damage)
-      → (disk_at left).seen ≡ Some l → (disk_at right).seen ≡ Some r → state_on l r ≡ Err first
-      → (disk_at now_left).seen ≡ Some a → (disk_at now_right).seen ≡ Some b → OnlyShuts true l a × OnlyShuts false r b)
+      → OnlyOpened disk_at left right why_not now_left now_right
       → ServesInput sink_at disk_at before unread out out left right
       (record { left = now_left; right = now_right; finish = finish.NotOpened why_not })
-  serves_unopened scripts why_not now_left now_right gathers unopened opening left_time right_time rest shuts =
+  serves_unopened scripts why_not now_left now_right gathers unopened opening left_time right_time rest opens =
       serves_none sink_at disk_at may_stay before unread out left right
       (record { left = now_left; right = now_right; finish = finish.NotOpened why_not })
       gathers.asked gathers.few gathers.read refl refl
-      (unopened_holds disk_at left right why_not now_left now_right unopened)
+      (unopened_holds disk_at left right why_not now_left now_right unopened opens)
       (λ l r side damage told_l told_r is. record {
         ends = unopened_damaged disk_at left right why_not now_left now_right unopened l r side damage told_l told_r is;
         left_leaves = opening.left_leaves l r told_l told_r;
         right_leaves = opening.right_leaves r told_r;
-        shut = λ other a b. shuts (λ is_why. other (ap finish.NotOpened is_why)) l r a b (
-          side,
-          damage,
-        ) told_l told_r is;
+        shut = λ other a b told_a told_b. damaged_shuts l r a b (side, damage)
+            (opens (λ is_why. other (ap finish.NotOpened is_why)) l r a b told_l told_r told_a told_b) is;
       })
       (leaves_unopened disk_at may_stay left right why_not now_left now_right opening left_time right_time rest)
 
@@ -312,39 +320,74 @@ module _ {D : Type 0} (disk_at : D → DiskAt) (store : Stored D) (scripts : Lis
   abbrev entries : List Entry
   entries = served.history
 
+  -- what both disks tell at the end of the run that began with these bytes
+  abbrev EndsAt : End → List ℕ → List ℕ → State → Type 0
+  EndsAt e l r start =
+      (fault : Fault) × IsFaultOf (halt_of e) fault
+      × ((a b : List ℕ) → (disk_at served.left).seen ≡ Some a → (disk_at served.right).seen ≡ Some b
+      → KeptAtEnd l r start (histories.requests_of entries) fault a b)
+
+  abbrev HoldsAt : Finish → End → List ℕ → List ℕ → State → Type 0
+  HoldsAt how e l r start = HoldsAfter disk_at how (halted_in e) entries l r start served.left served.right
+
+  -- behind the bytes that stood there before the opening
+  ends_by : (left right : D) (l r : List ℕ) (start : State) → ServesAt start → (disk_at left).seen ≡ Some l
+      → (disk_at right).seen ≡ Some r → OpensOn disk_at left right store → IsInOrder disk_at store
+      → StandsFor store.core start
+      → (IsSome (disk_at store.left).seen ↔ IsSome (disk_at left).seen)
+      → (IsSome (disk_at store.right).seen ↔ IsSome (disk_at right).seen) → EndsAt served.end l r start
+  ends_by left right l r start serves told_l told_r opened order stands left_telling right_telling =
+      let a = value_of (disk_at store.left).seen (left_telling.1 (ap is_some told_l)) in
+      let b = value_of (disk_at store.right).seen (right_telling.1 (ap is_some told_r)) in
+      let same = opened_holds disk_at l r start left right store told_l told_r opened order stands a.0 b.0 a.1 b.1 in
+      let from = serves.since.past a.0 b.0 a.1 b.1 in (
+        from.0,
+        from.1,
+        λ x y told_x told_y. by (halt_of served.end) from.0 from.1 a.0 b.0 same x y (from.4 x y told_x told_y),
+      )
+    where
+      by : (halt : Option Halt) (fault : Fault) → IsFaultOf halt fault → (m n : List ℕ)
+          → commands_on m n ≡ commands_on l r → (x y : List ℕ)
+          → KeptAtEnd m n start (histories.requests_of entries) fault x y
+          → KeptAtEnd l r start (histories.requests_of entries) fault x y
+      by None fault is m n same x y kept =
+          subst (λ (f : Fault). KeptAtEnd l r start (histories.requests_of entries) f x y) (sym is)
+          (ended_behind m n l r start (histories.requests_of entries) x y same
+          (subst (λ (f : Fault). KeptAtEnd m n start (histories.requests_of entries) f x y) is kept))
+      by (Some halt) fault is m n same x y kept =
+          subst (λ (f : Fault). KeptAtEnd l r start (histories.requests_of entries) f x y) (sym is.2)
+          (ends_behind m n l r start (histories.requests_of entries) is.0 x y same
+          (subst (λ (f : Fault). KeptAtEnd m n start (histories.requests_of entries) f x y) is.2 kept))
+
   disks_by : (start : State) → ServesAt start → (how : Finish) → IsFinishOf served.end how → (l r : List ℕ)
-      → HoldsAfter disk_at how (halted_in served.end) entries l r start served.left served.right
-  disks_by start serves how how_is l r =
-      by_finish (λ (h : Finish). HoldsAfter disk_at h (halted_in served.end) entries l r start served.left served.right)
-      served.end how how_is
-      (λ is. let stands = settled (rw is at serves.disks) in (stands, stands))
-      (λ is. settled (rw is at serves.disks))
-      (λ halt is.
-      subst (λ (e : End).
-      HoldsAfter disk_at finish.DiskFault (halted_in e) entries l r start served.left served.right) (sym is)
-      (fault halt (rw is at serves.disks))) where
-        settled : AreSettled disk_at (state_after start entries) served.left served.right → (a b : List ℕ)
-            → (disk_at served.left).seen ≡ Some a → (disk_at served.right).seen ≡ Some b
-            → IsKept a b (state_after start entries)
-        settled both a b told_a told_b =
-            settled_kept both.side a b (state_after start entries) (both.settled a b told_a told_b)
+      → EndsAt served.end l r start → HoldsAt how served.end l r start
+  disks_by start serves how how_is l r ends =
+      by_finish (λ (h : Finish). HoldsAt h served.end l r start) served.end how how_is
+      (λ is. let so = calm (rw is at ends) in (so, so))
+      (λ is. calm (rw is at ends))
+      (λ halt is. subst (λ (e : End). HoldsAt finish.DiskFault e l r start) (sym is)
+      (fault halt (rw is at serves.disks) (rw is at ends))) where
+        calm : (fault : Fault) × (fault ≡ NoFault)
+            × ((a b : List ℕ) → (disk_at served.left).seen ≡ Some a → (disk_at served.right).seen ≡ Some b
+            → KeptAtEnd l r start (histories.requests_of entries) fault a b)
+            → (a b : List ℕ) → (disk_at served.left).seen ≡ Some a → (disk_at served.right).seen ≡ Some b
+            → KeptAtEnd l r start (histories.requests_of entries) NoFault a b
+        calm so a b told_a told_b = subst (λ (f : Fault). KeptAtEnd l r start (histories.requests_of entries) f a b) so.1
+            (so.2 a b told_a told_b)
 
         fault : (halt : Halt)
             → LeavesDisks disk_at scripts entries (state_after start entries)
             (end.DiskFault halt) served.left served.right
-            → HoldsAfter disk_at finish.DiskFault
-            (called halt.session halt.request) entries l r start served.left served.right
-        fault halt left = by halt.session halt.request left.1 left.2 where
-          by : (session : ℕ) (request : Request)
-              → IsAccepted (state_after start entries) request
-              → AreKeptAround disk_at (state_after start entries) request served.left served.right
-              → HoldsAfter disk_at finish.DiskFault (called session request) entries l r start served.left served.right
-          by session (Do c) accepted kept = (
-            accepted,
-            λ a b told_a told_b. around (state_after start entries) c accepted a b
-                (kept a b told_a told_b).0,
-          )
-          by session (Ask query) accepted kept = absurd accepted
+            → EndsAt (end.DiskFault halt) l r start → HoldsAt finish.DiskFault (end.DiskFault halt) l r start
+        fault halt left so =
+            let c : Command = so.1.0 in
+            subst (λ (q : Request). HoldsAfter disk_at finish.DiskFault (called halt.session q) entries l r start
+            served.left served.right) (sym so.1.1) (
+              subst (IsAccepted (state_after start entries)) so.1.1 left.1,
+              λ a b told_a told_b. ⊎_elim (λ kept. inl kept) (λ more. inr more.1)
+                  (subst (λ (f : Fault). KeptAtEnd l r start (histories.requests_of entries) f a b) so.1.2
+                  (so.2 a b told_a told_b)),
+            )
 
   -- where all was answered nothing is pending
   pub rests_by : (s : State) → ServesAt s → (how : Finish) → IsFinishOf served.end how
@@ -424,7 +467,10 @@ module _ {D : Type 0} (disk_at : D → DiskAt) (store : Stored D) (scripts : Lis
               answers = answers_by base serves how how_is;
               legal = λ l r start told_l told_r is. (serves_at start (stands_at l r start told_l told_r is)).legal;
               disks = λ l r start told_l told_r is.
-                  disks_by start (serves_at start (stands_at l r start told_l told_r is)) how how_is l r;
+                  let stands = stands_at l r start told_l told_r is in
+                  disks_by start (serves_at start stands) how how_is l r
+                  (ends_by left right l r start (serves_at start stands) told_l told_r opened order stands left_telling
+                  right_telling);
               past =
                   leaves_served disk_at may_stay left right store scripts served opening opened order
                   left_telling right_telling

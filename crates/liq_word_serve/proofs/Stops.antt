@@ -1,5 +1,5 @@
 -- What a stop leaves of the disks, at any moment of serving an input.
-use Rattle.std.proofs.Common.{ℕ, ◌≡◌, ◌≢◌, ◌≤◌, inl, inr, List, [], Option, Some, None, Ok, refl, sym, subst, arith}
+use Rattle.std.proofs.Common.{ℕ, ◌≡◌, ◌≢◌, ◌≤◌, inl, inr, List, [], ◌∷◌, Option, Some, None, Ok, refl, sym, ap, ◌∙◌, subst, arith}
 use Rattle.std.specs.Prelude.{IfSome, IsSome, ◌↔◌, false}
 use Rattle.liq_outside.specs.At.{DiskAt}
 use Rattle.liq_outside.specs.Disk.{GoesOn, LeavesOnly, LeftNow, Only}
@@ -15,8 +15,10 @@ use Rattle.liq_journal.specs.Opened.{OpenLeaves}
 use Rattle.liq_disk_pair.specs.declared.side.Side.{Side}
 use Rattle.liq_disk_pair.specs.declared.side.Side.TheVariants.{Left, Right}
 use Rattle.liq_disk_pair.specs.Kept.{IsKept}
-use Rattle.liq_disk_pair.specs.Pair.{state_on}
-use Rattle.liq_disk_pair.specs.Past.{AtCommand, Fault, InOpening, LeavesPast, NoFault}
+use Rattle.liq_disk_pair.specs.Commands.{kept_behind}
+use Rattle.liq_disk_pair.specs.Pair.{commands_on, state_on}
+use Rattle.liq_disk_pair.specs.Past.{AtCommand, Fault, InOpening, KeptAtEnd, LeavesPast, NoFault}
+use Rattle.liq_rule_step.specs.Step.{accepted}
 use Rattle.liq_disk_pair.specs.Sides.{on}
 use Rattle.liq_disk_pair.specs.Unfinished.{IsRecovered, LeftLeaves}
 use Rattle.liq_store.specs.declared.answers.StoreWhy.{StoreWhy}
@@ -43,6 +45,28 @@ use Rattle.liq_word_serve.specs.Serves.{Serves}
 abbrev pub called : ℕ → Request → Option (ℕ × Command)
 called session (Do c) = Some (session, c)
 called session (Ask query) = None
+
+-- what is kept behind the ones is kept behind others with the same commands
+pub ended_behind : (m n l r : List ℕ) (start : State) (requests : List Request) (a b : List ℕ)
+    → commands_on m n ≡ commands_on l r → KeptAtEnd m n start requests NoFault a b
+    → KeptAtEnd l r start requests NoFault a b
+ended_behind m n l r start requests a b same kept = record {
+  kept = kept.kept;
+  commands = kept.commands ∙ ap (λ (cs : List Command). kept_behind cs (accepted start requests)) same;
+}
+
+pub ends_behind : (m n l r : List ℕ) (start : State) (requests : List Request) (c : Command) (a b : List ℕ)
+    → commands_on m n ≡ commands_on l r → KeptAtEnd m n start requests (AtCommand c) a b
+    → KeptAtEnd l r start requests (AtCommand c) a b
+ends_behind m n l r start requests c a b same (inl kept) = inl (ended_behind m n l r start requests a b same kept)
+ends_behind m n l r start requests c a b same (inr (allowed, kept)) = inr (
+  allowed,
+  record {
+    kept = kept.kept;
+    commands = kept.commands
+        ∙ ap (λ (cs : List Command). kept_behind (kept_behind cs (accepted start requests)) (c ∷ [])) same;
+  },
+)
 
 -- the call that met a disk's fault
 abbrev pub halted_in : End → Option (ℕ × Command)
@@ -223,4 +247,10 @@ module _ {D : Type 0} (at : D → DiskAt)
               subst (λ (q : Request). IsFaultAt finish.DiskFault (called halt.session q) (AtCommand c))
               (sym from.1.1) refl in
               subst (λ (h : Finish). Finishes l r start h (called halt.session halt.request)) (sym h_is)
-              (record { fault = AtCommand c; fault_is = here; images = along (AtCommand c) at_c.0; rests = at_c.1 })
+              (record {
+                fault = AtCommand c;
+                fault_is = here;
+                images = along (AtCommand c) at_c.0;
+                rests = λ x y in_left in_right. ends_behind a.0 b.0 l r start (requests_of entries) c x y
+                    (past.holds a.0 b.0 a.1 b.1) (at_c.1 x y in_left in_right);
+              })

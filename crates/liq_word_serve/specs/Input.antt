@@ -3,7 +3,7 @@
 -- go by the finish. `ServesInput` has the first four, over one list of what the lines ask and one
 -- history of what was answered. The counts of sink and disks stand at the end. Which status a
 -- finish comes to is said in `liq_serve` (Finishing).
-use Rattle.std.specs.Prelude.{ℕ, ◌≡◌, ◌≢◌, ◌≤◌, ◌⊎◌, List, [], length, All}
+use Rattle.std.specs.Prelude.{ℕ, ◌≡◌, ◌≢◌, ◌≤◌, ◌⊎◌, List, [], ◌∷◌, length, All}
 use Rattle.std.specs.Prelude.{false, true, Option, Some, Result, Ok, Err}
 use Rattle.std.specs.Option.{IsSomeAnd}
 use Rattle.liq_outside.specs.At.{DiskAt, SinkAt}
@@ -20,9 +20,10 @@ use Rattle.liq_rule_step.specs.Step.{Allowed, after, ruling}
 use Rattle.liq_journal.specs.declared.damage.Damage.{Damage}
 use Rattle.liq_journal.specs.Opened.{OpenLeaves}
 use Rattle.liq_disk_pair.specs.declared.side.Side.{Side}
-use Rattle.liq_disk_pair.specs.Kept.{IsKept}
-use Rattle.liq_disk_pair.specs.Pair.{state_on}
-use Rattle.liq_disk_pair.specs.Past.{AtCommand, Fault, InOpening, NoFault}
+use Rattle.liq_disk_pair.specs.Commands.{kept_behind}
+use Rattle.liq_disk_pair.specs.Kept.{IsKept, IsKeptWith}
+use Rattle.liq_disk_pair.specs.Pair.{commands_on, state_on}
+use Rattle.liq_disk_pair.specs.Past.{AtCommand, Fault, InOpening, NoFault, held_at_end}
 use Rattle.liq_disk_pair.specs.Unfinished.{IsRecovered, LeftLeaves}
 use Rattle.liq_store.specs.declared.answers.StoreWhy.TheVariants as why
 use Rattle.liq_store.specs.Causes.{CausesWhy, Faults, OneRose}
@@ -93,25 +94,28 @@ module _ {D : Type 0} (disk_at : D → DiskAt) (left right : D) where
 
 -- ---- what the disks hold
 
--- Where both disks tell their bytes, these stand for the state; and they are kept for it, if l and
--- r were.
+-- Where both disks tell their bytes, these stand for the state, by the same commands; and they are
+-- kept for it, if l and r were.
 abbrev pub StayFor : {D : Type 0} → (D → DiskAt) → List ℕ → List ℕ → State → D → D → Type 0
 StayFor disk_at l r s left right =
     (a b : List ℕ) → (disk_at left).seen ≡ Some a → (disk_at right).seen ≡ Some b
-    → (state_on a b ≡ Ok s) × (IsKept l r s → IsKept a b s)
+    → (state_on a b ≡ Ok s) × (commands_on a b ≡ commands_on l r) × (IsKept l r s → IsKept a b s)
 
 module _ {D : Type 0} (disk_at : D → DiskAt) where
-  -- They are kept for the state after the history. A call that met a disk's fault was of a command
-  -- that is accepted there; they are kept for that state or for the one after this command. Where
+  -- They are kept for the state after the history, and the commands that it accepted stand on them.
+  -- A call that met a disk's fault was of a command that is accepted there; they are kept for that
+  -- state or for the one after this command, which then stands on them too. Where
   -- no store was opened they stand for what they stood for, and stay kept; after a disk's fault
   -- they are, if they were kept, as an opening leaves them.
   abbrev pub HoldsAfter :
       Finish → Option (ℕ × Command) → List Entry → List ℕ → List ℕ → State → D → D → Type 0
   HoldsAfter finish.DiskFault halted history l r start left right =
       let s = state_after start history in
+      let held = held_at_end l r start (requests_of history) in
       IsSomeAnd halted (λ (call : ℕ × Command). (ruling s call.1 ≡ Allowed)
       × ((a b : List ℕ) → (disk_at left).seen ≡ Some a → (disk_at right).seen ≡ Some b
-      → IsKept a b s ⊎ IsKept a b (after s call.1)))
+      → IsKeptWith a b s held
+      ⊎ IsKeptWith a b (after s call.1) (kept_behind held (call.1 ∷ []))))
   HoldsAfter (finish.NotOpened why.DiskFault) halted history l r start left right =
       IsKept l r start
       → (a b : List ℕ) → (disk_at left).seen ≡ Some a → (disk_at right).seen ≡ Some b
@@ -123,7 +127,7 @@ module _ {D : Type 0} (disk_at : D → DiskAt) where
       StayFor disk_at l r start left right
   HoldsAfter _ halted history l r start left right =
       (a b : List ℕ) → (disk_at left).seen ≡ Some a → (disk_at right).seen ≡ Some b
-      → IsKept a b (state_after start history)
+      → IsKeptWith a b (state_after start history) (held_at_end l r start (requests_of history))
 
   -- the damage stays
   abbrev pub StaysDamaged : Side → Damage → D → D → Type 0

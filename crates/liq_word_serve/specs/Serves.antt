@@ -10,10 +10,10 @@ use Rattle.liq_rule_step.specs.History.{IsLegal, requests_of, state_after}
 use Rattle.liq_rule_step.specs.Memory.{IsAccepted}
 use Rattle.liq_disk_pair.specs.declared.side.Side.{Side}
 use Rattle.liq_disk_pair.specs.Kept.{IsSettledFor}
-use Rattle.liq_store.specs.Keeping.{IsAtRest, IsKeptAround}
+use Rattle.liq_store.specs.Keeping.{IsAtRest}
 use Rattle.liq_store.specs.Stored.{Stored}
 use Rattle.liq_sessions.specs.declared.script.Script.{Script}
-use Rattle.liq_book.specs.Booked.{CausesHalt}
+use Rattle.liq_book.specs.Booked.{CausesHalt, IsKeptByStep}
 use Rattle.liq_book.specs.declared.items.TheConstants.{ENTRIES_MOST}
 use Rattle.liq_book.specs.Origin.{GoesOnFrom, TellsList, faults_at}
 use Rattle.liq_book.specs.Past.{LeavesFrom}
@@ -55,8 +55,8 @@ module _ {D : Type 0} (at : D → DiskAt) where
   abbrev pub AreKeptAround : State → Request → D → D → Type 0
   AreKeptAround s request left right =
       (l r : List ℕ) → (at left).seen ≡ Some l → (at right).seen ≡ Some r
-      → IsKeptAround s request l r
-      × ((a b : List ℕ) → LeftNow at left a → LeftNow at right b → IsKeptAround s request a b)
+      → IsKeptByStep s request l r
+      × ((a b : List ℕ) → LeftNow at left a → LeftNow at right b → IsKeptByStep s request a b)
 
   -- Settled; or, after a fault, kept with one request more, which is the next one of the session
   -- whose call met it, and a command that the rules accept there.

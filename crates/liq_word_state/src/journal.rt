@@ -4,9 +4,11 @@ ghost use Rattle.std.specs.Prelude.{◌≡◌, ◌≢◌, ◌≤◌, ◌⊎◌, 
 ghost use Rattle.liq_types.specs.declared.requests.Command.{Command};
 ghost use Rattle.liq_types.specs.Image.{IsLimit};
 ghost use Rattle.liq_types.specs.Verbs.{is_rotate};
+ghost use Rattle.liq_journal.specs.declared.damage.Damage.{Damage};
 ghost use Rattle.liq_journal.specs.Written.{Open, Written, found_on};
 ghost use Rattle.liq_disk_pair.specs.declared.side.Side.{Side};
 ghost use Rattle.liq_disk_pair.specs.Sides.{has_odd};
+ghost use Rattle.liq_store.specs.Answering.{IsUnreadable};
 ghost use Rattle.liq_store.specs.Stored.{taken_disk};
 ghost use Rattle.liq_word_state.specs.Told.{FindsNone};
 ghost use Rattle.liq_word_state.specs.Whole.{FindsWhole, OfJournal, OnlyLooks, StopsWhole};
@@ -83,7 +85,9 @@ fn kept_commands<D: Disk>(store: &mut Store<D>, side: Side) -> Result<Vec<Comman
         → IfErr result (λ halt. (halt ≡ Halt.NoMemory) ⊎ (halt ≡ Halt.DiskFault)) }
     // A record that is none is told as damage of the disk of this side, at its number.
     ensures damaged { (which : Side) (number : ℕ) → result ≡ Err (Halt.Damaged which number)
-        → (which ≡ side) × (1 ≤ number) × (number ≤ store.old.core.records) }
+        → (which ≡ side) × ((damage : Damage) × (number ≡ damage.index)
+        × IsUnreadable store.old.core.image.generation store.old.start store.old.core.records
+        (AcceptedFault.Damaged damage)) }
     ensures no_source { result ≢ Err Halt.ReadFault }
     ensures no_line { (number : ℕ) → result ≢ Err (Halt.BadLine number) }
     ensures no_sink { result ≢ Err Halt.WriteFault }

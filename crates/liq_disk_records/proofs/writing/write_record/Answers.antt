@@ -4,7 +4,7 @@ use Rattle.liq_wire.specs.Fields.{command_of, heard}
 use Rattle.liq_journal.specs.Crash.{IsBodyOf}
 use Rattle.liq_types.specs.Verbs.{is_rotate}
 use Rattle.liq_disk_pair.proofs.Hints.{heard_rotate}
-use Rattle.liq_disk_records.specs.Bodies.{read_back}
+use Rattle.liq_disk_pair.specs.Commands.{read_back}
 use Rattle.liq_disk_records.proofs.writing.write_record.Goals as goal
 
 -- the bytes are those of the command, as it is read back

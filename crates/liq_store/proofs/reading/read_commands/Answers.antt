@@ -26,6 +26,7 @@ loop-done-preserved g c = record {
   same = c.read_command.ensures.same
       ∙ ap (λ (j : JournalOn g.row.D.Denot). record j { disk = c.read_command.new.journal.disk })
       c.loop-done.invariant.same;
+  part = c.read_command.ensures.part;
   still = c.in-Ok.ensures.cause ∙ c.loop-done.invariant.still;
   counted = ap length c.in-Ok-push.ensures.items ∙ length-append c.loop-done.commands.items (c.in-Ok.command ∷ [])
       ∙ ap (λ n. n + 1) c.loop-done.invariant.counted;

@@ -36,5 +36,5 @@ more_than start requests before held n m (inl within) few out = by (either n m) 
   by (inl le) = let fewer = no_longer start n m requests le in absurd (omega (arith, within, out, fewer))
 
 pub returns : goal.returns
-returns c start requests fault before held m a b holds few out =
+returns c begun start requests fault before held m a b holds few out =
     (holds.0, more_than start requests before held holds.0 m holds.2 few out, holds.1, holds.3)

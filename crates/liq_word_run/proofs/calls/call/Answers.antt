@@ -1,6 +1,7 @@
-use Rattle.std.proofs.Common.{rules, subst, sym, ◌∙◌}
+use Rattle.std.proofs.Common.{◌⊎◌, inl, inr, ⊎_elim, rules, subst, sym, ◌∙◌}
 use Rattle.liq_core.specs.Core.{state_of}
-use Rattle.liq_store.specs.Keeping.{IsKeptAround}
+use Rattle.liq_disk_pair.specs.Kept.{IsKept}
+use Rattle.liq_rule_step.specs.Step.{step}
 use Rattle.liq_store.specs.Stored.{Stored}
 use Rattle.liq_word_run.specs.Calls.{KeepsAround}
 use Rattle.liq_word_run.proofs.Faulted.{accepted_command, failing, no_other, read_so}
@@ -21,9 +22,11 @@ returns-in-DiskFault-clause-kept g c fault s stands =
     let disks = c.call-answer.ensures.disks in
     subst (λ (o : Stored g.row.D.Denot). KeepsAround g.D.Disk.at o.left o.right s c.args.request.now)
     (sym c.clear_changes.ensures.cleared)
-    (read_so g.D.Disk.at old.left old.right new.left new.right (IsKeptAround s c.args.request.now)
+    (read_so g.D.Disk.at old.left old.right new.left new.right
+    (λ a b. IsKept a b s ⊎ IsKept a b (step s c.args.request.now).0)
     disks.left_time disks.right_time disks.left_telling disks.right_telling g.met.D.Disk.seen_may_stay
-    (λ l r told_l told_r. disks.kept c.requires.going l r s told_l told_r stands))
+    (λ l r told_l told_r x y lx ly. ⊎_elim (λ kept. inl kept.kept) (λ kept. inr kept.kept)
+    (disks.kept c.requires.going l r s told_l told_r stands x y lx ly)))
 
 pub returns-in-DiskFault-clause-command : goal.returns-in-DiskFault-clause-command
 returns-in-DiskFault-clause-command g c fault =
@@ -36,7 +39,8 @@ returns-in-Reply-clause-past g c begun requests past out =
     replied_past g.D.Disk.at g.met.D.Disk.seen_may_stay begun requests c.args.request.now c.args.store.now
     c.call-answer.new.self c.clear_changes.new.self c.clear_changes.ensures.cleared c.clear_changes.ensures.order
     (g.K.Sink.at c.args.out.now).shown past (g.K.Sink.at c.args.out.now).held _ c.in-Reply.reply
-    (c.in-Reply.ensures.stops ∙ c.requires.going) (c.in-Reply.ensures.step c.requires.going) c.in-Reply.ensures.disks
+    (c.in-Reply.ensures.stops ∙ c.requires.going) c.in-Reply.ensures.order (c.in-Reply.ensures.step c.requires.going)
+    c.in-Reply.ensures.disks
     out (search rules)
 
 pub returns-in-NoMemory-clause-past : goal.returns-in-NoMemory-clause-past

@@ -69,7 +69,7 @@ returns-in-Err-open-clause-served g c =
       right_leaves = opening.right_leaves;
       recovers = opening.recovers;
     })
-    opening.left_time opening.right_time opening.rests opening.damaged
+    opening.left_time opening.right_time opening.rests opening.shuts
 
 pub returns-clause-served : goal.returns-clause-served
 returns-clause-served g c =

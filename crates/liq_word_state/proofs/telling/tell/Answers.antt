@@ -30,7 +30,8 @@ returns-in-Err-clause-told g c l r told_l told_r start is =
     let fault = c.in-Err.fault in
     let commands = commands_on l r in
     let found = not_told disk_at c.args.what commands fault.why fault.left fault.right c.args.left c.args.right
-    c.in-Err.ensures.not_opened l r held told_l told_r start is in
+    c.in-Err.ensures.not_opened (λ other m n a b told_m told_n. c.in-Err.ensures.shuts other m n a b told_m told_n)
+    l r held told_l told_r start is in
     subst (λ (e : Ending g.row.D.Denot). WritesTold c.args.what start commands e.end held held
     × DisksStay disk_at e.end l r start e.left e.right)
     (sym c.end_without_store.ensures) found
@@ -46,7 +47,7 @@ returns-in-Err-clause-damaged g c l r told_l told_r side damage is =
           (sym c.end_without_store.ensures)
           (unopened_damaged disk_at c.args.left c.args.right l r side damage told_l told_r is
           fault.left fault.right fault.why opens.not_opened (opens.left_leaves l r told_l told_r)
-          (opens.right_leaves r told_r) (λ other a b. opens.damaged other l r a b (side, damage) told_l told_r is)),
+          (opens.right_leaves r told_r) (λ other a b. opens.shuts other l r a b told_l told_r)),
     )
 
 pub returns-clause-told : goal.returns-clause-told

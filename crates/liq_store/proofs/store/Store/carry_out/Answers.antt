@@ -38,7 +38,8 @@ use Rattle.liq_store.proofs.Calling.{none_accepted, reply_stays, rotates_then, r
 use Rattle.liq_store.proofs.Counts.{beside_rose, stopped_on, taken_rose, taken_still, turned_still}
 use Rattle.liq_store.proofs.Going.{order_going, order_halted, order_same, within_same}
 use Rattle.liq_store.proofs.Rulings.{none_told, ruled, told_by_ruling}
-use Rattle.liq_store.proofs.Steps.{prepared_allowed, prepared_steps, prepared_told, replied, unhinted_rotation}
+use Rattle.liq_core.specs.Steps.{words_of}
+use Rattle.liq_store.proofs.Steps.{guided_there, prepared_allowed, prepared_steps, prepared_told, replied, unhinted_rotation, unhinted_words}
 use Rattle.liq_store.proofs.Turning.{Turns, rotation_from, turning_done, turning_failed, turning_halts, turning_within, turns_by}
 use Rattle.liq_store.proofs.store.Store.carry_out.Given.{Over}
 use Rattle.liq_store.proofs.store.Store.carry_out.Goals as goal
@@ -601,6 +602,25 @@ make-done-requires-2-clause-planned g c =
 
 pub make-done-requires-2-clause-room : goal.make-done-requires-2-clause-room
 make-done-requires-2-clause-room g c = c.in-Ready.ensures.ready.1
+
+-- the command is planned without hint words, and the guide has its place
+pub make-done-requires-clause-unhinted : goal.make-done-requires-clause-unhinted
+make-done-requires-clause-unhinted g c =
+    ap (λ (k : Command). words_of k.call) c.in-Ready.ensures.ready.0 ∙ unhinted_words c.args.command.now
+
+pub make-done-requires-clause-guided : goal.make-done-requires-clause-guided
+make-done-requires-clause-guided g c =
+    guided_there c.self.inside.protocol c.prepare.new.protocol c.in-Ready.planned c.in-Ready.hints c.prepare.ensures.same
+    c.in-Ready.ensures.exact
+
+pub make-done-requires-2-clause-unhinted : goal.make-done-requires-2-clause-unhinted
+make-done-requires-2-clause-unhinted g c =
+    ap (λ (k : Command). words_of k.call) c.in-Ready.ensures.ready.0 ∙ unhinted_words c.args.command.now
+
+pub make-done-requires-2-clause-guided : goal.make-done-requires-2-clause-guided
+make-done-requires-2-clause-guided g c =
+    guided_there c.self.inside.protocol c.prepare.new.protocol c.in-Ready.planned c.in-Ready.hints c.prepare.ensures.same
+    c.in-Ready.ensures.exact
 
 pub checkpoint_after-requires-clause-rotates : goal.checkpoint_after-requires-clause-rotates
 checkpoint_after-requires-clause-rotates g c =

@@ -2,7 +2,7 @@ use Rattle.std.proofs.Common.{◌≡◌, ℕ, List, Some, true, false, Ok, rules
 use Rattle.liq_outside.specs.Disk.{LeftNow, Only}
 use Rattle.liq_disk_pair.proofs.Recovering.{recovered}
 use Rattle.liq_store.specs.Opening.{left_after, right_after}
-use Rattle.liq_store.proofs.Opening.{begun_not, begun_opened, begun_reads_kept, begun_undamaged, both_fine, judged_not, judged_rests, judged_shuts, left_begun, left_opened, right_opened, same_disk, stood_on}
+use Rattle.liq_store.proofs.Opening.{begun_not, begun_opened, begun_reads_kept, begun_shuts, both_fine, judged_not, judged_rests, judged_shuts, left_begun, left_opened, right_opened, same_disk, stood_on}
 use Rattle.liq_store.proofs.store.Store.open.Goals as goal
 
 pub begin_told-requires : goal.begin_told-requires
@@ -34,8 +34,9 @@ returns-in-Ok g c =
       followed = c.begin_told.ensures.followed;
       shut = c.begin_told.ensures.shut;
       rests = c.begin_told.ensures.rests;
-      damaged = begun_undamaged g.D.Disk.at c.args.left c.args.right c.in-Ok.left c.in-Ok.right both.0 both.1
-          c.begin_told.result;
+      shuts = λ none l r a b tl tr ta tb. begun_shuts g.D.Disk.at c.args.left c.args.right c.in-Ok.left c.in-Ok.right
+          (left_after c.begin_told.result) (right_after c.begin_told.result) both.0 both.1 c.begin_told.ensures.left
+          c.begin_told.ensures.right l r a b tl tr ta tb;
       recovers = λ l r s tl tr only_l only_r kept x y lx ly. recovered l r x y s kept
           ((left_leaves l r tl tr only_l).each x lx) ((right_leaves r tr only_r).each y ly);
       reads = begun_reads_kept g.D.Disk.at c.args.left c.args.right c.in-Ok.left c.in-Ok.right both.0 both.1
@@ -70,7 +71,7 @@ returns-in-Err g c =
       rests = judged_rests g.D.Disk.at c.args.left c.args.right c.stand-left.result c.stand-right.result
           c.stand-left.ensures c.stand-right.ensures c.in-Err.fault c.in-Err.ensures.left c.in-Err.ensures.right
           c.in-Err.ensures.why;
-      damaged = λ other l r a b first tl tr is ta tb. judged_shuts g.D.Disk.at c.args.left c.args.right
+      shuts = λ other l r a b tl tr ta tb. judged_shuts g.D.Disk.at c.args.left c.args.right
           c.stand-left.result c.stand-right.result c.stand-left.ensures c.stand-right.ensures c.in-Err.fault
           c.in-Err.ensures.left c.in-Err.ensures.right c.in-Err.ensures.why
           other l r a b tl tr ta tb;

@@ -37,6 +37,7 @@ returns-in-Err-open-clause-begins_none g c l r start told_l told_r is =
       past = unopened_past g.D.Disk.at g.met.D.Disk.seen_may_stay fault.why fault.left fault.right c.args.left
           c.args.right opens.not_opened opens.left_time opens.right_time opens.rests opens.recovers opens.left_leaves
           opens.right_leaves l r start told_l told_r is;
+      opens = λ other a b told_a told_b. opens.shuts other l r a b told_l told_r told_a told_b;
       recovers = opens.recovers l r start told_l told_r;
     }
 
@@ -90,7 +91,7 @@ returns-in-Err-open-clause-damaged g c l r told_l told_r side damage is =
     let opens = c.in-Err-open.ensures in
     unopened_damaged g.D.Disk.at c.args.left c.args.right l r side damage told_l told_r is fault.left fault.right
     fault.why opens.not_opened (opens.left_leaves l r told_l told_r) (opens.right_leaves r told_r)
-    (λ other a b. opens.damaged other l r a b (side, damage) told_l told_r is)
+    (λ other a b. opens.shuts other l r a b told_l told_r)
 
 pub returns-in-Err-clause-damaged : goal.returns-in-Err-clause-damaged
 returns-in-Err-clause-damaged g c l r told_l told_r side damage is =
