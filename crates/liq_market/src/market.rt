@@ -340,7 +340,7 @@ impl Market {
             words,
             given: Hint::NONE,
         };
-        let done = self.guided.apply(planned, &hints, steps);
+        let done = self.guided.apply(&planned, &hints, steps);
         Ok(Reply::Said(done))
     }
 }

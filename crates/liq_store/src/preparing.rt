@@ -76,18 +76,23 @@ pub fn prepare(
 }
 
 // Makes the step of a planned command. Its steps are counted on a ledger of their own.
-pub fn make<L: Ledger>(protocol: &mut Guided, planned: Planned, hints: &Hints, blank: Blank) -> Done
+pub fn make<L: Ledger>(
+    protocol: &mut Guided,
+    planned: &Planned,
+    hints: &Hints,
+    blank: Blank,
+) -> Done
     requires name { blank.name ≡ L.name }
     requires parts { blank.parts ≡ L.parts }
     requires one { L.parts ≡ 1 }
-    requires planned { IsPlannedOn protocol.old planned }
-    requires room { HasRoom protocol.old planned }
-    requires unhinted { words_of planned.command.call ≡ no_hint }
-    requires guided { IsExact (all_listed protocol.old.list planned.changes)
-        (last_put planned.changes) hints.now.exact }
+    requires planned { IsPlannedOn protocol.old planned.now }
+    requires room { HasRoom protocol.old planned.now }
+    requires unhinted { words_of planned.now.command.call ≡ no_hint }
+    requires guided { IsExact (all_listed protocol.old.list planned.now.changes)
+        (last_put planned.now.changes) hints.now.exact }
     ensures state { (s : State) → StandsFor protocol.old s
-        → StandsFor protocol.new (step s (Do planned.command)).0 }
-    ensures reply { (s : State) → StandsFor protocol.old s → (step s (Do planned.command)).1
+        → StandsFor protocol.new (step s (Do planned.now.command)).0 }
+    ensures reply { (s : State) → StandsFor protocol.old s → (step s (Do planned.now.command)).1
         ≡ Said result }
 {
     let mut steps = Steps::<L>::new(blank);
@@ -98,18 +103,18 @@ pub fn make<L: Ledger>(protocol: &mut Guided, planned: Planned, hints: &Hints, b
 // takes at most four, however long the list is.
 fn make_counted<L: Ledger>(
     protocol: &mut Guided,
-    planned: Planned,
+    planned: &Planned,
     hints: &Hints,
     steps: &mut Steps<L>,
 ) -> Done
-    requires planned { IsPlannedOn protocol.old planned }
-    requires room { HasRoom protocol.old planned }
-    requires unhinted { words_of planned.command.call ≡ no_hint }
-    requires guided { IsExact (all_listed protocol.old.list planned.changes)
-        (last_put planned.changes) hints.now.exact }
+    requires planned { IsPlannedOn protocol.old planned.now }
+    requires room { HasRoom protocol.old planned.now }
+    requires unhinted { words_of planned.now.command.call ≡ no_hint }
+    requires guided { IsExact (all_listed protocol.old.list planned.now.changes)
+        (last_put planned.now.changes) hints.now.exact }
     ensures state { (s : State) → StandsFor protocol.old s
-        → StandsFor protocol.new (step s (Do planned.command)).0 }
-    ensures reply { (s : State) → StandsFor protocol.old s → (step s (Do planned.command)).1
+        → StandsFor protocol.new (step s (Do planned.now.command)).0 }
+    ensures reply { (s : State) → StandsFor protocol.old s → (step s (Do planned.now.command)).1
         ≡ Said result }
     ensures few { steps.new ≤ steps.old + 4 }
 {

@@ -244,7 +244,7 @@ impl<D: Disk> Store<D> {
             };
             self.side = side;
             // odd: steps counted
-            let done = make::<Brand>(&mut self.protocol, planned, &hints, Blank::new(1));
+            let done = make::<Brand>(&mut self.protocol, &planned, &hints, Blank::new(1));
             return Answer::Reply(Reply::Said(done));
         }
         match write_record(&mut self.taken, command) {
@@ -255,7 +255,7 @@ impl<D: Disk> Store<D> {
             }
         }
         note(&mut self.changes, planned.list_changes());
-        let done = make::<Brand>(&mut self.protocol, planned, &hints, Blank::new(1));
+        let done = make::<Brand>(&mut self.protocol, &planned, &hints, Blank::new(1));
         Answer::Reply(Reply::Said(done))
     }
 
