@@ -212,8 +212,9 @@ liq_done liq_do(liq_market *m, const liq_command *commands, size_t n, liq_reply 
 
 /* The same, but the market numbers each command, by its client's next number, and writes the number
  * into it: behind the call they are what liq_do, a journal and `liq run` take. A refused command
- * leaves its number to the client's next one. A command whose number is not 0 is none: LIQ_BAD, and
- * place 8. */
+ * leaves its number to the client's next one. A client that has used the greatest number has no next
+ * one: its command keeps 0, and is refused as out of turn. A command whose number is not 0 is none:
+ * LIQ_BAD, and place 8. */
 liq_done liq_next(liq_market *m, liq_command *commands, size_t n, liq_reply *replies,
                   size_t places);
 

@@ -81,7 +81,7 @@ impl Follower {
     }
 
     /// How many bytes were taken, up to the most that a `u64` holds.
-    pub fn bytes_taken(&self) -> u64
+    pub fn taken(&self) -> u64
         ensures { (bytes : List ℕ) → IsFed bytes self.now
             → result ≡ min (length bytes) (2 ^ 64 - 1) }
     {

@@ -253,7 +253,7 @@ impl Stability {
     }
 
     /// The finished sum at an index, from 0, in ascending places: `None` exactly past the last.
-    pub fn nth_finished_sum(&self, index: u64) -> Option<FinishedSum>
+    pub fn finished(&self, index: u64) -> Option<FinishedSum>
         ensures sum { result ≡ option_map finished_of (slice_get self.now.finished index) }
         ensures ascending { IsStrictlySortedBy place_order (keys_of self.now.finished) }
     {

@@ -40,7 +40,7 @@ fn follow(alloc: Global, bytes: &[u8], size: usize) -> Seen {
         end = feed(&mut follower, piece);
     }
     Seen {
-        taken: follower.bytes_taken(),
+        taken: follower.taken(),
         records: follower.protocol().records(),
         limit: follower.protocol().limit(),
         end,
@@ -235,7 +235,7 @@ fn feeding_goes_on_behind_no_memory(rt: HostRuntime) {
             "the end"
         );
     }
-    assert!(&rt; follower.bytes_taken() == 711, "taken");
+    assert!(&rt; follower.taken() == 711, "taken");
     assert!(&rt; follower.protocol().records() == 5, "five");
 }
 
@@ -253,7 +253,7 @@ fn an_empty_piece_takes_nothing(rt: HostRuntime) {
     assert!(&rt; ended.feed(&[]) == nothing(damaged(2)), "behind damage");
     assert!(&rt; ended.feed(&SECOND) == nothing(damaged(2)), "and again");
     assert!(&rt;
-        ended.bytes_taken() == 323 && ended.protocol().records() == 1,
+        ended.taken() == 323 && ended.protocol().records() == 1,
         "nothing"
     );
 }

@@ -221,7 +221,7 @@ fn stands(pool: &Stability, account: u32) -> Option<(u64, u64)> {
 }
 
 fn finished(pool: &Stability, index: u64) -> Option<[u128; 3]> {
-    let sum = pool.nth_finished_sum(index)?;
+    let sum = pool.finished(index)?;
     Some([u128::from(sum.epoch), u128::from(sum.scale), sum.sum])
 }
 
