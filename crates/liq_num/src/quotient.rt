@@ -44,7 +44,11 @@ pub fn mul_div_up(a: u128, b: u128, c: u128) -> u128
         return 1;
     }
     let whole = product / c;
-    if whole * c == product { whole } else { whole + 1 }
+    if whole * c == product {
+        whole
+    } else {
+        whole + 1
+    }
 }
 
 /// How often `ONE` is in a number: `x / ONE`, for which a processor takes several times as long. Of
