@@ -37,7 +37,7 @@ rotates_in cs = count_by (λ (c : Command). is_rotate c.call) cs
 abbrev NoneRotates : List Command → Type 0
 NoneRotates cs = All (λ (c : Command). is_rotate c.call ≡ false) cs
 
-none_one : (b : Bool) → cond b 1 0 ≡ 0 → b ≡ false
+none_one : (b : Bool) → ◌≡◌ {A = ℕ} (cond b 1 0) 0 → b ≡ false
 none_one true is = absurd (omega (arith, is))
 none_one false is = refl
 
