@@ -478,8 +478,12 @@ module _ {D : Type 0} (at : D → DiskAt) where
       let m = told_too (at left).seen (at dl).seen sl.lasts.telling l tl in
       let shut : IsUnshut m.0 → ⊥ = subst (λ (o : Option (List ℕ)). IfSome o (λ after. IsUnshut after → ⊥)) m.1 sl.left
       in
-      inr (sl.found l tl, sr.found r tr, created_so m.0 a shut (made.2.reads m.0 a m.1
-      (only_it at left right dl dr now sl sr made.2 m.0 m.1) ta))
+      inr (
+        sl.found l tl,
+        sr.found r tr,
+        created_so m.0 a shut (made.2.reads m.0 a m.1
+            (only_it at left right dl dr now sl sr made.2 m.0 m.1) ta),
+      )
   left_shuts left right (Nothing dl) (Holding journal core) now sl sr (inr made) l r a tl tr ta = absurd made.1
   left_shuts left right (Holding journal core) stood_right now sl sr (inr made) l r a tl tr ta = absurd made.0
 

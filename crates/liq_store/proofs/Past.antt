@@ -700,11 +700,14 @@ module _ {D : Type 0} (at : D → DiskAt)
           (λ (before : IsKeptWith a b now begun).
           inl (record { kept = before.kept; commands = before.commands ∙ here }))
           (λ (done : IsKeptWith a b (step now (Do c)).0 (kept_behind begun (newly_accepted now (Do c)))).
-          inr (allowed, record {
-            kept = subst (λ (s : State). IsKept a b s) (step_is_after now c allowed) done.kept;
-            commands = done.commands ∙ behind_newly begun now c allowed
-                ∙ ap (λ (cs : List Command). kept_behind cs (c ∷ [])) here;
-          })) kept
+          inr (
+            allowed,
+            record {
+              kept = subst (λ (s : State). IsKept a b s) (step_is_after now c allowed) done.kept;
+              commands = done.commands ∙ behind_newly begun now c allowed
+                  ∙ ap (λ (cs : List Command). kept_behind cs (c ∷ [])) here;
+            },
+          )) kept
 
       pub stops_kept : (request : Request) (c : Command) → request ≡ Do c
           → ((s : State) → StandsFor old.core s → Answers s request answer.DiskFault new.core)
