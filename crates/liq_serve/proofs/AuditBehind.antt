@@ -9,12 +9,11 @@ use Rattle.liq_types.specs.declared.requests.Command.{Command}
 use Rattle.liq_types.specs.declared.requests.Request.{Request}
 use Rattle.liq_types.specs.State.{State}
 use Rattle.liq_types.specs.Verbs.{is_rotate}
-use Rattle.liq_rule_step.specs.Image.{image}
 use Rattle.liq_rule_step.specs.Step.{accepted, run}
 use Rattle.liq_rule_sound.proofs.SoundTests.{sound_facts}
 use Rattle.liq_disk_pair.specs.Commands.{read_back}
 use Rattle.liq_disk_pair.specs.Pair.{StandFor, commands_on, state_on}
-use Rattle.liq_disk_pair.specs.Past.{NoFault, held_at_end, rotations}
+use Rattle.liq_disk_pair.specs.Past.{held_at_end}
 use Rattle.liq_disk_pair.proofs.Behind.{behind_none}
 use Rattle.liq_disk_pair.proofs.Formed.{state_sound}
 use Rattle.liq_disk_pair.proofs.Past.{fold_generation, run_folds}
@@ -37,7 +36,7 @@ rotates_in cs = count_by (λ (c : Command). is_rotate c.call) cs
 abbrev NoneRotates : List Command → Type 0
 NoneRotates cs = All (λ (c : Command). is_rotate c.call ≡ false) cs
 
-none_one : (b : Bool) → cond b 1 0 ≡ 0 → b ≡ false
+none_one : (b : Bool) → ◌≡◌ {A = ℕ} (cond b 1 0) 0 → b ≡ false
 none_one true is = absurd (omega (arith, is))
 none_one false is = refl
 

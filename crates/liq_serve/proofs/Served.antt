@@ -290,9 +290,11 @@ module _
         h.2,
         kept (λ a b s held. (ruling s c ≡ Allowed) × IsKeptAround s held (Do c) a b)
             (λ l r start told_l told_r is a b told_a told_b.
-            let holds = disks l r start told_l told_r is in
-            (holds.0, kept_around (state_after start history) (held_at_end l r start (histories.requests_of history)) c
-            a b holds.0 (holds.1 a b told_a told_b))) whole,
+            let holds = disks l r start told_l told_r is in (
+              holds.0,
+              kept_around (state_after start history) (held_at_end l r start (histories.requests_of history)) c
+                  a b holds.0 (holds.1 a b told_a told_b),
+            )) whole,
       ))
 
   abbrev AnswersTo : Finish → Type 0

@@ -87,10 +87,10 @@ module _ (told : Option (List ℕ)) (l r : List ℕ) (start : State) (requests :
     read_behind (Err (DamagedInput number)) were holds a b told_a told_b = kept_here (Err (DamagedInput number)) a b
         (holds a b told_a told_b)
 
-    only_one : (disk : D) (held image : List ℕ) → (disk_at disk).seen ≡ Some held → IsAtRest disk_at disk
-        → LeftNow disk_at disk image → image ≡ held
-    only_one disk held image told rests left =
-        subst (λ (o : Option (List ℕ)). IfSome o (λ bytes. Only bytes (LeftNow disk_at disk))) told rests image left
+    only_one : (disk : D) (bytes image : List ℕ) → (disk_at disk).seen ≡ Some bytes → IsAtRest disk_at disk
+        → LeftNow disk_at disk image → image ≡ bytes
+    only_one disk bytes image told rests left =
+        subst (λ (o : Option (List ℕ)). IfSome o (λ was. Only was (LeftNow disk_at disk))) told rests image left
 
     -- a fault is that of a disk
     faulted : (end : End) (fault : Fault)

@@ -1,8 +1,14 @@
 //! Laws of the top call. The functions here do nothing: they are the place where the facts of their
 //! contracts are proved.
 
-ghost use Rattle.std.specs.Prelude.{◌≡◌, ◌≢◌, Contains, List, ℕ, Ok, Some};
-ghost use Rattle.liq_types.specs.State.{State};
+ghost use Rattle.std.specs.Prelude.{◌≡◌, ◌≢◌, ◌⊎◌, Contains, List, ℕ, Ok, Some, get_or, true};
+ghost use Rattle.liq_types.specs.declared.requests.Command.{Command};
+ghost use Rattle.liq_types.specs.declared.requests.Request.TheVariants.{Do};
+ghost use Rattle.liq_types.specs.State.{State, opening};
+ghost use Rattle.liq_journal.specs.Written.{Absent, found_on};
+ghost use Rattle.liq_disk_pair.specs.Commands.{read_back};
+ghost use Rattle.liq_follower.specs.Fed.{LeadTo};
+ghost use Rattle.liq_text.specs.Spelling.{Spells};
 ghost use Rattle.liq_disk_pair.specs.Kept.{IsKept};
 ghost use Rattle.liq_disk_pair.specs.Pair.{state_on};
 ghost use Rattle.liq_word_line.specs.declared.words.Word.{Word};
@@ -14,7 +20,7 @@ ghost use Rattle.liq_serve.specs.Top.{Ends};
 ghost use Rattle.liq_serve.specs.Twice.{AreBehind, AuditsAnswered, FollowOn};
 
 use liq_disk_pair::laws::{commands_lead_to_the_state, journals_keep_their_limit};
-use liq_follower::laws::faults_stay;
+use liq_follower::laws::{faults_stay, headers_lead_to_the_opening};
 use liq_outside::{Disk, Sink, Source};
 
 /// Whatever the words are, the exit status by itself says whose count of faults rose, and whose did
@@ -84,3 +90,21 @@ pub fn audits_are_of_what_was_answered<S: Source, K: Sink, D: Disk>()
         → ((state : State) → state_on a b ≡ Ok state → state.generation ≡ 1)
         → AuditsAnswered S.at K.at D.at before middle again after status later l r start }
 {}
+
+/// A command that a line spells stands on the disks as it was spelled: a record has each hint word
+/// that a line can have. So where a source told its lines, the commands that stand behind those of
+/// the start are just the ones that were accepted.
+pub fn spelled_commands_are_read_back()
+    ensures { (line : List ℕ) (c : Command) → Spells line (Do c) → read_back c ≡ c }
+{}
+
+/// Where two disks stand for a state of the first generation, the left one's bytes are followed to
+/// this state. Only where no journal is open, and an open gate stands before a header that isn't
+/// whole, is nothing said: these stand for the opening.
+pub fn left_disks_are_followed()
+    ensures { (l r : List ℕ) (s : State) → state_on l r ≡ Ok s → s.generation ≡ 1
+        → LeadTo l s ⊎ ((s ≡ opening) × (found_on true l ≡ Absent) × (get_or l 0 0 ≡ 1)) }
+{
+    // odd: law called
+    headers_lead_to_the_opening();
+}

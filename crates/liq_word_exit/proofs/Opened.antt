@@ -22,7 +22,7 @@ use Rattle.liq_store.proofs.Past.{opened_holds}
 use Rattle.liq_store.proofs.Recovered.{opens_commands, still_kept}
 use Rattle.liq_word_exit.specs.declared.halts.Halt.{Halt}
 use Rattle.liq_word_exit.specs.declared.halts.Halt.TheVariants.{NoMemory}
-use Rattle.liq_word_exit.specs.Disks.{DisksHold, DisksStay, EndsDamaged, OfBoth}
+use Rattle.liq_word_exit.specs.Disks.{DisksHold, DisksStay, EndsDamaged}
 
 -- disks that stand for what others stood for
 pub still_stand : (l r a b : List ℕ) (s : State) → state_on a b ≡ state_on l r → state_on l r ≡ Ok s → StandFor a b s
@@ -60,8 +60,7 @@ pub unopened : {D : Type 0} (at : D → DiskAt) (left right : D) (fault : StoreF
     → (l r : List ℕ) (s : State) → (at left).seen ≡ Some l → (at right).seen ≡ Some r → state_on l r ≡ Ok s
     → DisksStay at (Err NoMemory) l r s fault.left fault.right
 unopened at left right fault h other shuts l r s told_l told_r is a b told_a told_b =
-    let stands : state_on a b ≡ Ok s = h.stays other l r a b told_l told_r told_a told_b ∙ is in
-    (
+    let stands : state_on a b ≡ Ok s = h.stays other l r a b told_l told_r told_a told_b ∙ is in (
       stands,
       opens_commands l r a b (shuts l r a b told_l told_r told_a told_b),
       λ kept. (still_kept l r a b s stands (h.reads l r a b s told_l told_r kept told_a told_b)).kept,
@@ -88,14 +87,6 @@ opened_still at left right store l r s opened order stands told_l told_r is a b 
         commands = opened_holds at l r s left right store told_l told_r opened order stands a b told_a told_b;
       },
     )
-
--- disks of a store that goes on
-pub settled : {D : Type 0} (at : D → DiskAt) (store : Stored D) (s : State)
-    → store.stopped ≡ None → IsInOrder at store → StandsFor store.core s
-    → OfBoth at store.left store.right (λ a b. IsKept a b s)
-settled at store s going order stands a b told_a told_b =
-    let now = subst (λ (stopped : Option ℕ). IsInOrderWith at stopped store) going order in
-    settled_kept store.side a b s (now.settled a b told_a told_b s stands)
 
 -- ---- disks that are kept begin again
 

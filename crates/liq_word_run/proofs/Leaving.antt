@@ -1,5 +1,5 @@
 -- The disks of a run, as it leaves them.
-use Rattle.std.proofs.Common.{◌≡◌, ◌≢◌, ℕ, List, [], ◌∷◌, ◌++◌, length, Option, Some, None, Result, Ok, Err, refl, ap, sym, subst, ◌∙◌, append-nil, arith, inl, inr, ⊎_elim}
+use Rattle.std.proofs.Common.{◌≡◌, ℕ, List, [], ◌∷◌, ◌++◌, length, Option, Some, None, Result, Ok, Err, refl, ap, sym, subst, ◌∙◌, append-nil, arith, inl, inr, ⊎_elim}
 use Rattle.std.specs.Prelude.{◌⊎◌}
 use Rattle.liq_outside.specs.At.{DiskAt}
 use Rattle.liq_outside.specs.declared.showing.Showing.{Showing}
@@ -8,10 +8,8 @@ use Rattle.liq_outside.specs.Showings.{AllNeighbours, LeavesBetween, shown_as}
 use Rattle.liq_outside.proofs.Moments.{unmoved}
 use Rattle.liq_types.specs.declared.requests.Command.{Command}
 use Rattle.liq_types.specs.declared.requests.Request.{Request}
-use Rattle.liq_types.specs.declared.requests.Request.TheVariants.{Do, Ask}
 use Rattle.liq_types.specs.State.{State}
-use Rattle.liq_core.specs.Core.{StandsFor}
-use Rattle.liq_rule_step.specs.Step.{Allowed, Ruling, accepted, after, after_ruling, ruling, run}
+use Rattle.liq_rule_step.specs.Step.{accepted, run}
 use Rattle.liq_text_lines.specs.Lines.{lines_in}
 use Rattle.liq_text_lines.proofs.Bytes.{writes_nothing}
 use Rattle.liq_disk_pair.specs.declared.side.Side.{Side}

@@ -181,7 +181,7 @@ module _ {D : Type 0} (at : D → DiskAt)
         (was : Option (List Showing)) (past : PastOf requests old was) where
       -- what it leaves of both disks
       leaves : (said : Answer) → WritesOn at old request said mid
-          → LeavesPairs at old.left old.right mid.left mid.right 
+          → LeavesPairs at old.left old.right mid.left mid.right
           (IsKeptAround (run at_first requests).0 (held_behind requests) request)
       leaves said writes =
           let left = some_of (at old.left).seen past.past.left_tells in

@@ -247,8 +247,7 @@ module _ {D : Type 0} (disk_at : D → DiskAt) (left right : D) where
   unopened_holds (why.Damaged side damage) now_left now_right unopened opens l r start told_l told_r is =
       cc (unopened.is_why l r told_l told_r, is)
   unopened_holds why.NoMemory now_left now_right unopened opens l r start told_l told_r is = λ a b told_a told_b.
-      let stands : state_on a b ≡ Ok start = unopened.stays (λ e. cc) l r a b told_l told_r told_a told_b ∙ is in
-      (
+      let stands : state_on a b ≡ Ok start = unopened.stays (λ e. cc) l r a b told_l told_r told_a told_b ∙ is in (
         stands,
         opens_commands l r a b (opens (λ e. cc) l r a b told_l told_r told_a told_b),
         λ kept. (still_kept l r a b start stands (unopened.reads l r a b start told_l told_r kept told_a told_b)).kept,
