@@ -122,11 +122,15 @@ class ByModel(Market):
     """The files of a folder, by the rules in Python."""
 
     def __init__(self, folder: Path) -> None:
+        from .guard import Held
         from .model.files import Store, take_files
         from .unproved import admit
 
         admit(folder, "model")
-        self.pair = take_files(folder)
+        try:
+            self.pair = take_files(folder)
+        except BlockingIOError:
+            raise Held(folder) from None
         self.store = Store(self.pair)
         self.begun = f"the market in {folder}, by the rules in Python: unproved"
 

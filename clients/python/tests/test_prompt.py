@@ -20,6 +20,7 @@ from liq.model.program import answer
 from liq.prompt import InMemory, Prompt, amount, call_of, help_on, main
 
 from .casefiles import Sink, Source
+from .gateways import Gateways
 from .market import TOP, InFolder, OverProgram, status_of
 
 ENVIRONMENT = {**os.environ, "PYTHONPATH": str(TOP / "clients/python"), "TERM": "dumb", "INPUTRC": "/dev/null"}
@@ -189,3 +190,21 @@ class OverRun(OverProgram):
             self.assertEqual(ran.returncode, status, ran.stderr)
             self.assertIn(told, ran.stdout + ran.stderr)
         self.assertFalse(Path(folder, "unproved").exists())
+
+
+class OverGateway(Gateways):
+    """A gateway: under keys of the prompt's own."""
+
+    def test_a_socket(self) -> None:
+        self.start()
+        command = [sys.executable, "-m", "liq.prompt", str(self.socket), "--name", "alice"]
+        text = "fund 1 2ether\nagain\nfnud 1 5\nfund 15 1\nwallet 1\ntrove 1\n"
+        ran = subprocess.run(command, input=text, capture_output=True, text=True, env=ENVIRONMENT, timeout=SECONDS)
+        self.assertEqual((ran.returncode, ran.stderr), (0, ""))
+        lines = re.sub("prompt-[0-9a-f]{8}", "KEY", ran.stdout).splitlines()
+        kept = "that is the reply which was kept: the command is carried out once, and was before"
+        self.assertEqual(lines, [
+            "sent: KEY-1 fund 1 2000000000", "ok", "sent: KEY-1 fund 1 2000000000", "ok", kept,
+            "not sent: 'fnud' is no verb: fund?", "sent: KEY-2 fund 15 1", "refused account 15 is none of your accounts",
+            "coll 2 ether, lusd 0 LUSD", "refused verb trove is none of your verbs",
+        ])

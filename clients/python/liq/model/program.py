@@ -236,8 +236,8 @@ def answer(words: List[str], folder: Folder, source: Source, sink: Sink) -> Halt
     where the files may be a proved program's; then none was opened."""
     run = Run(folder, source, sink)
     if len(words) == 1 and words[0] in OPENS:
-        admit(folder, "model")
-        with contextlib.suppress(OSError):
+        with contextlib.suppress(OSError):  # then there are no files, which each word meets where it comes to them
+            admit(folder, "model")
             run.pair = take_files(folder)
     try:
         carry_out(words, run)
