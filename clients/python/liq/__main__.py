@@ -23,10 +23,13 @@ class Command(NamedTuple):
 COMMANDS: Dict[str, Command] = {
     "guard": Command("guard", "FOLDER", "looks before a start for what liq would not see"),
     "backup": Command("backup", "FOLDER DIR", "copies a market, also beside a run"),
+    "restore": Command("restore", "COPY FOLDER", "brings a copy back, with note, archive and book"),
     "archive": Command("archive", "FOLDER DIR", "keeps what rotations leave behind"),
     "statement": Command("statement", "FOLDER", "who has what by the files alone, to be signed"),
     "recheck": Command("recheck", "FOLDER", "an audit with arithmetic of its own, beside that of liq"),
     "across": Command("across", "--archive DIR WORD FOLDER", "what `audit` and the like tell behind rotations"),
+    "prompt": Command("prompt", "[FOLDER|SOCKET]", "a prompt: verbs are typed, replies come with names"),
+    "why": Command("why", "LINE", "what is wrong with a line"),
     "page": Command("page", "FOLDER", "a page of a market: what falls at which price"),
     "gateway": Command("gateway.__main__", "FOLDER --socket PATH --table FILE", "a socket in front of a run"),
     "gateway.speak": Command("gateway.speak", "SOCKET [NAME]", "lines to a gateway, replies back"),

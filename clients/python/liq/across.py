@@ -17,12 +17,12 @@ from .archive import Generations, Kept, NotArchived, named_in, sources
 from .backup import backup
 from .console import add_forms, add_seconds, as_csv, as_json, as_process, ended, parser_of, rows_of
 from .ends import Folder, TooMuch, Unfit
+from .grammar import read_words
 from .history import begun, replay, rotated
 from .journal import BYTES_MOST, RECORD_BYTES
 from .model import Market, NoRequest
 from .model.beside import rewards_text, staking_text
 from .model.owed import audit_text
-from .model.requests import read_words
 from .progress import Bar
 from .recheck import SECONDS
 from .scratch import bounded, scratch
@@ -102,7 +102,7 @@ def across(
     bar: Optional[Bar] = None,
 ) -> List[str]:
     """What a word tells of a folder's market and of its archive, on copies."""
-    named = named_in(archive) if archive is not None else None
+    named = named_in(archive, folder) if archive is not None else None
     with scratch(folder, "liq-across") as room:
         backup(folder, room, bar=bar)
         return told(word, past_of(room, archive, named, bar), lines or [])

@@ -10,7 +10,8 @@ stands behind that in the file has no meaning. A copy is synced, and gets its na
 call it as often as you like, and before each `rotate`.
 
 Before a copy gets its name the model carries out its commands, and the checkpoint with which the next generation begins
-has to be what that comes to, to the byte. The same is seen of the copy before it.
+has to be what that comes to, to the byte. The same is seen of the copy before it. A copy is a file of its own: a link,
+and a second name of the market's own file, are refused, since the next `rotate` would write over such a copy too.
 
 It writes a line for each copy that it makes, and one for what DIR has. It ends with 0; with 1 where DIR and FOLDER are
 no history without a gap, or something is damaged or can't be read, and then no `rotate` may be sent; with 2 where the
@@ -24,17 +25,18 @@ import secrets
 import sys
 import time
 from pathlib import Path
-from typing import Dict, Iterator, List, NamedTuple, Optional, Tuple
+from typing import Iterator, List, NamedTuple, Optional, Tuple
 
 from .backup import DAY, LARGEST, SECONDS, fronts
 from .console import add_forms, as_csv, as_json, as_process, ended, parser_of
-from .ends import Folder, NoJournal, Unfit
-from .history import begun, digest_of, read_begin, replay, rotated, what_counts
-from .journal import FRONT_BYTES, RECORD_BYTES, DamagedFile, Disk, files_of, is_open, open_file, pieces_of
-from .journal import read_file, read_header
+from .ends import Folder, Unfit
+from .history import digest_of, read_begin, what_counts
+from .journal import FRONT_BYTES, DamagedFile, Disk, files_of, open_file, pieces_of, read_file, read_header
+from .linked import Left, check_link, left_in
 from .progress import Bar
 from .scratch import bounded
 from .units import counted
+from .unproved import refuse_unproved
 
 EXAMPLES = """
 python3 -m liq.archive market archive && echo '9 1 rotate' | (cd market && liq run)
@@ -55,6 +57,22 @@ class NotArchived(Unfit):
         return f"{self.directory} is no archive of it: {self.why}"
 
 
+class Differing(Unfit):
+    """A copy in an archive is sound, and the market's file has something else of that generation. None is damaged."""
+
+    def __init__(self, copy: Folder, file: Folder, generation: int, goes_on: bool) -> None:
+        super().__init__(copy, file, generation, goes_on)
+        self.copy, self.file, self.generation, self.goes_on = Path(copy), Path(file), generation, goes_on
+
+    def __str__(self) -> str:
+        has = "goes on behind it" if self.goes_on else "has other commands of it"
+        return (
+            f"generation {self.generation} differs: {self.copy.name} is sound, and {self.file.name} {has}. Where the"
+            " market's files count, move that copy away and call this again; where the copy counts, bring back the"
+            " files that it was made of"
+        )
+
+
 class Kept(NamedTuple):
     """A copy of a generation that was left behind. `digest` is the SHA-256 of its bytes."""
 
@@ -63,23 +81,16 @@ class Kept(NamedTuple):
     digest: str
 
 
-class Left(NamedTuple):
-    """What a folder has: the file of the current generation, and that of the one before, where it is there."""
-
-    generation: int
-    current: Path
-    before: Optional[Path]
-
-
 def archive(folder: Folder, directory: Folder, bar: Optional[Bar] = None) -> List[Kept]:
     """Copies what the last rotation left behind into the folder `directory`, and gives the copies that this call made.
 
     There is none to make in the first generation, and where it is there already. Raises `NotArchived` where there is a
     gap, where something is damaged, or is of another market: then a further `rotate` would write over what is in no
-    archive. Raises `NoJournal`, `TooMuch`, `NoRegularFile` and OSError besides. It holds no file and changes none of
-    the folder, so a run may go on meanwhile.
+    archive. Raises `Unproved`, `NoJournal`, `TooMuch`, `NoRegularFile` and OSError besides. It holds no file and
+    changes none of the folder, so a run may go on meanwhile.
     """
     folder, directory = Path(folder), Path(directory)
+    refuse_unproved(folder)
     end = time.monotonic() + SECONDS
     while True:
         seen = fronts(files_of(folder))
@@ -88,7 +99,7 @@ def archive(folder: Folder, directory: Folder, bar: Optional[Bar] = None) -> Lis
         except (Unfit, OSError) as fault:
             if fronts(files_of(folder)) != seen and time.monotonic() < end:
                 continue  # a rotation came between, so that some of what was read is of the one and some of the other
-            if isinstance(fault, DamagedFile):
+            if isinstance(fault, (DamagedFile, Differing)):
                 raise NotArchived(directory, str(fault)) from None
             raise
 
@@ -105,11 +116,29 @@ def kept_in(directory: Folder, named: Optional[List[Kept]] = None) -> List[Kept]
     return kept
 
 
-def named_in(directory: Folder) -> List[Kept]:
-    """What has the name of a copy, oldest first; nothing where there is no such folder."""
+def named_in(directory: Folder, folder: Optional[Folder] = None) -> List[Kept]:
+    """What has the name of a copy, oldest first; nothing where there is no such folder. Raises `NotArchived` where a
+    copy is a link, or a file of the market's `folder`."""
     paths = sorted(Path(directory).iterdir()) if Path(directory).is_dir() else []
     found = [(path, NAMED(path.name)) for path in paths]
-    return [Kept(int(name[1]), path, name[2]) for path, name in found if name]
+    kept = [Kept(int(name[1]), path, name[2]) for path, name in found if name]
+    check_own(kept, files_of(folder) if folder is not None else [])
+    return kept
+
+
+def check_own(kept: List[Kept], files: List[Path]) -> None:
+    """Raises `NotArchived` where a copy is no file of its own: a link, or one of a market's files by a second name."""
+    of_market = {identity(path.stat()) for path in files}
+    for copy in kept:
+        if copy.path.is_symlink():
+            raise NotArchived(copy.path.parent, f"{copy.path.name} is a link, and a copy is a file of its own")
+        if identity(copy.path.stat()) in of_market:
+            raise NotArchived(copy.path.parent, f"{copy.path.name} is the market's own file, by a second name")
+
+
+def identity(found: os.stat_result) -> Tuple[int, int]:
+    """What tells a file from each other one: its device, and its number there."""
+    return found.st_dev, found.st_ino
 
 
 def read_kept(kept: Kept, most: int = LARGEST) -> Disk:
@@ -141,7 +170,7 @@ class Source(NamedTuple):
         return path
 
     def read(self, most: int = LARGEST) -> Disk:
-        """The generation, whole. Raises `DamagedFile`, also where the file is not what the archive has of it."""
+        """The generation, whole. Raises `DamagedFile`, or `Differing` where the file is not what the archive has."""
         if self.kept is None:
             return Disk(self.path, most)
         disk = read_kept(self.kept, most)
@@ -184,27 +213,9 @@ def sources(folder: Folder, directory: Optional[Folder] = None, named: Optional[
 # ---- a copy
 
 
-def left_in(folder: Path) -> Left:
-    """What a folder has, by the fronts of its files. Raises `NoJournal`, or `DamagedFile` where a file is of a
-    generation that no rotation leaves there."""
-    generations: Dict[int, Path] = {}
-    for path in files_of(folder):
-        with open_file(path) as file:
-            front = file.read(FRONT_BYTES)
-        if is_open(front):
-            generations[read_header(path, front, path.stat().st_size).generation] = path
-    if not generations:
-        raise NoJournal(folder)
-    current, oldest = max(generations), min(generations)
-    if oldest < current - 1:
-        why = f"it has generation {oldest}, and beside generation {current} a rotation leaves {current - 1}"
-        raise DamagedFile(generations[oldest], 0, why)
-    return Left(current, generations[current], generations.get(current - 1))
-
-
 def _archived(folder: Path, directory: Path, bar: Bar) -> List[Kept]:
-    """Makes the copy, where there is one to make. Raises `NotArchived` and `DamagedFile`."""
-    left, kept = left_in(folder), kept_in(directory)
+    """Makes the copy, where there is one to make. Raises `NotArchived`, `Differing` and `DamagedFile`."""
+    left, kept = left_in(folder), kept_in(directory, named_in(directory, folder))
     is_kept = bool(kept) and kept[-1].generation == left.generation - 1
     if left.before is None and not is_kept:
         left = left._replace(before=shut_in(folder, left))
@@ -251,16 +262,9 @@ def check_reaches(directory: Folder, kept: List[Kept], left: Left) -> None:
         raise NotArchived(directory, f"generation {last + 1} is missing, and it is on no file")
 
 
-def check_link(disk: Disk, following: Disk, bar: Optional[Bar] = None) -> None:
-    """Raises `DamagedFile` where the commands of a generation do not lead to the checkpoint of the next one."""
-    market, bar = begun(disk), bar or Bar()
-    bar.begin(f"generation {disk.generation}", len(disk.data) // RECORD_BYTES)
-    replay(market, disk, bar.each)
-    rotated(market, following)
-
-
 def check_copy(kept: Kept, path: Path) -> None:
-    """Raises `DamagedFile` where a copy's bytes are not those of its name, or not what counts in a file."""
+    """Raises `DamagedFile` where a copy's bytes are not those of its name, and `Differing` where they are not what
+    counts in a file."""
     end = kept.path.stat().st_size - 1
     copied, found, at, gate = hashlib.sha256(), hashlib.sha256(), 0, b""
     for piece in pieces_of(kept.path, LARGEST):
@@ -273,7 +277,7 @@ def check_copy(kept: Kept, path: Path) -> None:
         at += len(piece)
     found.update(b"\0")
     if gate == b"\1" or found.hexdigest() != kept.digest:
-        raise DamagedFile(kept.path, 0, f"it is not what {path.name} has of generation {kept.generation}")
+        raise Differing(kept.path, path, kept.generation, found.hexdigest() == kept.digest)
 
 
 def _keep(disk: Disk, directory: Path) -> Kept:

@@ -1,13 +1,15 @@
 """A copy of a market that has all that was answered before it began, also while liq runs and rotates.
 
-usage: python3 -m liq.backup [--json] FOLDER DIR
+usage: python3 -m liq.backup [--quick] [--json] FOLDER DIR
 
 Both files are copied into the folder DIR, which is made, or is there and empty. A rotation writes over one of the
 files: where one came between, all is copied again. The copies are synced, and a copy of them, made for this alone, is
-opened by `liq state`. Its line `journal GENERATION RECORDS` is written: how many commands the copy has.
+opened by `liq state`. Its line `journal GENERATION RECORDS` is written: how many commands the copy has. Where it has
+two generations, the commands of the older one have to lead to the newer one, as in `liq.guard`; with --quick each
+client's last number alone.
 
-It ends with 0; with 1 where nothing was copied, and then DIR is as it was, or where liq does not open what was copied;
-with 2 where the words are not understood.
+It ends with 0; with 1 where nothing was copied, and then DIR is as it was, or where liq does not open what was copied,
+or its files are of two markets; with 2 where the words are not understood.
 """
 import contextlib
 import hashlib
@@ -20,7 +22,9 @@ from typing import Any, BinaryIO, Dict, Iterable, Iterator, List, Optional
 from .console import add_forms, as_json, as_process, ended, parser_of, refused
 from .ends import Folder, NoJournal, NotBuilt, TooMuch, Unfit
 from .errors import LiqError
-from .journal import BYTES_MOST, FRONT_BYTES, HEADER_BYTES, RECORD_BYTES, files_of, is_open, open_file, pieces_of
+from .journal import BYTES_MOST, FRONT_BYTES, HEADER_BYTES, RECORD_BYTES
+from .journal import files_of, is_open, open_file, pieces_of, settle
+from .linked import apart
 from .progress import Bar
 from .scratch import bounded, scratch
 from .service import find_program
@@ -115,6 +119,8 @@ def _copied(folder: Path, to: Path, most: int, bar: Bar) -> bool:
         if any(front_of(file) != read[path] for path, file in files.items()):
             _clear(to)
             return False
+        for file in files.values():
+            settle(file)
         grown = [path.name for path, file in files.items() if size_of(file) > sizes[path]]
     if at_once:
         for path, found in copies.items():
@@ -217,12 +223,13 @@ def main(words: List[str]) -> int:
     parser = parser_of("backup", __doc__, EXAMPLES)
     parser.add_argument("folder", metavar="FOLDER", help="the market's folder; a run may go on")
     parser.add_argument("to", metavar="DIR", help="for the copy: it is made, or is there and empty")
+    parser.add_argument("--quick", action="store_true", help="compare two files by each client's last number alone")
     add_forms(parser)
     asked = parser.parse_args(words)
-    return ended("backup", lambda: _told(asked.folder, asked.to, asked.json), asked.json)
+    return ended("backup", lambda: _told(asked.folder, asked.to, asked.quick, asked.json), asked.json)
 
 
-def _told(folder: str, to: str, is_json: bool) -> int:
+def _told(folder: str, to: str, quick: bool, is_json: bool) -> int:
     """Copies, opens a copy of the copy, and tells how many commands it has."""
     with bounded(DAY), Bar() as bar:
         backup(folder, to, LARGEST, bar)
@@ -230,10 +237,13 @@ def _told(folder: str, to: str, is_json: bool) -> int:
         with bounded(DAY), scratch(to, "liq-backup") as room, Bar() as bar:
             backup(to, room, LARGEST, bar)
             opened = open_copy(room)
+            why = apart(room, LARGEST, quick, bar)
     except (LiqError, OSError) as fault:
+        why = f"it does not open: {fault}"
+    if why:
         if is_json:
-            return refused("backup", f"copied, but it does not open: {fault}", is_json)
-        print(f"copied, but it does not open: {fault}")
+            return refused("backup", f"copied, but {why}", is_json)
+        print(f"copied, but {why}")
         return 1
     if is_json:
         generation, records = (opened.generation, opened.records) if opened else (None, None)

@@ -77,7 +77,9 @@ class BatchStopped(LiqError):
         if isinstance(self.why, int):
             return f"item {self.index}: byte {self.why} begins a field that fits nothing"
         if isinstance(self.why, str):
-            return f"line {self.index}: {self.why!r} is no request"
+            from .why import why  # only here: it is wanted once
+
+            return f"line {self.index}: {self.why!r} is no request: {why(self.why)}"
         return f"item {self.index}: {self.why!r}"
 
 

@@ -79,6 +79,12 @@ class Usage(End):
 class BadLine(End):
     """2: a line is no request."""
 
+    def __str__(self) -> str:
+        from .why import why  # only here: it is wanted once
+
+        said = why(self.pending) if self.pending else ""
+        return super().__str__() + (f" ({said})" if said else "")
+
 
 class ReadFault(End):
     """3: reading the input failed."""

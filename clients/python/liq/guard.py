@@ -1,30 +1,42 @@
 """A look at a market's files before a run: what liq would take for the market, and what stands behind its end.
 
-usage: python3 -m liq.guard [--note FILE] [--mend [--answered] [--dry-run]] [--json] FOLDER
+usage: python3 -m liq.guard [--note FILE [--accept]] [--quick] [--mend [--answered] [--dry-run]] [--json] FOLDER
+       python3 -m liq.guard --adopt-unproved FOLDER
 
 One byte in front of each record, and one in front of the header, is a gate: 1 says that what follows counts. No digest
 is over it. Where it is another byte, liq takes what follows for nothing, goes on from there, and writes over it. So a
 gate that rotted loses commands without a word. The guard looks for whole records, and for a whole header, behind a gate
 that is shut.
 
+Beside the file that counts stands the one of the generation before. The model of the rules carries out its commands,
+and what they lead to has to be the checkpoint with which the newer one begins: else one of the two is of another
+market, or of a copy that went on by itself.
+
 Each finding is a line. A stop leaves a shut gate too: in front of one record, or of a generation that was being made,
 which was not answered. A line says so, and is no finding. The guard ends with 0 where it finds nothing, with 1 where it
 finds something or can't look, and with 2 where the words are not understood. It changes nothing, but for:
 
---note FILE  compares with what FILE holds of an earlier look: generation, records, and the digest of the last record. A
-             market that stands behind that is a finding. Where nothing is found the note is written anew, or made.
+--note FILE  compares with what FILE holds of an earlier look: generation, records, the digest of the last one, and a
+             SHA-256 over all that counted. A market that stands behind that, or that has other bytes there, is a
+             finding. Where nothing is found the note is written anew, or made; two files that belonged together are
+             not carried out again.
+--accept     with --note: writes the note over what was found, and looks once more. For whoever has read each line.
+--quick      compares each client's last number alone in place of carrying out commands. A copy of the same market that
+             went on with as many commands of each client passes.
 --mend       opens the gates that rotted, one byte each: on a copy first. It says what comes back, and has liq open the
              copy. Where that is sound it writes to the files, unless a run holds them.
 --answered   with --mend: opens also what a stop may have left, for whoever knows that it was answered.
 --dry-run    with --mend: leaves it at the copy.
+
+A market that an unproved program wrote has a file `unproved` beside it, which is a finding. With --adopt-unproved the
+proved program carries all its commands out again, on a copy; where it comes to what the rules in Python come to, the
+file is taken away. Behind a rotation that is refused.
 """
 import contextlib
 import errno
 import fcntl
 import hashlib
 import os
-import stat
-import struct
 import sys
 from argparse import Namespace
 from pathlib import Path
@@ -35,17 +47,21 @@ from .console import add_forms, as_json, as_process, ended, parser_of
 from .ends import End, Folder, TooMuch, Unfit
 from .journal import FRONT_BYTES, KINDS, PIECE_BYTES, RECORD_BYTES, SIDES
 from .journal import DamagedFile, Header, copy_file, files_of, open_file, read_checkpoint, read_command, read_header
+from .journal import settle
+from .linked import APART, CLIENT_AND_NUMBER, last_numbers, unlinked
 from .progress import Bar
 from .reasons import distrusted
 from .scratch import bounded, scratch
 from .units import counted
+from .unproved import Unproved, is_marked
 
 RECORDS_READ = 1_000_001  # the gate behind a full journal's last record is that of this one, and liq reads no further
 RECORDS_AT_ONCE = 8128
 TRIES = 100
-CLIENT_AND_NUMBER = struct.Struct(">4xIQ")
-NOTE_TITLE = "liq.guard: generation, records, and the digest of the last record, or of the header where there is none"
+NOTE_TITLE = "liq.guard 2: what counted at an earlier look, and the older file that leads to it"
+OLD_TITLE = "liq.guard: generation, records, and the digest of the last record, or of the header where there is none"
 NOTE_BYTES_MOST = 1000
+CLIENTS_NOTED = 8  # those with the greatest numbers: what a market that was rotated twice is known by
 EXAMPLES = """
 python3 -m liq.guard --note /var/lib/liq/note /var/lib/liq/market && echo start
 python3 -m liq.guard --mend --dry-run market
@@ -91,7 +107,9 @@ class Seen(NamedTuple):
     `front` are its first bytes, as many as a header has. `fault` is the first damage, as a record or 0, and why: of the
     header, whatever its gate is, and of a record behind an open gate. `records` are as many as liq counts, and `end` is
     the gate behind them. `whole` counts on from there, to the first record that is not whole, whatever the gates are;
-    `shut` are those on the way whose gate is not 1, with that byte. `beyond` are the whole ones behind a gap.
+    `shut` are those on the way whose gate is not 1, with that byte. `beyond` are the whole ones behind a gap. `counts`
+    is the SHA-256 over the file up to `end`, with a shut gate there; `noted` is the same of as many records as a note
+    has of this generation, where so many are there.
     """
 
     path: Path
@@ -104,6 +122,8 @@ class Seen(NamedTuple):
     whole: int = 0
     beyond: int = 0
     shut: Tuple[Tuple[int, int], ...] = ()
+    counts: str = ""
+    noted: str = ""
 
     @property
     def name(self) -> str:
@@ -144,6 +164,7 @@ class Seen(NamedTuple):
         """A record's 96 bytes and its digest. Raises `DamagedFile` where they are gone since the look."""
         with open_file(self.path) as file:
             body = read_at(file, self.gate_of(record) + 1, RECORD_BYTES - 1)
+            settle(file)
         if len(body) < RECORD_BYTES - 1:
             raise DamagedFile(self.path, record, "it was cut short during the look")
         return body
@@ -154,63 +175,86 @@ class Seen(NamedTuple):
         return self.body_of(record)[96:] if record else self.header.digest
 
 
-def look_at(path: Path, bar: Optional[Bar] = None) -> Seen:
-    """What a regular file has. It is read in pieces, and no further than a journal can reach."""
+def look_at(path: Path, bar: Optional[Bar] = None, note: "Optional[Note]" = None) -> Seen:
+    """What a regular file has. It is read in pieces, and no further than a journal can reach, and settled before
+    anything is said of it."""
     with open_file(path) as file:
-        size = os.fstat(file.fileno()).st_size
-        seen = Seen(path, size, file.read(FRONT_BYTES))
-        if size < 57:
-            return seen
-        try:
-            header = _read_header(seen, file)
-        except DamagedFile as fault:
-            return seen._replace(fault=(0, fault.why))
-        bar = bar or Bar()
-        bar.begin(path.name, (size - header.begin) // RECORD_BYTES)
-        return _read_records(file, seen._replace(header=header), bar)
+        seen = _look_into(file, path, bar or Bar(), note)
+        settle(file)
+    return seen
 
 
-def _read_header(seen: Seen, file: BinaryIO) -> Header:
-    """The header, whose digest is right. Raises `DamagedFile`."""
+def _look_into(file: BinaryIO, path: Path, bar: Bar, note: "Optional[Note]") -> Seen:
+    size = os.fstat(file.fileno()).st_size
+    seen = Seen(path, size, file.read(FRONT_BYTES))
+    if size < 57:
+        return seen
+    counts = hashlib.sha256(b"\1")
+    try:
+        header = _read_header(seen, file, counts)
+    except DamagedFile as fault:
+        return seen._replace(fault=(0, fault.why))
+    bar.begin(path.name, (size - header.begin) // RECORD_BYTES)
+    noted = note.records if note and note.generation == header.generation else None
+    return _read_records(file, seen._replace(header=header), bar, counts, noted)
+
+
+def _read_header(seen: Seen, file: BinaryIO, counts: "hashlib._Hash") -> Header:
+    """The header, whose digest is right. It and the checkpoint count. Raises `DamagedFile`."""
     header = read_header(seen.path, seen.front, seen.size)
     if os.lseek(file.fileno(), 0, os.SEEK_HOLE) < header.begin:  # of 2^36 bytes that are nowhere none is read
         raise DamagedFile(seen.path, 0, "a hole is in its checkpoint")
+    counts.update(seen.front[1 : header.bytes])
     digest = hashlib.sha256(header.fields)
     for at in range(header.bytes, header.begin, PIECE_BYTES):
-        digest.update(read_at(file, at, min(PIECE_BYTES, header.begin - at)))
+        piece = read_at(file, at, min(PIECE_BYTES, header.begin - at))
+        digest.update(piece)
+        counts.update(piece)
     if digest.digest() != header.digest:
         raise DamagedFile(seen.path, 0, "its digest is another")
     return header
 
 
-def _read_records(file: BinaryIO, seen: Seen, bar: Bar) -> Seen:
+def _read_records(file: BinaryIO, seen: Seen, bar: Bar, counts: "hashlib._Hash", noted: Optional[int]) -> Seen:
     """The records, and what stands behind them."""
     assert seen.header
     head = seen.header.generation.to_bytes(8, "big")
     records = whole = beyond = index = 0
     shut: List[Tuple[int, int]] = []
     end: Optional[int] = None
-    counts = True
+    of_note = sum_up_to(counts) if noted == 0 else ""
+    is_counting = True
     for piece in _places(file, seen.header.begin):
         index += 1
         if index % RECORDS_AT_ONCE == 0:
             bar.add(RECORDS_AT_ONCE)
         gate = piece[0]
         is_whole = _is_whole(head, index, piece)
-        if counts and gate == 1 and len(piece) == RECORD_BYTES:
+        if is_counting and gate == 1 and len(piece) == RECORD_BYTES:
             if not is_whole:
                 return seen._replace(fault=(index, "its digest is another"), records=records, whole=records)
             records = whole = index
+            counts.update(piece)
+            if index == noted:
+                of_note = sum_up_to(counts)
             continue
-        if counts:
-            counts, end = False, gate
+        if is_counting:
+            is_counting, end = False, gate
         if is_whole and whole == index - 1:
             whole = index
             if gate != 1:
                 shut.append((index, gate))
         elif is_whole:
             beyond += 1
-    return seen._replace(records=records, end=end, whole=whole, beyond=beyond, shut=tuple(shut))
+    return seen._replace(
+        records=records, end=end, whole=whole, beyond=beyond, shut=tuple(shut), counts=sum_up_to(counts), noted=of_note)
+
+
+def sum_up_to(counts: "hashlib._Hash") -> str:
+    """The SHA-256 over what was counted so far and a shut gate behind it."""
+    there = counts.copy()
+    there.update(b"\0")
+    return there.hexdigest()
 
 
 def _places(file: BinaryIO, begin: int) -> Iterator[bytes]:
@@ -357,27 +401,33 @@ class Look(NamedTuple):
         return [line for line in self.lines if line.is_finding]
 
 
-def look(folder: Folder, bar: Optional[Bar] = None) -> Look:
+def look(folder: Folder, bar: Optional[Bar] = None, note: "Optional[Note]" = None) -> Look:
     """Looks at both files. Beside a run they change, so what is said is what two looks say."""
-    first = _look_unrotated(Path(folder), bar)
+    marked = [Line(str(Unproved(folder)))] if is_marked(folder) else []
+    first = _look_unrotated(Path(folder), bar, note)
     if not first.lines:
-        return first
-    second = _look_unrotated(Path(folder), bar)
-    return second._replace(lines=[line for line in second.lines if line in first.lines])
+        return first._replace(lines=marked)
+    second = _look_unrotated(Path(folder), bar, note)
+    return second._replace(lines=marked + [line for line in second.lines if line in first.lines])
 
 
-def _look_unrotated(folder: Path, bar: Optional[Bar]) -> Look:
+def _look_unrotated(folder: Path, bar: Optional[Bar], note: "Optional[Note]") -> Look:
     """A look in which no rotation took a file behind its front, unless one does each time."""
     for _ in range(TRIES):
-        found = _look_once(folder, bar)
-        if fronts(seen.path for seen in found.files) == {seen.name: seen.front for seen in found.files}:
+        found = _look_once(folder, bar, note)
+        if is_unrotated(found):
             break
     return found
 
 
-def _look_once(folder: Path, bar: Optional[Bar]) -> Look:
+def is_unrotated(found: Look) -> bool:
+    """Whether both files begin as they did at a look."""
+    return fronts(seen.path for seen in found.files) == {seen.name: seen.front for seen in found.files}
+
+
+def _look_once(folder: Path, bar: Optional[Bar], note: "Optional[Note]") -> Look:
     lines = [Line(found.text) for found in distrusted(folder)]
-    files = [look_at(path, bar) for path in files_of(folder) if path.is_file()]
+    files = [look_at(path, bar, note) for path in files_of(folder) if path.is_file()]
     journals = [seen for seen in files if seen.is_open and seen.header]
     current = max(journals, key=generation_of, default=None)
     for seen in files:
@@ -389,6 +439,7 @@ def _look_once(folder: Path, bar: Optional[Bar]) -> Look:
             lines += said_of_records(seen, current)
     if any(seen.is_open for seen in files):
         lines += missing(folder)
+        lines += said_of_beside(files, current)
     else:
         lines.append(Line(f"no journal in {folder}: liq would begin a new market there"))
     return Look(folder, files, current, lines)
@@ -399,6 +450,23 @@ def missing(folder: Path) -> Iterator[Line]:
     for path in (folder / f"{side}.liq" for side in SIDES):
         if not path.exists() and not path.is_symlink():
             yield Line(f"{path.name}: it is missing: {BRING_BACK}, or make an empty file in its place if it was older")
+
+
+def said_of_beside(files: List[Seen], current: Optional[Seen]) -> Iterator[Line]:
+    """A file beside the current one that no rotation leaves there."""
+    counts = generation_of(current)
+    for seen in files:
+        if seen.size == 0 and counts > 1:
+            yield Line(
+                f"{seen.name}: it is empty beside generation {counts}, so generation {counts - 1} is on no file."
+                " The next rotation takes it",
+                is_finding=False,
+            )
+        elif seen.is_open and seen.header and generation_of(seen) < counts - 1:
+            yield Line(
+                f"{seen.name}: it is of generation {generation_of(seen)}, and beside generation {counts} a rotation"
+                f" leaves {counts - 1}; {APART}"
+            )
 
 
 def said_of_damage(seen: Seen, current: Optional[Seen]) -> str:
@@ -416,24 +484,37 @@ def said_of_damage(seen: Seen, current: Optional[Seen]) -> str:
 
 
 class Note(NamedTuple):
-    """What was there at an earlier look."""
+    """What was there at an earlier look. `counts` is the SHA-256 over the records and all in front of them; `before` is
+    that of the older file, where its commands lead to this generation; `numbers` are the last ones of some clients. An
+    old note has none of these."""
 
     generation: int
     records: int
     digest: str
+    counts: str = ""
+    before: str = ""
+    numbers: Tuple[Tuple[int, int], ...] = ()
 
     @property
     def text(self) -> str:
-        return f"{NOTE_TITLE}\ngeneration {self.generation}\nrecords {self.records}\ndigest {self.digest}\n"
+        rows = f"generation {self.generation}\nrecords {self.records}\ndigest {self.digest}\n"
+        if not self.counts:
+            return f"{OLD_TITLE}\n{rows}"
+        numbers = ",".join(f"{client}:{number}" for client, number in self.numbers)
+        return f"{NOTE_TITLE}\n{rows}sha256 {self.counts}\nbefore {self.before or '-'}\nnumbers {numbers or '-'}\n"
 
     def __str__(self) -> str:
         return f"generation {self.generation} with {counted(self.records, 'record')}"
 
 
-def note_of(current: Seen) -> Note:
-    """The note of a market."""
-    assert current.header
-    return Note(current.header.generation, current.records, current.digest_of(current.records).hex())
+def note_of(found: Look, before: str = "") -> Note:
+    """The note of a market that was looked at, in which the older file with the sum `before` leads to the newer."""
+    current = found.current
+    assert current and current.header
+    digest = current.digest_of(current.records).hex()
+    numbers = last_numbers(current.path, LARGEST, current.records)
+    greatest = sorted(numbers.items(), key=lambda row: (-row[1], row[0]))[:CLIENTS_NOTED]
+    return Note(current.header.generation, current.records, digest, current.counts, before, tuple(greatest))
 
 
 def read_note(path: Folder) -> Optional[Note]:
@@ -443,10 +524,12 @@ def read_note(path: Folder) -> Optional[Note]:
             text = file.read(NOTE_BYTES_MOST).decode("ascii", "replace")
     except FileNotFoundError:
         return None
-    lines = text.splitlines()
     try:
-        words = [line.split(" ") for line in lines[1:]]
-        note = Note(int(words[0][1]), int(words[1][1]), words[2][1])
+        words = [line.split(" ")[1].strip("-") for line in text.splitlines()[1:]]
+        counts, before, rows = words[3:] or ("", "", "")
+        pairs = (row.split(":") for row in rows.split(",") if row)
+        numbers = tuple((int(client), int(number)) for client, number in pairs)
+        note = Note(int(words[0]), int(words[1]), words[2], counts, before, numbers)
     except (IndexError, ValueError):
         raise BadNote(path) from None
     if note.text != text:
@@ -485,6 +568,14 @@ def behind(found: Look, note: Note) -> Optional[str]:
     if seen and seen.digest_of(note.records).hex() != note.digest:
         what = f"record {note.records}" if note.records else "the header"
         return f"another history: {what} of generation {note.generation} is not that of the note"
+    if seen and note.counts and seen.noted != note.counts:
+        return f"another history: what stands in front of it in generation {note.generation} is not that of the note"
+    if seen is None and note.numbers:
+        assert found.current
+        now = last_numbers(found.current.path, LARGEST)
+        for client, number in note.numbers:
+            if now.get(client, 0) < number:
+                return f"another history: client {client}'s last number is {now.get(client, 0)}, and it was {number}"
     return None
 
 
@@ -574,9 +665,11 @@ def mend(found: Look, gates: List[Gate], writes: bool) -> Iterator[str]:
         for gate in gates:
             open_gate(Gate(room / gate.path.name, gate.place))
         copy = look(room)
+        copy.lines.extend(linked_before(copy, None, False, None)[0])
         yield f"a copy with the gates open has {stands(copy)}, and the files have {stands(found)}"
         mended: Set[str] = {gate.path.name for gate in gates}
-        if any(seen.fault or seen.rotted or seen.beyond for seen in copy.files if seen.name in mended):
+        is_apart = any(line.text.endswith(APART) for line in copy.found)
+        if is_apart or any(seen.fault or seen.rotted or seen.beyond for seen in copy.files if seen.name in mended):
             yield from (line.text for line in copy.found)
             yield f"so it is not sound, and nothing was written: {BRING_BACK}"
             return
@@ -628,40 +721,87 @@ def held(folder: Folder) -> Iterator[None]:
         yield
 
 
+# ---- two files of one market
+
+
+def older_of(found: Look) -> Optional[Seen]:
+    """The file of the generation before the current one, where both are sound; None where there is none."""
+    counts = generation_of(found.current)
+    if not found.current or not found.current.is_sound:
+        return None
+    return next((seen for seen in found.files if seen.is_sound and generation_of(seen) == counts - 1), None)
+
+
+def linked_before(found: Look, note: Optional[Note], quick: bool, bar: Optional[Bar]) -> Tuple[List[Line], str]:
+    """What is said of a market whose older file does not lead to the newer one; and the sum of the older file, where it
+    does. What a note has of both is not carried out again."""
+    older = older_of(found)
+    if older is None:
+        return [], ""
+    if note and note.before == older.counts and noted_file(found, note) is found.current and not behind(found, note):
+        return [], note.before
+    assert found.current
+    why = unlinked(older.path, found.current.path, LARGEST, quick, bar)
+    return ([Line(why)], "") if why else ([], "" if quick else older.counts)
+
+
 # ---- the whole
+
+
+class How(NamedTuple):
+    """How a look is made: compared with a note, which is accepted where that is asked for; quickly; with a bar."""
+
+    note: Optional[Folder] = None
+    accept: bool = False
+    quick: bool = False
+    bar: Optional[Bar] = None
 
 
 def guard(folder: Folder, note: Optional[Folder] = None) -> List[Line]:
     """What is said of a market (`judged`)."""
-    return judged(folder, note).lines
+    return judged(folder, How(note)).lines
 
 
-def judged(folder: Folder, note: Optional[Folder] = None, bar: Optional[Bar] = None) -> Look:
-    """A look at a market. A note is compared, and written anew where nothing is found. It is read before the look,
-    since another guard may write a newer one meanwhile."""
-    if note is None:
-        return look(folder, bar)
-    try:
-        noted = read_note(note)
-    except (Unfit, OSError) as fault:
-        found = look(folder, bar)
-        return found._replace(lines=found.lines + [Line(f"the note: {fault}")])
-    found = look(folder, bar)
-    return found._replace(lines=found.lines + list(compared(found, note, noted)))
+def judged(folder: Folder, how: How = How()) -> Look:
+    """A look at a market. A note is compared, and written anew where nothing is found, or where that is accepted. It is
+    read before the look, since another guard may write a newer one meanwhile."""
+    noted, lines = None, []
+    if how.note is not None:
+        try:
+            noted = read_note(how.note)
+        except (Unfit, OSError) as fault:
+            lines.append(Line(f"the note: {fault}"))
+    for _ in range(TRIES):
+        found = look(folder, how.bar, noted)
+        apart, before = linked_before(found, noted, how.quick, how.bar)
+        if is_unrotated(found):
+            break
+    found = found._replace(lines=found.lines + apart + lines)
+    if how.note is None or lines and not how.accept:
+        return found
+    return found._replace(lines=found.lines + list(compared(found, how, noted, before)))
 
 
-def compared(found: Look, path: Folder, note: Optional[Note]) -> Iterator[Line]:
+def compared(found: Look, how: How, note: Optional[Note], before: str) -> Iterator[Line]:
     """What is said of a market beside a note, which is written anew where nothing is found."""
+    assert how.note is not None
     try:
         why = behind(found, note) if note else None
         if why:
             yield Line(why)
-        elif found.current and not found.found:
-            if note and not noted_file(found, note):
+        if found.current and (how.accept or not why and not found.found):
+            if note and not why and not noted_file(found, note):
                 gone = f"the note has {note}, which later rotations wrote over: it can't be compared"
                 yield Line(gone, is_finding=False)
-            if read_note(path) == note:  # else another guard has written one meanwhile, which stays
-                write_note(path, note_of(found.current))
+            if note and not note.counts:
+                form = "the note is of an older form, with one record's digest alone: it gets a sum over all"
+                yield Line(form, is_finding=False)
+            older = older_of(found)
+            if how.quick and older and not before and not how.accept:
+                stays = "the note stays: a quick look doesn't show that both files belong together"
+                yield Line(stays, is_finding=False)
+            elif how.accept or read_note(how.note) == note:  # else another guard has written one meanwhile, which stays
+                write_note(how.note, note_of(found, older.counts if how.accept and older else before))
     except (Unfit, OSError) as fault:
         yield Line(f"the note: {fault}")
 
@@ -682,14 +822,31 @@ def main(words: List[str]) -> int:
     parser = parser_of("guard", __doc__, EXAMPLES)
     parser.add_argument("folder", metavar="FOLDER", help="the market's folder")
     parser.add_argument("--note", metavar="FILE", help="compare with this note, and renew it where nothing is found")
+    parser.add_argument("--accept", action="store_true", help="with --note: write it over what was found")
+    parser.add_argument("--quick", action="store_true", help="compare two files by each client's last number alone")
     parser.add_argument("--mend", action="store_true", help="open the gates that rotted: on a copy first")
+    parser.add_argument("--adopt-unproved", action="store_true", help="take over what an unproved program wrote")
     parser.add_argument("--answered", action="store_true", help="with --mend: also what a stop may have left")
     parser.add_argument("--dry-run", action="store_true", help="with --mend: leave it at the copy")
     add_forms(parser)
     asked = parser.parse_args(words)
     if (asked.answered or asked.dry_run) and not asked.mend:
         parser.error("--answered and --dry-run go with --mend")
+    if asked.accept and asked.note is None:
+        parser.error("--accept goes with --note")
+    if asked.adopt_unproved:
+        return ended("guard", lambda: _adopted(asked), asked.json)
     return ended("guard", lambda: _mended_and_judged(asked), asked.json)
+
+
+def _adopted(asked: Namespace) -> int:
+    """Takes over what an unproved program wrote. Gives the status."""
+    from .adopt import adopt  # not at the top: it holds the files as the guard does
+
+    with bounded(DAY):
+        said = adopt(asked.folder)
+    sys.stdout.write(as_json({"folder": asked.folder, "adopted": said}) if asked.json else f"{said}\n")
+    return 0
 
 
 def _mended_and_judged(asked: Namespace) -> int:
@@ -713,7 +870,12 @@ def _mended_and_judged(asked: Namespace) -> int:
             refused = True
     try:
         with Bar() as bar:
-            found = judged(asked.folder, asked.note, bar)
+            found = judged(asked.folder, How(asked.note, asked.accept, asked.quick, bar))
+            if asked.accept and found.found:
+                for line in found.lines:
+                    say(line.text)
+                say(f"{asked.note}: it is written over that. What is said now:")
+                found = judged(asked.folder, How(asked.note, False, asked.quick, bar))
     except (Unfit, OSError) as fault:
         found = found._replace(lines=[Line(f"the guard can't look: {fault}")])
     may_start = not refused and not found.found

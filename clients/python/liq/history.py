@@ -10,7 +10,7 @@ from pathlib import Path
 from typing import Any, Callable, Optional, Tuple
 
 from .journal import BYTES_MOST, FRONT_BYTES, LIMITS, Checkpoint, Command, DamagedFile, Disk, KeptReply
-from .journal import is_open, open_file, read_header
+from .journal import is_open, open_file, read_header, settle
 from .model import Market, carry_out
 from .model.disks import checkpoint_bytes
 from .model.requests import is_repeated, refusal_text
@@ -44,6 +44,7 @@ def read_begin(path: Path, most: int = BYTES_MOST) -> Disk:
             if not piece:
                 raise DamagedFile(path, 0, "bytes are missing")
             data += piece
+        settle(file)
     return Disk(path, data=data[:begin])
 
 

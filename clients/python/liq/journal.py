@@ -4,9 +4,13 @@ It needs no program, and leaves the files alone. Read copies, or files that no l
 written may be missing. A reader of journals does not know the rules: it finds out damage to the bytes, and no command
 that liq would refuse.
 
+liq opens a gate before it syncs it, so a reader sees a record that a loss of power may still take back. So whatever is
+read here of a market's files is settled before anything is said of it (`settle`).
+
 It waits for nothing, and takes no more than stated: what is no regular file is not read (`NoRegularFile`), and neither
 is one of more than `BYTES_MOST` bytes, or of as many as a call is told (`TooMuch`), be they holes or not.
 """
+import errno
 import hashlib
 import os
 import stat
@@ -370,6 +374,7 @@ def holds_journal(folder: Folder) -> bool:
     for path in files_of(folder):
         with open_file(path) as file:
             if is_open(file.read(57)):
+                settle(file)
                 return True
     return False
 
@@ -388,15 +393,26 @@ def open_file(path: Folder) -> BinaryIO:
     return open(descriptor, "rb", buffering=0)
 
 
+def settle(file: BinaryIO) -> None:
+    """Waits until what was read of a file is on its disk: no loss of power takes it back then. What can't be synced is
+    let through; where a sync fails, that is an OSError, and nothing may be said of what was read."""
+    try:
+        os.fsync(file.fileno())
+    except OSError as fault:
+        if fault.errno != errno.EINVAL:
+            raise
+
+
 def pieces_of(path: Folder, most: int = BYTES_MOST) -> Iterator[bytes]:
-    """A regular file's bytes, piece by piece. More than `most` are refused before any is given, by the length that the
-    file states; or, where it grows meanwhile or states none, once so many have come."""
+    """A regular file's bytes, piece by piece, settled behind the last one. More than `most` are refused before any is
+    given, by the length that the file states; or, where it grows meanwhile or states none, once so many have come."""
     with open_file(path) as file:
         left = most
         fits = os.fstat(file.fileno()).st_size <= most
         while fits:
             piece = file.read(min(PIECE_BYTES, left + 1))
             if not piece:
+                settle(file)
                 return
             left -= len(piece)
             fits = left >= 0

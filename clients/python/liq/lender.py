@@ -19,6 +19,7 @@ from .backup import backup
 from .batch import COMMANDS, Given, is_array
 from .client import AMOUNTS, Calls, Row
 from .errors import BadType, BadValue, LiqError
+from .grammar import Query
 from .journal import VERBS, Command, Journal, read_checkpoint, read_command
 from .library import ITEM_BYTES
 from .memory import Market
@@ -26,7 +27,7 @@ from .model import Market as Model
 from .model import carry_out, market_on, read_request
 from .model.amounts import ETHER, ONE, RECORDS_MOST, part_of
 from .model.rate import borrow_rate, decayed, redeem_rate, risen
-from .model.requests import Query, next_number, rotate
+from .model.requests import next_number, rotate
 from .model.state import Fate
 from .queries import Queries
 from .refusals import Refusal

@@ -87,6 +87,8 @@ class Library:
 
     def __init__(self, path: Folder) -> None:
         self.path = Path(path)
+        self.one: Any
+        self.many: Any
         self.one, self.many = Bound(ctypes.PyDLL(str(path)), (None, None)), Bound(ctypes.CDLL(str(path)), ITEMS)
 
 
@@ -161,4 +163,4 @@ def missing(why: str, command: str = f"{TOP}/scripts/build --library") -> NoLibr
         why += f": build it by `{command}`"
     elif command:
         why += ": in a checkout of liq `scripts/build --library` builds one"
-    return NoLibrary(70, f"{why}; a Service needs none")
+    return NoLibrary(70, f'{why}; Market(engine="model") and a Service need none')

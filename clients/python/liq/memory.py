@@ -11,6 +11,7 @@ Calls, refusals and rows are those of a `Service`. Nothing outlasts the process 
 """
 import ctypes
 import hashlib
+import os
 import struct
 import threading
 import weakref
@@ -37,6 +38,9 @@ ROWS_AT_ONCE = 2**16
 TEXT_AT_ONCE = 2**16
 ACCOUNTS_AT_ONCE = 2**10
 SAVE_NAME = b"LIQSNAP1"
+LIBRARY, MODEL = "library", "model"  # engines
+UNPROVED = r"Market\(engine=.model.\)"  # how the warning begins that MODEL is unproved
+NO_LIBRARY = Path("liq.model")  # the path of what the model stands on
 NO_WORDS = hint_words(NO_HINTS)
 DONE: Any = Done()
 new_tuple = tuple.__new__
@@ -91,12 +95,17 @@ class Market(Queries):
     `rotate` as the client `rotating`, whose next number that takes. With None nobody does, and each command is refused:
     `JournalFull`.
 
+    `engine` is "library", the proved one, or "model": the rules in Python, unproved and slower, which want no
+    library. Where it is None it is LIQ_ENGINE of the environment, and else the library.
+
     A copy of it, deep or not, is a fork; pickled it is what `save` gives. The forked child of a process without other
     threads has forks of all its markets; where there were other threads it may call none.
     """
 
-    def __init__(self, library: Optional[Folder] = None, rotating: Optional[Whole] = ROTATING) -> None:
-        self._set_up(load_library(library), rotating)
+    def __init__(
+        self, library: Optional[Folder] = None, rotating: Optional[Whole] = ROTATING, engine: Optional[str] = None
+    ) -> None:
+        self._set_up(engine_of(library, engine), rotating)
         must(self._calls.one.open(self._held.at))
 
     def _set_up(self, calls: Library, rotating: Optional[Whole]) -> None:
@@ -131,6 +140,11 @@ class Market(Queries):
         return self._calls.path
 
     @property
+    def engine(self) -> str:
+        """What answers: "library", or "model" where it is unproved."""
+        return MODEL if self._calls.path == NO_LIBRARY else LIBRARY
+
+    @property
     def closed(self) -> bool:
         """Whether it was closed."""
         return self._held.at is None
@@ -163,9 +177,12 @@ class Market(Queries):
         return bytes(saved)
 
     @classmethod
-    def load(cls, saved: bytes, library: Optional[Folder] = None, rotating: Optional[Whole] = ROTATING) -> "Market":
+    def load(
+        cls, saved: bytes, library: Optional[Folder] = None, rotating: Optional[Whole] = ROTATING,
+        engine: Optional[str] = None,
+    ) -> "Market":
         """The market that was saved. Raises `BadSave`. Nobody knows the history of one that comes in."""
-        made, data = cls._empty(load_library(library), rotating), bytearray(memoryview(saved))
+        made, data = cls._empty(engine_of(library, engine), rotating), bytearray(memoryview(saved))
         status = made._calls.many.load(made._held.at, address_of(data), len(data))
         if status == BAD:
             raise BadSave("these are not the bytes of a market that was saved")
@@ -173,12 +190,12 @@ class Market(Queries):
         return made
 
     def __reduce__(self) -> Tuple[Any, ...]:
-        return load_again, (self.save(), self.rotating)
+        return load_again, (self.save(), self.rotating, self.engine)
 
     @classmethod
     def of_folder(
         cls, folder: Folder, most: int = BYTES_MOST, library: Optional[Folder] = None,
-        rotating: Optional[Whole] = ROTATING,
+        rotating: Optional[Whole] = ROTATING, engine: Optional[str] = None,
     ) -> "Market":
         """The market that stands on a folder's files, each of at most `most` bytes. Nothing is written there, and no
         run may have them open: `liq.backup` copies them beside one. Raises `NoJournal`, or `DamagedFile` as
@@ -187,7 +204,7 @@ class Market(Queries):
             raise NoJournal(folder)
         disk = Journal(folder, most).current
         try:
-            made = cls.load(save_of(disk), library, rotating)
+            made = cls.load(save_of(disk), library, rotating, engine)
         except BadSave:
             raise DamagedFile(disk.path, 0, "its checkpoint is of no sound market") from None
         made._follow(disk)
@@ -464,9 +481,23 @@ def save_of(disk: Disk) -> bytes:
     return saved + hashlib.sha256(saved).digest()
 
 
-def load_again(saved: bytes, rotating: Optional[int]) -> Market:
+def load_again(saved: bytes, rotating: Optional[int], engine: Optional[str] = None) -> Market:
     """A market that was pickled."""
-    return Market.load(saved, rotating=rotating)
+    return Market.load(saved, rotating=rotating, engine=engine)
+
+
+def engine_of(library: Optional[Folder], engine: Optional[str]) -> Library:
+    """The calls of an engine, by its name. Raises `NoLibrary`."""
+    named = engine or os.environ.get("LIQ_ENGINE") or LIBRARY
+    if named not in (LIBRARY, MODEL):
+        raise BadValue(f"an engine is {LIBRARY} or {MODEL}, and not {named!r}")
+    if named == LIBRARY or library is not None and engine is None:
+        return load_library(library)
+    if library is not None:
+        raise BadValue(f"a library is named, and the engine is {MODEL}, which has none")
+    from .model.engine import model_library  # only here: the model stands on this package's words, and they on this
+
+    return model_library()
 
 
 def must(status: int) -> None:

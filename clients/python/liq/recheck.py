@@ -233,7 +233,7 @@ def recheck(
     With an archive all its generations are carried out too. The program opens the copies before they are followed, and
     refuses what the rules do not allow. There is no bound on time here: `main` calls it within `scratch.bounded`.
     """
-    named, bar = named_in(archive) if archive is not None else None, bar or Bar()
+    named, bar = named_in(archive, folder) if archive is not None else None, bar or Bar()
     with scratch(folder, "liq-recheck") as room:
         copied, again = room / "copy", room / "again"
         copied.mkdir()

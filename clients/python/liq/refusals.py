@@ -9,6 +9,7 @@ from typing import ClassVar, Dict, Sequence, Tuple, Type, get_type_hints
 from .errors import BadValue, LiqError
 
 LOG = logging.getLogger("liq")
+LOG.addHandler(logging.NullHandler())  # who wants to hear it adds one
 
 
 class Refusal(LiqError):

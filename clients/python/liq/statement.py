@@ -29,7 +29,7 @@ from fractions import Fraction
 from pathlib import Path
 from typing import Any, Callable, Dict, Iterator, List, NamedTuple, Optional, Tuple
 
-from .archive import Kept, NotArchived, Source, named_in, sources
+from .archive import Differing, Kept, NotArchived, Source, named_in, sources
 from .backup import backup
 from .console import add_seconds, as_csv, as_process, ended, parser_of, refused
 from .ends import Folder, TooMuch, Unfit
@@ -259,7 +259,7 @@ def statement(
 
     There is no bound on time here: `main` calls it within `scratch.bounded`.
     """
-    named = named_in(archive) if archive is not None else []
+    named = named_in(archive, folder) if archive is not None else []
     with scratch(folder, "liq-statement") as room:
         backup(folder, room, bar=bar)
         return _stated(room, archive, named, day or today(), earlier, bar or Bar())
@@ -282,6 +282,8 @@ def _stated(
         left = left_beside(room)
     except NotArchived as gap:
         raise NotStated(str(gap), stands_to(gap.directory) or NOTHING) from None
+    except Differing as fault:
+        raise NotStated(str(fault), followed.stands() or NOTHING) from None
     except DamagedFile as fault:
         raise NotStated(str(fault), followed.stands() or stands_beside(room, fault.path) or NOTHING) from None
     market = followed.market

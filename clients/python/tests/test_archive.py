@@ -10,10 +10,10 @@ from pathlib import Path
 from typing import List, Optional, Tuple
 from unittest import mock
 
-from liq import Journal, NoJournal, Service, Unfit, archive, statement
+from liq import Journal, NoJournal, Service, Unfit, archive, recheck, statement
 from liq.archive import NotArchived, kept_in
 from liq.history import digest_of
-from liq.journal import Command, Disk
+from liq.journal import Command, Disk, files_of
 from liq.model import market_on
 from liq.progress import Bar
 
@@ -131,7 +131,7 @@ class Copies(InFolder):
     def test_damage(self) -> None:
         self.made.rotate()
         left, (kept,) = self.made.folder / "left.liq", archive.archive(self.made.folder, self.directory)
-        for path, why in ((kept.path, "its bytes are not those of its name"), (left, "it is not what")):
+        for path, why in ((kept.path, "its bytes are not those of its name"), (left, "left.liq has other commands")):
             data = path.read_bytes()
             path.write_bytes(data[:100] + bytes([data[100] ^ 1]) + data[101:])
             self.assertIn(why, self.refused())
@@ -150,7 +150,33 @@ class Copies(InFolder):
         other.call(1, "price 450000000")
         other.rotate()
         shutil.copy(other.folder / "left.liq", self.made.folder / "left.liq")
-        self.assertIn("it is not what", self.refused())
+        self.assertIn("generation 1 differs: ", self.refused())
+        self.assertIn("is sound, and left.liq goes on behind it. Where the market's files count, move", self.refused())
+        kept_in(self.directory)[0].path.rename(self.folder / "moved-away")
+        shutil.copy(other.folder / "right.liq", self.made.folder / "right.liq")
+        self.assertEqual((self.archive(), self.generations()), ([1], [1]))
+
+    def test_a_copy_is_a_file_of_its_own(self) -> None:
+        """The next rotation would write over what is the market's own file."""
+        self.made.rotate()
+        self.archive()
+        kept, left = kept_in(self.directory)[0].path, self.made.folder / "left.liq"
+        data = kept.read_bytes()
+        for link, why in (
+            (lambda: kept.symlink_to(left), f"{kept.name} is a link, and a copy is a file of its own"),
+            (lambda: os.link(left, kept), f"{kept.name} is the market's own file, by a second name"),
+        ):
+            kept.unlink()
+            left.write_bytes(data)
+            link()
+            self.assertEqual(self.refused(), why)
+            for reader in (statement.main, recheck.main):
+                with contextlib.redirect_stdout(io.StringIO()) as said:
+                    status = status_of(reader, "--archive", str(self.directory), str(self.made.folder))
+                self.assertEqual((status, why in said.getvalue()), (1, True), said.getvalue())
+        kept.unlink()
+        kept.write_bytes(data)
+        self.assertEqual(self.archive(), [])
 
     def test_a_checkpoint_that_is_not_the_state_before(self) -> None:
         self.made.rotate()
@@ -287,15 +313,24 @@ class Copies(InFolder):
             return what
 
         real_sync, real_replace, real_fsync = archive.sync, os.replace, os.fsync
+        market = {path.stat().st_ino for path in files_of(self.made.folder)}
+
+        def fsync(file: int) -> None:
+            note("settled" if os.fstat(file).st_ino in market else "sync")
+            real_fsync(file)
+
         with mock.patch.object(archive, "sync", lambda folder: (note(f"names in {folder.name}"), real_sync(folder))), \
                 mock.patch.object(os, "replace", lambda one, other: (note("name"), real_replace(one, other))), \
-                mock.patch.object(os, "fsync", lambda file: (note("sync"), real_fsync(file))):
+                mock.patch.object(os, "fsync", fsync):
             self.assertEqual(self.archive(), [1])
+            self.assertEqual((done[:4], done.count("settled")), (["settled"] * 4, 4))
+            del done[:4]
             names = [f"names in {folder}" for folder in (self.folder.name, "of", "many", "archives")]
             self.assertEqual(done, [
                 names[0], "sync", names[1], "sync", names[2], "sync", "sync", "name", names[3], "sync"])
             done.clear()
-            self.assertEqual((self.archive(), done), ([], [names[3], "sync"]))
+            self.assertEqual((self.archive(), done[-2:]), ([], [names[3], "sync"]))
+            self.assertEqual(done.count("settled"), 3)
 
     def test_nothing_is_left_of_a_copy_that_failed(self) -> None:
         self.made.rotate()

@@ -14,9 +14,10 @@ from typing import Iterator, Type
 import liq
 from liq import refusals
 from liq.across import NoLine
-from liq.archive import NotArchived
+from liq.archive import Differing, NotArchived
 from liq.batch import BatchStopped
 from liq.ends import End, MarketExists, NoJournal, TooMuch
+from liq.adopt import NotAdopted
 from liq.errors import LiqError, TimedOut
 from liq.gateway.book import BadBook
 from liq.gateway.desk import Stopped
@@ -24,16 +25,19 @@ from liq.gateway.lines import Refused
 from liq.gateway.sockets import BadSocket
 from liq.guard import Parted
 from liq.journal import DamagedFile, NoRegularFile
+from liq.model.streams import BadInput, Halt
 from liq.refusals import Refusal, read_refusal
 from liq.statement import NotStated
 
 MADE = {  # by what an exception is made where that is not a message alone
     NoJournal: (Path("a"),), MarketExists: ("a",), NoRegularFile: (Path("a/left.liq"),),
     DamagedFile: (Path("a/left.liq"), 3, "its digest is another"), TooMuch: ("a/left.liq has", 5, "bytes"),
-    Parted: (1, 2), NotArchived: (Path("a"), "generation 2 is missing"), NoLine: ("staking", 3),
+    Parted: (1, 2), Differing: (Path("a/1-0.liq"), Path("b/left.liq"), 1, True),
+    NotArchived: (Path("a"), "generation 2 is missing"), NoLine: ("staking", 3),
     BatchStopped: (3, 8, (1, 2)), TimedOut: (2.5, "1 1 fund 1 5"),
     BadBook: ("a/book", "it is none"), Stopped: (5, "disk fault"), Refused: ("verb", "it is none of yours"),
     BadSocket: ("a/callers", "it is heard"),
+    NotAdopted: ("a", "it is in generation 2"), Halt: (5, "disk fault"), BadInput: (3, b"x"),
     NotStated: ("left.liq is damaged at 3: its digest is another", ("nothing stands before that",)),
 }
 
@@ -54,7 +58,8 @@ def classes() -> Iterator[Type[BaseException]]:
     """The exceptions that the modules of the package define."""
     for module in modules():
         for name, each in sorted(vars(importlib.import_module(module)).items()):
-            if isinstance(each, type) and issubclass(each, BaseException) and each.__module__ == module:
+            is_raised = isinstance(each, type) and issubclass(each, BaseException) and not issubclass(each, Warning)
+            if is_raised and each.__module__ == module:
                 yield each
 
 

@@ -1,6 +1,8 @@
 """What the guard says of files that scripts/make-disks makes, which knows the formats alone, and of those of the program."""
 import contextlib
+import errno
 import fcntl
+import hashlib
 import io
 import os
 import random
@@ -13,7 +15,7 @@ from unittest import mock
 
 from liq import Journal, guard
 from liq.ends import Damaged, Unfit
-from liq.journal import SIDES
+from liq.journal import SIDES, holds_journal
 from liq.progress import Bar
 from liq.words import state
 
@@ -290,8 +292,10 @@ class Notes(Looking):
         self.assertEqual(self.run_guard("--note", self.note), (0, ""))
         title, *first = Path(self.note).read_text().splitlines()
         digest = forged(FUNDS[:4])["left"][gate_of(5) - 32 : gate_of(5)].hex()
-        self.assertEqual(first, ["generation 1", "records 4", f"digest {digest}"])
-        self.assertIn("generation, records, and the digest", title)
+        counts = hashlib.sha256(forged(FUNDS[:4])["left"][: gate_of(5)] + b"\0").hexdigest()
+        rows = ["generation 1", "records 4", f"digest {digest}", f"sha256 {counts}", "before -", "numbers 1:4"]
+        self.assertEqual(first, rows)
+        self.assertTrue(title.startswith("liq.guard 2: "))
         self.assertEqual(Path(self.note).stat().st_mode & 0o777, 0o600)
         self.put(forged(FUNDS))
         self.assertEqual(self.run_guard("--note", self.note), (0, ""))
@@ -331,23 +335,69 @@ class Notes(Looking):
         self.assertEqual(status, 0)
         self.assertIn("the note has generation 1 with 6 records, which later rotations wrote over", said)
         self.assertEqual(Path(self.note).read_text().splitlines()[1:3], ["generation 3", "records 0"])
+        for lines, last in ((["7 1 fund 7 7", "7 2 rotate", "7 3 rotate"], 0), (["1 1 rotate", "1 2 rotate"], 2)):
+            self.put(forged(FUNDS))
+            Path(self.note).unlink()
+            self.run_guard("--note", self.note)
+            self.put(forged(lines))
+            self.behind(f"another history: client 1's last number is {last}, and it was 6")
 
     def test_a_note_that_another_guard_renews_meanwhile(self) -> None:
         """The note is older than the look, so what was added since is no finding."""
         self.put(forged(FUNDS[:4]))
         self.run_guard("--note", self.note)
 
-        def slowly(folder: Path, bar: Optional[Bar] = None) -> guard.Look:
-            found = look(folder, bar)
+        def slowly(folder: Path, bar: Optional[Bar] = None, note: Optional[guard.Note] = None) -> guard.Look:
+            found = look(folder, bar, note)
             guard.write_note(self.note, newer)
             return found
 
         look = guard.look
         found = look(self.folder)
-        newer = guard.Note(1, 6, "0" * 64)
+        newer = guard.Note(1, 6, "0" * 64, "1" * 64, numbers=((1, 6),))
         self.assertIsNotNone(guard.behind(found, newer))
         with mock.patch.object(guard, "look", slowly):
             self.assertEqual(guard.guard(self.folder, self.note), [])
+
+    def test_a_record_that_was_written_anew(self) -> None:
+        """Records are not chained: an earlier one may have another command and the digest that belongs to it."""
+        self.put(forged(FUNDS))
+        self.run_guard("--note", self.note)
+        self.put(forged(["1 1 fund 1 1", "1 2 fund 2 200", *FUNDS[2:]]))
+        self.assertEqual(self.said(), ([], []))
+        self.behind("another history: what stands in front of it in generation 1 is not that of the note")
+        self.put(forged([*FUNDS, "1 7 fund 7 7", "2 1 rotate"]))
+        self.assertEqual(self.run_guard("--note", self.note), (0, ""))
+        others = forged(["1 1 fund 1 2", *FUNDS[1:]])["left"]
+        self.put({**forged([*FUNDS, "1 7 fund 7 7", "2 1 rotate"]), "left": others})
+        self.behind("right.liq: generation 1 does not lead to it: ")
+
+    def test_a_note_of_the_older_form(self) -> None:
+        """It had the last record's digest alone. It is compared, and then written anew."""
+        digest = forged(FUNDS)["left"][gate_of(7) - 32 : gate_of(7)].hex()
+        older = f"{guard.OLD_TITLE}\ngeneration 1\nrecords 6\ndigest {digest}\n"
+        Path(self.note).write_text(older)
+        self.put(forged(FUNDS[:5]))
+        self.behind("behind the note: it has generation 1 with 6 records")
+        self.put(forged(FUNDS))
+        told = "the note is of an older form, with one record's digest alone: it gets a sum over all\n"
+        self.assertEqual(self.run_guard("--note", self.note), (0, told))
+        self.assertEqual(self.run_guard("--note", self.note), (0, ""))
+        self.assertIn("\nsha256 ", Path(self.note).read_text())
+
+    def test_a_finding_that_is_accepted(self) -> None:
+        """By the operator's word alone, who has read each line."""
+        self.put(forged(FUNDS))
+        self.run_guard("--note", self.note)
+        self.put(forged(FUNDS[:5]))
+        for _ in range(2):
+            self.behind("behind the note: ")
+        status, said = self.run_guard("--note", self.note, "--accept")
+        told = f"{self.note}: it is written over that. What is said now:"
+        self.assertEqual((status, said.splitlines()[-1]), (0, told))
+        self.assertEqual(self.run_guard("--note", self.note), (0, ""))
+        with contextlib.redirect_stderr(io.StringIO()):
+            self.assertRaises(SystemExit, self.run_guard, "--accept")
 
     def test_a_last_gate_that_rotted_stands_behind_the_note(self) -> None:
         self.put(forged(FUNDS))
@@ -367,6 +417,109 @@ class Notes(Looking):
         os.mkfifo(self.note)
         self.assertEqual(self.run_guard("--note", self.note)[0], 1)
         self.assertEqual(self.run_guard("--note", str(self.folder / "none" / "note"))[0], 1)
+
+
+class Beside(Looking):
+    """Two files, each of which is sound."""
+
+    def setUp(self) -> None:
+        super().setUp()
+        self.note = str(self.folder / "note")
+
+    def mixed(self, older: List[str], newer: List[str], side: str = "right") -> None:
+        """The files after some lines, one of which is that after others."""
+        self.put({**forged(older), side: forged(newer)[side]})
+
+    def found(self, *words: str) -> List[str]:
+        """What is found, and sees to it that a note is neither made nor written over it."""
+        kept = Path(self.note).read_bytes() if Path(self.note).exists() else None
+        status, said = self.run_guard("--note", self.note, *words)
+        self.assertEqual((Path(self.note).read_bytes() if Path(self.note).exists() else None), kept)
+        self.assertEqual(status, 1, said)
+        return said.splitlines()
+
+    def test_files_of_two_markets(self) -> None:
+        mine, other = FUNDS, ["7 1 fund 7 70", "7 2 rotate"]
+        self.put(forged(mine))
+        self.run_guard("--note", self.note)
+        self.mixed(mine, other)
+        (said,) = self.found()
+        self.assertTrue(said.startswith("right.liq: generation 1 does not lead to it: no 70 1 to 7 2 rotate; "), said)
+        self.assertTrue(said.endswith("these are not two files of one market: bring back both of one copy"))
+        (said,) = self.found("--quick")
+        self.assertIn("client 1's last number is 0 in it, and 6 behind the commands of generation 1", said)
+
+    def test_a_fork_with_as_many_commands_of_each_client(self) -> None:
+        """A quick look lets that pass."""
+        mine, other = [*FUNDS, "2 1 rotate"], [*FUNDS[:5], "1 6 fund 6 7", "2 1 rotate"]
+        self.mixed(mine, other)
+        self.assertIn("brought: it has 22, and the commands lead to 21; these are not two", self.found()[0])
+        told = "the note stays: a quick look doesn't show that both files belong together\n"
+        self.assertEqual(self.run_guard("--note", self.note, "--quick"), (0, told))
+        self.assertFalse(Path(self.note).exists())
+
+    def test_what_is_accepted_is_not_carried_out_again(self) -> None:
+        self.mixed([*FUNDS, "2 1 rotate"], [*FUNDS[:5], "1 6 fund 6 7", "2 1 rotate"])
+        self.found()
+        self.assertEqual(self.run_guard("--note", self.note, "--accept")[0], 0)
+        self.assertEqual(self.run_guard("--note", self.note), (0, ""))
+
+    def test_two_files_are_carried_out_once(self) -> None:
+        lines = [*FUNDS, "2 1 rotate", "1 7 fund 1 1"]
+        with mock.patch.object(guard, "unlinked", wraps=guard.unlinked) as carried_out:
+            for count in (7, 8, 8):
+                self.put(forged(lines[:count]))
+                self.assertEqual(self.run_guard("--note", self.note), (0, ""))
+            self.assertEqual(carried_out.call_count, 1)
+            self.put(forged([*lines, "2 2 rotate"]))
+            self.assertEqual(self.run_guard("--note", self.note), (0, ""))
+            self.assertEqual(carried_out.call_count, 2)
+
+    def test_generations_that_do_not_adjoin(self) -> None:
+        later = [*FUNDS, "2 1 rotate", "2 2 rotate", "2 3 rotate"]
+        self.mixed(FUNDS, later)
+        said = self.found()[0]
+        begins = "left.liq: it is of generation 1, and beside generation 4 a rotation leaves 3; "
+        self.assertTrue(said.startswith(begins), said)
+
+    def test_an_empty_file_beside_a_later_generation(self) -> None:
+        self.put({**forged([*FUNDS, "2 1 rotate"]), "left": b""})
+        told = "left.liq: it is empty beside generation 2, so generation 1 is on no file. The next rotation takes it\n"
+        self.assertEqual(self.run_guard("--note", self.note), (0, told))
+        self.put({**forged(FUNDS), "right": b""})
+        self.assertEqual(self.said(), ([], []))
+
+
+class Settled(Looking):
+    """liq opens a gate before it syncs it, so nothing is said of a record that a loss of power may take back."""
+
+    def test_what_is_read_is_synced_before_anything_is_said(self) -> None:
+        self.put(forged([*FUNDS, "2 1 rotate", "1 7 fund 1 1"]))
+        note, synced, sync = self.folder / "note", [], os.fsync
+
+        def noted(descriptor: int) -> None:
+            synced.append(os.fstat(descriptor).st_ino)
+            self.assertFalse(note.exists())
+            sync(descriptor)
+
+        files = {(self.folder / f"{side}.liq").stat().st_ino for side in SIDES}
+        with mock.patch("os.fsync", noted):
+            found = guard.judged(self.folder)
+        self.assertEqual((found.lines, set(synced)), ([], files))
+
+    def test_a_sync_that_fails_is_said_and_nothing_else(self) -> None:
+        self.put(forged(FUNDS[:5]))
+        self.turn("left", gate_of(3), 7)
+        with mock.patch("os.fsync", side_effect=OSError(errno.EIO, "Input/output error")):
+            self.assertEqual(self.run_guard(), (1, "the guard can't look: [Errno 5] Input/output error\n"))
+            self.assertRaises(OSError, Journal, self.folder)
+            self.assertRaises(OSError, holds_journal, self.folder)
+
+    def test_what_cannot_be_synced_is_let_through(self) -> None:
+        self.put(forged(FUNDS))
+        with mock.patch("os.fsync", side_effect=OSError(errno.EINVAL, "Invalid argument")):
+            self.assertEqual(self.run_guard(), (0, ""))
+            self.assertEqual(len(Journal(self.folder).lines), 6)
 
 
 class Mended(Looking):
@@ -662,7 +815,8 @@ class OfProgram(OverProgram, Looking):
         self.assertRaises(Damaged, state, self.folder)
         (self.folder / "left.liq").rename(self.top / "older")
         self.assertEqual(state(self.folder), sound)
-        self.assertEqual(self.said(), ([], []))
+        empty = "left.liq: it is empty beside generation 2, so generation 1 is on no file. The next rotation takes it"
+        self.assertEqual(self.said(), ([], [empty]))
 
     def test_a_run_that_is_killed_leaves_no_finding(self) -> None:
         chance = random.Random(3)

@@ -39,13 +39,13 @@ class Missing(InFolder):
             os.environ.pop("LIQ_LIBRARY", None)
             told = self.refused()
         self.assertEqual(told,
-            f"there is no libliq.so: build it by `{TOP}/scripts/build --library`; a Service needs none")
+            f"there is no libliq.so: build it by `{TOP}/scripts/build --library`; Market(engine=\"model\") and a Service need none")
 
     def test_outside_a_checkout(self) -> None:
         with mock.patch.object(library, "TOP", self.folder):
             told = str(library.missing("there is no libliq.so", f"{self.folder}/scripts/build --library"))
         self.assertEqual(told,
-            "there is no libliq.so: in a checkout of liq `scripts/build --library` builds one; a Service needs none")
+            "there is no libliq.so: in a checkout of liq `scripts/build --library` builds one; Market(engine=\"model\") and a Service need none")
 
     def test_the_one_that_is_named(self) -> None:
         self.assertIn(f"there is no library at {self.folder}/x.so", self.refused(LIQ_LIBRARY=f"{self.folder}/x.so"))

@@ -308,7 +308,7 @@ for line in sys.stdin:
             os.kill(int(ran.stdout), 0)
 
     def test_nothing_is_printed_where_nobody_listens(self) -> None:
-        asked = [sys.executable, "-c", "import logging, liq; logging.getLogger('liq').error('x'); print(1)"]
+        asked = [sys.executable, "-c", "import logging; from liq import Refusal; logging.getLogger('liq').error('x'); print(1)"]
         environment = {**os.environ, "PYTHONPATH": str(TOP / "clients/python"), "PYTHONDONTWRITEBYTECODE": "1"}
         ran = subprocess.run(asked, capture_output=True, text=True, env=environment)
         self.assertEqual((ran.stdout, ran.stderr), ("1\n", ""))

@@ -258,7 +258,7 @@ class WhatItSays(InFolder):
             made.write()
             found = of(self.market)
             self.assertEqual(([row.version for row in found.generations], found.faults), (versions, []))
-            note, last = guard.note_of(guard.look(self.market).current), found.generations[-1]
+            note, last = guard.note_of(guard.look(self.market)), found.generations[-1]
             self.assertEqual((note.generation, note.records, note.digest), (last.generation, last.records, last.last))
 
     def test_a_program_is_not_wanted(self) -> None:
@@ -626,7 +626,7 @@ class Refused(InFolder):
         self.assertIn("left.liq is damaged at 0: generation 2 does not lead to it: ", lines[0])
         self.assertEqual(lines[-1], "journal 2 1")
         archive.archive(other.folder, self.folder / "foreign")
-        self.assertIn("it is not what", self.refusal("--archive", self.folder / "foreign")[0])
+        self.assertIn("generation 3 differs: ", self.refusal("--archive", self.folder / "foreign")[0])
 
     # ---- an archive with a gap
 
@@ -669,7 +669,7 @@ class Refused(InFolder):
         self.assertIn("is no regular file", self.refusal("--archive", self.directory)[0])
         kept.unlink()
         kept.symlink_to("/dev/zero")
-        self.assertIn("is no regular file", self.refusal("--archive", self.directory)[0])
+        self.assertIn("is a link, and a copy is a file of its own", self.refusal("--archive", self.directory)[0])
 
     def test_a_checkpoint_that_is_not_sound(self) -> None:
         """Nothing stands before it that it could be compared with."""
@@ -719,7 +719,7 @@ class Refused(InFolder):
         modelled.rewrite(self.right, lambda found: found[:-1])
         here = self.refusal("--archive", self.directory)
         self.assertEqual(self.refusal("--archive", self.directory), here)
-        self.assertIn("it is not what", here[0])
+        self.assertIn("generation 2 differs: ", here[0])
 
     def test_files_that_are_older_than_an_archive_or_a_statement(self) -> None:
         shutil.copytree(self.market, self.folder / "old")

@@ -24,6 +24,7 @@ from typing import List, Optional
 from ..console import as_process, parser_of
 from ..ends import End, Unfit
 from ..errors import BadValue
+from ..unproved import refuse_unproved
 from .book import Book
 from .desk import Desk, Parts, Stopped, is_hopeless
 from .door import SECONDS_BETWEEN_SWEEPS, SECONDS_IDLE, Door
@@ -103,12 +104,15 @@ class Gateway:
 
 async def serve(asked: argparse.Namespace, log: Log) -> Stopped:
     """Begins all parts, and serves."""
+    refuse_unproved(asked.folder)
     with contextlib.ExitStack() as opened:
         table = read_table(asked.table)
         book = Book(asked.book or Path(asked.folder) / BOOK)
         opened.callback(book.close)
         of_systemd = given()
         callers = of_systemd.get(CALLERS)
+        if callers is None and asked.socket is None and asked.adopt:
+            return adopted(asked.folder, book, log, table)
         if callers is None:
             if asked.socket is None:
                 raise Stopped(2, "--socket is missing, and systemd gave none")
@@ -124,6 +128,17 @@ async def serve(asked: argparse.Namespace, log: Log) -> Stopped:
     return why
 
 
+def adopted(folder: Path, book: Book, log: Log, table: Table) -> Stopped:
+    """Has the book go on from the market, and serves nobody."""
+    run = Run(folder)
+    try:
+        desk = Desk(Parts(run, book, log, Counts()), table, lambda _: None, adopts=True)
+        desk.stop()
+        return desk.work()
+    finally:
+        run.kill()
+
+
 def parsed(words: List[str]) -> argparse.Namespace:
     parser = parser_of("gateway", __doc__, EXAMPLES)
     parser.add_argument("folder", metavar="FOLDER", type=Path, help="the market's folder, which has a journal")
@@ -135,7 +150,7 @@ def parsed(words: List[str]) -> argparse.Namespace:
     parser.add_argument("--log", metavar="FILE", type=Path, help="JSON lines; standard error if left out")
     parser.add_argument("--idle", metavar="SECONDS", type=positive, default=SECONDS_IDLE, help="without a whole line")
     parser.add_argument("--mode", metavar="MODE", type=rights, default=0o660, help="of the sockets; 660 if left out")
-    parser.add_argument("--adopt", action="store_true", help="takes the market's numbers where the book has others")
+    parser.add_argument("--adopt", action="store_true", help="take the market's numbers where the book has others; without --socket, do that and end")
     return parser.parse_args(words)
 
 

@@ -12,8 +12,9 @@ import re
 from typing import NamedTuple, Optional, Tuple
 
 from ..errors import LiqError
+from ..grammar import NoRequest, Query, read_request
 from ..journal import Command
-from ..model.requests import NoRequest, Query, read_request
+from ..why import why, why_call
 
 LINE_BYTES_MOST = 250
 NO_KEY = "-"
@@ -58,6 +59,14 @@ def read_line(data: bytes) -> Line:
             raise Refused("bad_line", "it begins with no key: a word of letters, digits and ._:-, or - for none, or ?")
         command = read_request(f"0 0 {call}")
     except (NoRequest, UnicodeDecodeError):
-        raise Refused("bad_line", "it is no request: KEY VERB WORDS or ? QUERY WORDS, one space between two") from None
+        raise Refused("bad_line", reason_of(data)) from None
     assert isinstance(command, Command)
     return Line(None if key == NO_KEY else key, command.verb, command.accounts, call, False)
+
+
+def reason_of(data: bytes) -> str:
+    """Why a line is no request, for whoever wrote it."""
+    text = data.decode("latin-1")
+    _, space, call = text.partition(" ")
+    said = why(text) if text.startswith("?") else why_call(call) if space else "KEY VERB WORDS, or ? QUERY WORDS"
+    return f"it is no request: {said}"

@@ -26,8 +26,8 @@ from typing import Dict, List, NamedTuple, Optional, Set, Tuple
 
 from ..client import ACCOUNTS
 from ..ends import Folder, Unfit
+from ..grammar import QUERIES
 from ..journal import KINDS, open_file
-from ..model.requests import QUERIES
 from .lines import Line, Refused
 
 OWN = "gateway"

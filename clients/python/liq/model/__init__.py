@@ -10,7 +10,8 @@ It runs no part of liq, and it proves nothing. It is there to be compared with, 
 journal without the program.
 """
 from .disks import Disks
-from .requests import NoRequest, answer, carry_out, read_request, run
+from ..grammar import NoRequest, read_request
+from .requests import answer, carry_out, run
 from .state import Fee, Market, Offset, Own
 from .told import market_on
 

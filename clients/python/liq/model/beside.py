@@ -9,7 +9,8 @@ from ..shares import PlainLedger
 from .amounts import ONE, STEP, part_of, refuse, rounded_up
 from .owed import weight_of
 from .pool import Place, gain_by, place_after
-from .requests import check_accounts, read_words, refusal_text
+from ..grammar import read_words
+from .requests import check_accounts, refusal_text
 from .state import Event, Fee, Market, Offset, Own
 
 STAKED_MOST = 10**18

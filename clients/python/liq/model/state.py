@@ -2,6 +2,7 @@
 
 The names are those of `liq.journal.Checkpoint`, which is the same as a tuple.
 """
+import copy
 from typing import Any, Dict, List, NamedTuple, Optional, Tuple, Type, TypeVar, Union
 
 from ..journal import VERBS, Checkpoint, DepositRow, KeptReply, TroveRow
@@ -135,6 +136,14 @@ class Market:
                 for client, row in sorted(self.clients.items())
             },
         )
+
+    def copied(self) -> "Market":
+        """The same market once more. Rows are never changed, so tables alone are made anew."""
+        made = copy.copy(self)
+        for name, value in vars(self).items():
+            if isinstance(value, (dict, list)):
+                setattr(made, name, value.copy())
+        return made
 
     # ---- totals and the mode
 

@@ -3,10 +3,11 @@ in the order of its history."""
 import json
 from typing import Iterator, List
 
-from ..journal import HEADER_BYTES, LIMITS, RECORD_BYTES, Command, DamagedFile, Disk, read_command
+from ..journal import LIMITS, Command, DamagedFile, Disk
 from .amounts import ONE
+from .follower import Follower
 from .pool import position
-from .requests import SYSTEM, carry_out, is_repeated, pools, reply_to, system
+from .requests import SYSTEM, is_repeated, pools, reply_to, system
 from .state import Market, Offset
 from .troves import entire
 
@@ -51,16 +52,10 @@ def report_text(market: Market) -> str:
 
 
 def follow_text(data: bytes) -> List[str]:
-    """What `follow` tells of whole bytes that begin a journal of the first generation."""
-    market, at = Market(), HEADER_BYTES.get(data[1:9], 65)
-    if data[:1] == b"\1" and len(data) >= at:
-        market.limit = LIMITS[2 if at == 65 else 1]
-        while data[at : at + 1] == b"\1" and len(data) >= at + RECORD_BYTES:
-            command = read_command(data[at + 1 : at + 97])
-            assert command
-            carry_out(market, command)
-            at += RECORD_BYTES
-    return state_text(market)
+    """What `follow` tells of the bytes of a journal of the first generation. Raises `Halt` where they are damaged."""
+    follower = Follower()
+    follower.feed(data)
+    return state_text(follower.market)
 
 
 # ---- a generated load
