@@ -86,8 +86,8 @@ def archive(folder: Folder, directory: Folder, bar: Optional[Bar] = None) -> Lis
 
     There is none to make in the first generation, and where it is there already. Raises `NotArchived` where there is a
     gap, where something is damaged, or is of another market: then a further `rotate` would write over what is in no
-    archive. Raises `Unproved`, `NoJournal`, `TooMuch`, `NoRegularFile` and OSError besides. It holds no file and changes none of
-    the folder, so a run may go on meanwhile.
+    archive. Raises `Unproved`, `NoJournal`, `TooMuch`, `NoRegularFile` and OSError besides. It holds no file and
+    changes none of the folder, so a run may go on meanwhile.
     """
     folder, directory = Path(folder), Path(directory)
     refuse_unproved(folder)

@@ -39,6 +39,7 @@ TEXT_AT_ONCE = 2**16
 ACCOUNTS_AT_ONCE = 2**10
 SAVE_NAME = b"LIQSNAP1"
 LIBRARY, MODEL = "library", "model"  # engines
+UNPROVED = r"Market\(engine=.model.\)"  # how the warning begins that MODEL is unproved
 NO_LIBRARY = Path("liq.model")  # the path of what the model stands on
 NO_WORDS = hint_words(NO_HINTS)
 DONE: Any = Done()
@@ -94,8 +95,8 @@ class Market(Queries):
     `rotate` as the client `rotating`, whose next number that takes. With None nobody does, and each command is refused:
     `JournalFull`.
 
-    `engine` is "library", the proved one, or "model": the rules in Python, unproved and some hundred times slower,
-    which want no library. Where it is None it is LIQ_ENGINE of the environment, and else the library.
+    `engine` is "library", the proved one, or "model": the rules in Python, unproved and slower, which want no
+    library. Where it is None it is LIQ_ENGINE of the environment, and else the library.
 
     A copy of it, deep or not, is a fork; pickled it is what `save` gives. The forked child of a process without other
     threads has forks of all its markets; where there were other threads it may call none.

@@ -47,8 +47,8 @@ MINUTES = {"min": 1, "h": 60, "d": 1440}
 PARTS = ("in", "out", "borrow", "repay")  # of `adjust`, in the order of its words
 UNITS: Dict[str, str] = {  # of the names of a reply's values
     **dict.fromkeys((
-        "coll", "gain", "gas", "pool_coll", "spread_coll", "surplus", "drawn", "active_coll", "default_coll", "fee_coll",
-        "total_coll",
+        "coll", "gain", "gas", "pool_coll", "spread_coll", "surplus", "drawn", "active_coll", "default_coll",
+        "fee_coll", "total_coll",
     ), "ether"),
     **dict.fromkeys((
         "debt", "lusd", "pool_debt", "spread_debt", "repaid", "price", "active_debt", "default_debt", "reserve",
@@ -61,6 +61,7 @@ OF_VERBS = {("fee", "redeem"): "ether", ("fee", "open"): "LUSD", ("fee", "adjust
 OF_REFUSALS = {  # the unit of values whose names don't say it, by codes
     **dict.fromkeys((14,), "ether"), **dict.fromkeys((15, 24, 51, 62), "LUSD"), 63: "ether",
 }
+PRODUCTS = ("left", "right")  # both sides of a comparison, which say nothing to a reader
 WORDS = ("client", "again", "help", "quit")
 HISTORY = 1000  # lines that are kept
 
@@ -121,11 +122,15 @@ class ByModel(Market):
     """The files of a folder, by the rules in Python."""
 
     def __init__(self, folder: Path) -> None:
+        from .guard import Held
         from .model.files import Store, take_files
         from .unproved import admit
 
         admit(folder, "model")
-        self.pair = take_files(folder)
+        try:
+            self.pair = take_files(folder)
+        except BlockingIOError:
+            raise Held(folder) from None
         self.store = Store(self.pair)
         self.begun = f"the market in {folder}, by the rules in Python: unproved"
 
@@ -276,7 +281,8 @@ def refused(words: Sequence[str]) -> str:
     refusal = read_refusal(words)
     kind = type(refusal)
     unit = OF_REFUSALS.get(refusal.code)
-    values = ", ".join(shown(field, value, unit or UNITS.get(field)) for field, value in zip(kind.fields, refusal.values))
+    told = [(field, value) for field, value in zip(kind.fields, refusal.values) if field not in PRODUCTS]
+    values = ", ".join(shown(field, value, unit or UNITS.get(field)) for field, value in told)
     said = " ".join((kind.__doc__ or "").split()) if refusal.code in BY_CODE else "a refusal that is not known here"
     return f"refused: {said}" + (f" ({values})" if values else "") + (
         f" What to do: {refusal.advice.replace('`', '')}" * bool(refusal.advice))
@@ -344,7 +350,7 @@ class Prompt:
     def told(self, told: Told) -> List[str]:
         """A line that was sent, its reply, and what that says."""
         words = told.reply.split(" ")
-        lines = [f"> {told.line}", told.reply]
+        lines = [f"sent: {told.line}", told.reply]
         if words[0] == "no":
             lines.append(refused(words))
         elif words[0] == "ok" and len(words) > 1:
@@ -441,7 +447,8 @@ def serve(prompt: Prompt) -> int:
 
 def main(words: List[str]) -> int:
     parser = parser_of("prompt", __doc__, EXAMPLES)
-    parser.add_argument("place", metavar="FOLDER|SOCKET", nargs="?", type=Path, help="a market's folder, or a gateway's socket")
+    said_of_place = "a market's folder, or a gateway's socket"
+    parser.add_argument("place", metavar="FOLDER|SOCKET", nargs="?", type=Path, help=said_of_place)
     parser.add_argument("--client", metavar="N", type=int, default=1, help="whose commands are typed; 1 if left out")
     parser.add_argument("--create", action="store_true", help="begin a market where the folder has none")
     parser.add_argument("--model", action="store_true", help="by the rules in Python, and no program")

@@ -35,7 +35,7 @@ from typing import TextIO, Tuple, Union
 from .ends import Folder
 from .errors import BadValue, LiqError, NotReady
 from .frames import frame, table, write_csv
-from .memory import Market
+from .memory import LIBRARY, UNPROVED, Market
 from .progress import Bar
 from .scratch import passing_folder
 from .service import Service
@@ -197,12 +197,13 @@ class Saved(NamedTuple):
     """A market with which runs begin in other processes."""
 
     saved: bytes
-    library: str
+    library: Optional[str]
     rotating: Optional[int]
+    engine: str
 
     def forks(self) -> Callable[[], Market]:
         """A call that gives a fork of it; it is loaded once."""
-        return Market.load(self.saved, self.library, self.rotating).fork
+        return Market.load(self.saved, self.library, self.rotating, self.engine).fork
 
 
 _begun: Optional[Callable[[], ContextManager[Any]]] = None
@@ -213,6 +214,7 @@ def _set_up(begin: Any) -> None:
     """What a process does first. An interrupt at the terminal comes to all: it is for the one that has begun this."""
     global _begun
     signal.signal(signal.SIGINT, signal.SIG_IGN)
+    warnings.filterwarnings("ignore", UNPROVED)  # who has begun this is told
     signal.signal(signal.SIGTERM, _stop_here)
     threading.Thread(target=_end_with_parent, daemon=True).start()
     _begun = begin.forks() if isinstance(begin, Saved) else begin
@@ -249,7 +251,8 @@ def _stop_here(number: int, frame: Optional[FrameType]) -> None:
 def _picklable(begin: Begin) -> Any:
     """How runs begin, as it goes to other processes."""
     if isinstance(begin, Market):
-        return Saved(begin.save(), str(begin.library), begin.rotating)
+        library = str(begin.library) if begin.engine == LIBRARY else None
+        return Saved(begin.save(), library, begin.rotating, begin.engine)
     return begin
 
 

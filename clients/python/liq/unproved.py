@@ -46,7 +46,8 @@ class Unmarked(Unfit):
         self.folder = folder
 
     def __str__(self) -> str:
-        return f"{Path(self.folder).resolve()} has files of liq and no file {NAME}: an unproved program opens none of them"
+        place = Path(self.folder).resolve()
+        return f"{place} has files of liq and no file {NAME}: an unproved program opens none of them"
 
 
 def mark_of(folder: Folder) -> Path:

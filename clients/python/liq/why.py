@@ -204,8 +204,8 @@ def why_words(name: str, given: List[str], told: str, letters: List[str]) -> str
             if said:
                 return said
     if len(given) != len(names):
-        return f"{told} takes {counted(len(names))}{', ' * bool(names)}{NAMES[name]}, and has {len(given) or 'none'}" + (
-            left_out(given, names))
+        takes = ", ".join([f"{told} takes {counted(len(names))}", *([NAMES[name]] if names else [])])
+        return f"{takes}, and has {len(given) or 'none'}{left_out(given, names)}"
     return ""
 
 

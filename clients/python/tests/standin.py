@@ -1,5 +1,5 @@
-"""What stands in for the library where none is built: that of `Market(engine="model")`, and what stands in for the program
-where it has to be late.
+"""What stands in for the library where none is built: that of `Market(engine="model")`. And what stands in for the
+program where it has to be late.
 
 With it the package over the library has its cases, and faults that a library of plenty of memory never shows: behind
 `fails` more items there is no memory."""

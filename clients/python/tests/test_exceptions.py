@@ -17,6 +17,7 @@ from liq.across import NoLine
 from liq.archive import Differing, NotArchived
 from liq.batch import BatchStopped
 from liq.ends import End, MarketExists, NoJournal, TooMuch
+from liq.adopt import NotAdopted
 from liq.errors import LiqError, TimedOut
 from liq.gateway.book import BadBook
 from liq.gateway.desk import Stopped
@@ -24,6 +25,7 @@ from liq.gateway.lines import Refused
 from liq.gateway.sockets import BadSocket
 from liq.guard import Parted
 from liq.journal import DamagedFile, NoRegularFile
+from liq.model.streams import BadInput, Halt
 from liq.refusals import Refusal, read_refusal
 from liq.statement import NotStated
 
@@ -35,6 +37,7 @@ MADE = {  # by what an exception is made where that is not a message alone
     BatchStopped: (3, 8, (1, 2)), TimedOut: (2.5, "1 1 fund 1 5"),
     BadBook: ("a/book", "it is none"), Stopped: (5, "disk fault"), Refused: ("verb", "it is none of yours"),
     BadSocket: ("a/callers", "it is heard"),
+    NotAdopted: ("a", "it is in generation 2"), Halt: (5, "disk fault"), BadInput: (3, b"x"),
     NotStated: ("left.liq is damaged at 3: its digest is another", ("nothing stands before that",)),
 }
 

@@ -2,14 +2,21 @@
 import copy
 import gc
 import multiprocessing
+import os
+import pickle
+import re
 import threading
+import warnings
 from typing import List
+from unittest import mock
 
-from liq import BadSave, BatchStopped, Busy, Market
+from liq import BadSave, BatchStopped, Busy, Market, NotBuilt
+from liq.memory import UNPROVED
+from liq.model.engine import UnprovedWarning, model_library
 
 from . import calls, inmemory
 from .inmemory import busy_market, fund
-from .market import OverLibrary, OverStandIn
+from .market import InFolder, OverLibrary, OverStandIn
 
 # ---- over the library
 
@@ -170,3 +177,39 @@ class Threads(OverLibrary):
 
 def troves_of(market: Market) -> List[int]:
     return market.trove_accounts()
+
+
+class Engine(InFolder):
+    """The engine that is named."""
+
+    def setUp(self) -> None:
+        super().setUp()
+        model_library.cache_clear()
+        self.addCleanup(model_library.cache_clear)
+
+    def test_it_is_told_once(self) -> None:
+        with warnings.catch_warnings(record=True) as told:
+            warnings.simplefilter("always")
+            markets = [Market(engine="model") for _ in range(3)]
+        self.assertEqual([(it.category, it.filename) for it in told], [(UnprovedWarning, __file__)])
+        self.assertTrue(re.match(UNPROVED, str(told[0].message)))
+        self.assertEqual({market.engine for market in markets}, {"model"})
+
+    def test_it_is_named_in_the_environment(self) -> None:
+        with mock.patch.dict(os.environ, LIQ_ENGINE="model"), warnings.catch_warnings():
+            warnings.simplefilter("ignore")
+            market = busy_market(Market())
+            again = [Market.load(market.save()), copy.copy(market), market.fork(), pickle.loads(pickle.dumps(market))]
+            self.assertEqual({(it.engine, it.save()) for it in again}, {("model", market.save())})
+        with warnings.catch_warnings():
+            warnings.simplefilter("ignore")
+            self.assertEqual(pickle.loads(pickle.dumps(market)).engine, "model")  # whatever the environment is then
+
+    def test_what_is_no_engine(self) -> None:
+        self.assertRaises(ValueError, Market, engine="other")
+        self.assertRaises(ValueError, Market, "libliq.so", engine="model")
+        with mock.patch.dict(os.environ, LIQ_LIBRARY="/none", LIQ_ENGINE=""):
+            for make in (Market, lambda: Market(engine="library")):
+                with self.assertRaises(NotBuilt) as refused:
+                    make()
+                self.assertIn('Market(engine="model")', str(refused.exception))

@@ -20,6 +20,7 @@ from liq.model.program import answer
 from liq.prompt import InMemory, Prompt, amount, call_of, help_on, main
 
 from .casefiles import Sink, Source
+from .gateways import Gateways
 from .market import TOP, InFolder, OverProgram, status_of
 
 ENVIRONMENT = {**os.environ, "PYTHONPATH": str(TOP / "clients/python"), "TERM": "dumb", "INPUTRC": "/dev/null"}
@@ -60,9 +61,9 @@ class Typed(InFolder):
 
     def test_a_trove_and_its_ratio(self) -> None:
         told = self.told("fund 1 10ether", "open 1 10ether 4000lusd")
-        self.assertEqual(told[0], "> 1 2 open 1 10000000000 4000000000 1000000000000000000 - -")
+        self.assertEqual(told[0], "sent: 1 2 open 1 10000000000 4000000000 1000000000000000000 - -")
         self.assertEqual(told[1:], ["ok 4220000000 20000000", "debt 4220 LUSD, fee 20 LUSD"])
-        self.assertEqual(self.told("client 3", "price 460lusd"), ["> 3 1 price 460000000", "ok"])
+        self.assertEqual(self.told("client 3", "price 460lusd"), ["sent: 3 1 price 460000000", "ok"])
         self.assertEqual(self.told("trove 1"),
             ["coll 10 ether, debt 4220 LUSD, stake 10 ether, ratio 109.00% at 460 LUSD"])
         self.assertEqual(self.told("? wallet 1"), ["coll 0 ether, lusd 4000 LUSD"])
@@ -80,7 +81,7 @@ class Typed(InFolder):
         told = self.told("take 1 5ether")
         self.assertEqual(told[1], "no 14 5000000000 0")
         self.assertIn("(need 5 ether, have 0 ether) What to do: fund the account first.", told[2])
-        self.assertEqual(self.told("client 2000000", "fund 1 5")[:2], ["> ? next_number 2000000", "no 13 2000000"])
+        self.assertEqual(self.told("client 2000000", "fund 1 5")[:2], ["sent: ? next_number 2000000", "no 13 2000000"])
 
     def test_a_kept_reply_is_told(self) -> None:
         self.assertEqual(self.told("again"), ["nothing was sent yet"])
@@ -157,8 +158,8 @@ class AtTerminal(InFolder):
 
     def test_history_and_completion(self) -> None:
         self.assertIn("lusd 0 LUSD", self.type("wall\t1\n"))
-        self.assertIn("> 1 1 fund 1 5000000000", self.type("fund 1 5ether\n"))
-        self.assertIn("> 1 2 fund 1 5000000000", self.type("\x1b[A\n"))  # the line before, once more
+        self.assertIn("sent: 1 1 fund 1 5000000000", self.type("fund 1 5ether\n"))
+        self.assertIn("sent: 1 2 fund 1 5000000000", self.type("\x1b[A\n"))  # the line before, once more
         self.type("\x04", "\n")
         self.assertEqual(self.process.wait(SECONDS), 0)
         kept = self.folder / "liq-prompt"
@@ -189,3 +190,21 @@ class OverRun(OverProgram):
             self.assertEqual(ran.returncode, status, ran.stderr)
             self.assertIn(told, ran.stdout + ran.stderr)
         self.assertFalse(Path(folder, "unproved").exists())
+
+
+class OverGateway(Gateways):
+    """A gateway: under keys of the prompt's own."""
+
+    def test_a_socket(self) -> None:
+        self.start()
+        command = [sys.executable, "-m", "liq.prompt", str(self.socket), "--name", "alice"]
+        text = "fund 1 2ether\nagain\nfnud 1 5\nfund 15 1\nwallet 1\ntrove 1\n"
+        ran = subprocess.run(command, input=text, capture_output=True, text=True, env=ENVIRONMENT, timeout=SECONDS)
+        self.assertEqual((ran.returncode, ran.stderr), (0, ""))
+        lines = re.sub("prompt-[0-9a-f]{8}", "KEY", ran.stdout).splitlines()
+        kept = "that is the reply which was kept: the command is carried out once, and was before"
+        self.assertEqual(lines, [
+            "sent: KEY-1 fund 1 2000000000", "ok", "sent: KEY-1 fund 1 2000000000", "ok", kept,
+            "not sent: 'fnud' is no verb: fund?", "sent: KEY-2 fund 15 1", "refused account 15 is none of your accounts",
+            "coll 2 ether, lusd 0 LUSD", "refused verb trove is none of your verbs",
+        ])

@@ -3,9 +3,9 @@
 usage: python3 -m liq.model run|serve|state|report|audit|staking|rewards|follow|gen SEED COUNT
 
 It does what `liq` does with these words, in the folder where it is started: the files, the replies, the statuses and
-the last lines are the same, and it is some hundred times slower. A market that it begins is marked by a file `unproved`
-beside it; files without that mark may be the proved program's, and it opens none: it ends with 70 then. At a terminal
-it says that it is unproved, and what is wrong with a line that is no request.
+the last lines are the same. It is slower: `gen` takes some sixty times as long. A market that it begins is marked by a
+file `unproved` beside it; files without that mark may be the proved program's, and it opens none: it ends with 70 then.
+At a terminal it says that it is unproved, and what is wrong with a line that is no request.
 """
 import os
 import signal
@@ -15,7 +15,7 @@ from typing import List
 
 from ..unproved import Unmarked
 from .program import OPENS, answer
-from .streams import BadLine, Halt, Sink, Source
+from .streams import BadInput, Halt, Sink, Source
 
 NO_PROGRAM = 70  # as bin/liq ends where it runs nothing
 
@@ -44,7 +44,7 @@ def begin_at_terminal(words: List[str]) -> None:
 
 def explain(end: Halt, words: List[str]) -> None:
     """What a terminal is told of an end."""
-    if isinstance(end, BadLine):
+    if isinstance(end, BadInput):
         from ..why import why, why_asked  # only here: a run that goes well wants neither
 
         line = end.line.decode("latin-1")

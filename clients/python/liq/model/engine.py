@@ -1,7 +1,7 @@
 """The calls of the library over the rules in Python: what `Market(engine="model")` stands on.
 
 They are those of clients/c/liq.h, at the same addresses and with the same bytes, so that all above them is the same. It
-is unproved, and some hundred times slower.
+is unproved, and slower: a typed call takes some five times as long, a batch more.
 """
 import ctypes
 import functools
@@ -12,6 +12,7 @@ from pathlib import Path
 from typing import Any, Callable, Dict, List, Optional, Tuple
 
 from ..ends import Unfit
+from ..errors import LiqError
 from ..grammar import NoRequest, Query
 from ..journal import KINDS, RECORDS_MOST, VERBS, Command, read_checkpoint, read_command
 from ..library import ABI, ACCEPTED, BAD, ITEM_BYTES, LINE_MOST, NO_COMMAND, NO_MARKET, NO_MEMORY, OK, OUT_OF_MEMORY
@@ -28,19 +29,19 @@ OPEN = 0x6C69715F6F70656E  # the state of a place that holds a market
 MOVES_OTHERS = ("liquidate_lowest", "redeem")  # the verbs that move troves which they don't name
 RULE_OF_RECORDS = 9  # of a sound state, which depends on the count of records
 TOLD_ONCE = (
-    'Market(engine="model") is the rules in Python: unproved, and some hundred times slower than the library'
+    'Market(engine="model") is the rules in Python: unproved, and slower than the library'
 )
 Each = Callable[[bytes, int], Tuple[int, bytes]]
 
 
-class UnprovedWarning(UserWarning):
+class UnprovedWarning(LiqError, UserWarning):
     """What answers was not built from proofs."""
 
 
 @functools.lru_cache(maxsize=None)
 def model_library() -> "ModelLibrary":
     """The calls, for this process. The first time it warns."""
-    warnings.warn(TOLD_ONCE, UnprovedWarning, stacklevel=5)
+    warnings.warn(TOLD_ONCE, UnprovedWarning, stacklevel=4)
     return ModelLibrary()
 
 

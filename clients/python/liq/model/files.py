@@ -11,6 +11,7 @@ from pathlib import Path
 from typing import List, NamedTuple, Optional, Sequence
 
 from ..ends import Folder, TooMuch
+from ..errors import LiqError
 from ..history import begun, replay
 from ..journal import SIDES, Command, DamagedFile, Disk, is_open, read_checkpoint
 from .disks import checkpoint_bytes, command_bytes, header, record
@@ -28,7 +29,7 @@ class FileId(NamedTuple):
     number: int
 
 
-class NotTaken(OSError):
+class NotTaken(LiqError, OSError):
     """A file is not the user's alone, no regular file, or one that is in use for something else."""
 
 

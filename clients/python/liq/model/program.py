@@ -12,7 +12,7 @@ from .owed import audit_text
 from ..grammar import NoRequest, Query, Request, read_number, read_request, read_words
 from .requests import reply_to
 from .state import Market
-from .streams import LINES_MOST, BadLine, Halt, Lines, Sink, Source
+from .streams import LINES_MOST, BadInput, Halt, Lines, Sink, Source
 from .told import gen_text, report_text, state_text
 
 USAGE = "usage: liq run, serve, state, audit or gen SEED COUNT"
@@ -105,7 +105,7 @@ def request_of(line: bytes, number: int) -> Request:
     try:
         return read_request(line.decode("latin-1"))
     except NoRequest:
-        raise BadLine(number, line) from None
+        raise BadInput(number, line) from None
 
 
 def answer_serve(run: Run) -> None:
@@ -236,8 +236,8 @@ def answer(words: List[str], folder: Folder, source: Source, sink: Sink) -> Halt
     where the files may be a proved program's; then none was opened."""
     run = Run(folder, source, sink)
     if len(words) == 1 and words[0] in OPENS:
-        admit(folder, "model")
-        with contextlib.suppress(OSError):
+        with contextlib.suppress(OSError):  # then there are no files, which each word meets where it comes to them
+            admit(folder, "model")
             run.pair = take_files(folder)
     try:
         carry_out(words, run)

@@ -2,6 +2,7 @@
 import os
 from typing import Callable, List, Optional, TypeVar
 
+from ..errors import LiqError
 from ..grammar import LINE_BYTES_MOST, NoRequest
 
 Found = TypeVar("Found")
@@ -10,7 +11,7 @@ LINES_MOST = 1_000_000
 LINE_END = b"\n"
 
 
-class Halt(Exception):
+class Halt(LiqError):
     """A word ends before its end: with this status, and this last line, which is empty where there is none."""
 
     def __init__(self, status: int, last: str = "") -> None:
@@ -18,11 +19,12 @@ class Halt(Exception):
         self.status, self.last = status, last
 
 
-class BadLine(Halt):
+class BadInput(Halt):
     """A line, counted from 1, asks for nothing. Of one that is too long only the beginning is known."""
 
     def __init__(self, number: int, line: bytes) -> None:
         super().__init__(2, f"bad line {number}")
+        self.args = (number, line)
         self.number, self.line = number, line
 
 
@@ -72,7 +74,7 @@ class Lines:
             part = self.chunk[self.at : self.at + LINE_BYTES_MOST + 1 - len(line)]
             line, self.at = line + part, self.at + len(part)
             if len(line) > LINE_BYTES_MOST:
-                raise BadLine(self.count + 1, line)
+                raise BadInput(self.count + 1, line)
             if not self.fill():
                 self.count += bool(line)
                 return line or None
@@ -100,6 +102,6 @@ class Lines:
             try:
                 found.append(read(line.decode("latin-1")))
             except NoRequest:
-                raise BadLine(self.count, line) from None
+                raise BadInput(self.count, line) from None
         self.check_limit()
         return found
