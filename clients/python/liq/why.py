@@ -295,18 +295,31 @@ def line_of(path: str, number: int) -> Optional[str]:
     return None
 
 
+def print_first(path: str, word: str) -> None:
+    """Writes why the first line of a file that the word can't read is none of its lines."""
+    with open(path, "rb") as file:
+        for at, line in enumerate(file, 1):
+            said = why_asked(word, (line[:-1] if line.endswith(b"\n") else line).decode("latin-1"))
+            if said:
+                print(f"line {at}: {said}")
+                return
+
+
 def main(words: List[str]) -> int:
     from .console import parser_of  # a caller of `why` needs none
 
     parser = parser_of("why", __doc__, EXAMPLES)
     parser.add_argument("text", metavar="LINE|FILE", help="a line, or with --line a file")
-    parser.add_argument("--line", metavar="N", type=int, help="line N of the file, counted from 1")
+    parser.add_argument("--line", metavar="N", help="line N of the file, counted from 1; `first`: the first that is no request")
     parser.add_argument("--word", choices=("run", "serve", *FORMS), default="run", help="the word that reads it")
     asked = parser.parse_args(words)
     line: Optional[str] = asked.text
     if asked.line is not None:
         try:
-            line = line_of(asked.text, asked.line)
+            if asked.line == "first":
+                print_first(asked.text, asked.word)
+                return 1
+            line = line_of(asked.text, int(asked.line))
         except OSError as fault:
             parser.error(f"{asked.text} can't be read: {fault.strerror}")
         if line is None:
