@@ -440,8 +440,10 @@ def _look_once(folder: Path, bar: Optional[Bar], note: "Optional[Note]") -> Look
     if any(seen.is_open for seen in files):
         lines += missing(folder)
         lines += said_of_beside(files, current)
-    else:
+    elif folder.is_dir():
         lines.append(Line(f"no journal in {folder}: liq would begin a new market there"))
+    else:
+        lines.append(Line(f"{folder} is no folder: liq can't begin there"))
     return Look(folder, files, current, lines)
 
 

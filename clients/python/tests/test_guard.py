@@ -14,12 +14,12 @@ from typing import Dict, Iterator, List, Optional, Tuple
 from unittest import mock
 
 from liq import Journal, guard
-from liq.ends import Damaged, Unfit
+from liq.ends import Damaged
 from liq.journal import SIDES, holds_journal
 from liq.progress import Bar
 from liq.words import state
 
-from .market import PROGRAM, READY, InFolder, OverProgram
+from .market import PROGRAM, InFolder, OverProgram
 from .market import forged as files_after
 
 Pair = Dict[str, bytes]
@@ -35,6 +35,15 @@ def gate_of(record: int, begin: int = BEGIN) -> int:
 def forged(lines: List[str], versions: str = "2") -> Pair:
     """Both files after these commands."""
     return files_after(versions, lines)
+
+
+class NoFolder(InFolder):
+    def test_a_folder_that_is_not_there(self) -> None:
+        """liq begins no market in it."""
+        (self.folder / "file").write_text("")
+        for name in ("none", "file"):
+            path = self.folder / name
+            self.assertEqual([line.text for line in guard.guard(path)], [f"{path} is no folder: liq can't begin there"])
 
 
 class Looking(InFolder):
