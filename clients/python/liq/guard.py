@@ -49,6 +49,7 @@ from .journal import FRONT_BYTES, KINDS, PIECE_BYTES, RECORD_BYTES, SIDES
 from .journal import DamagedFile, Header, copy_file, files_of, open_file, read_checkpoint, read_command, read_header
 from .journal import settle
 from .linked import APART, CLIENT_AND_NUMBER, last_numbers, unlinked
+from .own import check_own
 from .progress import Bar
 from .reasons import distrusted
 from .scratch import bounded, scratch
@@ -520,8 +521,9 @@ def note_of(found: Look, before: str = "") -> Note:
 
 
 def read_note(path: Folder) -> Optional[Note]:
-    """A note; None where there is none yet."""
+    """A note; None where there is none yet. Root takes it for that of the folder's owner."""
     try:
+        check_own(path, Path(path).absolute().parent.stat().st_uid if os.geteuid() == 0 else None)
         with open_file(path) as file:
             text = file.read(NOTE_BYTES_MOST).decode("ascii", "replace")
     except FileNotFoundError:

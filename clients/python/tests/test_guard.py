@@ -318,6 +318,30 @@ class Notes(Looking):
         self.assertTrue(said.splitlines()[-1].startswith(begins), said)
         self.assertEqual(Path(self.note).read_bytes(), kept)
 
+    def test_a_note_that_is_another_users(self) -> None:
+        """It is no note of this program: a stranger's may be one of an older market."""
+        self.put(forged(["1 1 fund 1 5"]))
+        note = self.folder / "note"
+        self.assertEqual(guard.guard(self.folder, note), [])
+        kept = note.read_text()
+        (self.folder / "kept").write_text(kept)
+        for spoil in (lambda: note.symlink_to("kept"), lambda: os.link(self.folder / "kept", note), lambda: self.loose(note, kept)):
+            note.unlink()
+            spoil()
+            (said,) = guard.guard(self.folder, note)
+            self.assertTrue(said.is_finding and said.text.startswith(f"the note: {note}: it is "), said)
+            self.assertEqual(note.read_text(), kept)
+        note.unlink()
+        self.folder.chmod(0o1777)
+        self.addCleanup(self.folder.chmod, 0o700)
+        self.assertIn("others may write it", guard.guard(self.folder, note)[-1].text)
+        self.assertFalse(note.exists())
+
+    @staticmethod
+    def loose(path: Path, text: str) -> None:
+        path.write_text(text)
+        path.chmod(0o666)
+
     def test_a_market_behind_its_note(self) -> None:
         self.put(forged(FUNDS))
         self.run_guard("--note", self.note)
