@@ -302,7 +302,7 @@ class Processes(Gateways):
         self.assertEqual(self.caller().ask("a fund 1 5"), "ok")
 
     def test_a_log_that_nobody_reads(self) -> None:
-        """A pipe or a socket that is full stops nobody, and what is not written is counted, and told once it is read."""
+        """A full pipe or socket stops nobody, and what is not written is counted, and told once it is read."""
         reading, writing = os.pipe()
         fcntl.fcntl(writing, fcntl.F_SETPIPE_SZ, 4096)
         ours, theirs = socket.socketpair()
@@ -348,12 +348,13 @@ class Processes(Gateways):
             with self.subTest(part):
                 path = self.folder / f"book{part}"
                 kept = path.read_bytes() if path.exists() else None
-                for spoil in (lambda: path.symlink_to(own), lambda: os.link(own, path), path.mkdir, lambda: self.foreign(path)):
+                links = lambda: path.symlink_to(own), lambda: os.link(own, path)
+                for spoil in (*links, path.mkdir, lambda: self.foreign(path)):
                     path.unlink(missing_ok=True)
                     spoil()
                     self.assertEqual(self.ends("--book", str(book)), 1)
                     self.assertIn(f"the book {path}: it ", self.said())
-                    path.rmdir() if path.is_dir() and not path.is_symlink() else path.unlink()
+                    path.rmdir() if path.is_dir() else path.unlink()
                 if kept is not None:
                     path.write_bytes(kept)
                     path.chmod(0o600)
@@ -401,8 +402,8 @@ class Processes(Gateways):
         gateway.wait(30)
         shutil.rmtree(self.market)
         Service(self.market, create=True).close()
-        words = [sys.executable, "-m", "liq.gateway", str(self.market), "--table", str(self.table), "--log", str(self.log)]
-        words += ["--book", str(self.folder / "book")]
+        words = [sys.executable, "-m", "liq.gateway", str(self.market), "--table", str(self.table)]
+        words += ["--log", str(self.log), "--book", str(self.folder / "book")]
         for more, status in (([], 2), (["--adopt"], 0)):
             self.assertEqual(subprocess.run(words + more, env=self.environment, timeout=SECONDS).returncode, status)
         self.start("--book", str(self.folder / "book"))

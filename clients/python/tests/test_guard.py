@@ -325,7 +325,8 @@ class Notes(Looking):
         self.assertEqual(guard.guard(self.folder, note), [])
         kept = note.read_text()
         (self.folder / "kept").write_text(kept)
-        for spoil in (lambda: note.symlink_to("kept"), lambda: os.link(self.folder / "kept", note), lambda: self.loose(note, kept)):
+        links = lambda: note.symlink_to("kept"), lambda: os.link(self.folder / "kept", note)
+        for spoil in (*links, lambda: self.loose(note, kept)):
             note.unlink()
             spoil()
             (said,) = guard.guard(self.folder, note)

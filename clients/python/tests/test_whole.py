@@ -22,7 +22,8 @@ class Lines(OverProgram):
         return process
 
     def test_whole_lines(self) -> None:
-        for data in (b"", b"\n", b"1 1 fund 1 5\n", b"a\n\nb\n", b"\0\xff\r\n", b"x" * 200_000 + b"\n" + b"y\n" * 100_000):
+        long = b"x" * 200_000 + b"\n" + b"y\n" * 100_000
+        for data in (b"", b"\n", b"1 1 fund 1 5\n", b"a\n\nb\n", b"\0\xff\r\n", long):
             ran = self.ran(data)
             self.assertEqual((ran.stdout, ran.stderr, ran.returncode), (data, b"", 0))
 

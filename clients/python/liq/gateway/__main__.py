@@ -152,7 +152,8 @@ def parsed(words: List[str]) -> argparse.Namespace:
     parser.add_argument("--log", metavar="FILE", type=Path, help="JSON lines; standard error if left out")
     parser.add_argument("--idle", metavar="SECONDS", type=positive, default=SECONDS_IDLE, help="without a whole line")
     parser.add_argument("--mode", metavar="MODE", type=rights, default=0o660, help="of the sockets; 660 if left out")
-    parser.add_argument("--adopt", action="store_true", help="take the market's numbers where the book has others; without --socket, do that and end")
+    said = "takes the market's numbers where the book has others; ends then where there is no socket"
+    parser.add_argument("--adopt", action="store_true", help=said)
     return parser.parse_args(words)
 
 

@@ -122,8 +122,10 @@ class Book:
             path = self.path.with_name(self.path.name + part)
             try:
                 check_own(path)
-            except (NotOwn, OSError) as fault:
-                raise BadBook(path, fault.why if isinstance(fault, NotOwn) and fault.path == path else str(fault)) from None
+            except NotOwn as fault:
+                raise BadBook(path, fault.why if fault.path == path else str(fault)) from None
+            except OSError as fault:
+                raise BadBook(path, str(fault)) from None
 
     def _open(self, is_new: bool) -> None:
         for setting in "locking_mode = EXCLUSIVE", "journal_mode = WAL", "synchronous = FULL":
