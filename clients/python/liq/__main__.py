@@ -22,8 +22,10 @@ class Command(NamedTuple):
 
 COMMANDS: Dict[str, Command] = {
     "guard": Command("guard", "FOLDER", "looks before a start for what liq would not see"),
+    "whole": Command("whole", "", "hands on whole lines alone, in front of a run"),
     "backup": Command("backup", "FOLDER DIR", "copies a market, also beside a run"),
     "restore": Command("restore", "COPY FOLDER", "brings a copy back, with note, archive and book"),
+    "failed": Command("failed", "FOLDER", "why a unit has ended, and what brings it back"),
     "archive": Command("archive", "FOLDER DIR", "keeps what rotations leave behind"),
     "statement": Command("statement", "FOLDER", "who has what by the files alone, to be signed"),
     "recheck": Command("recheck", "FOLDER", "an audit with arithmetic of its own, beside that of liq"),

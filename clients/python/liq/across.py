@@ -17,7 +17,7 @@ from .archive import Generations, Kept, NotArchived, named_in, sources
 from .backup import backup
 from .console import add_forms, add_seconds, as_csv, as_json, as_process, ended, parser_of, rows_of
 from .ends import Folder, TooMuch, Unfit
-from .grammar import read_words
+from .grammar import read_asked
 from .history import begun, replay, rotated
 from .journal import BYTES_MOST, RECORD_BYTES
 from .model import Market, NoRequest
@@ -34,9 +34,6 @@ python3 -m liq.across --archive archive audit market
 echo '2 7 stake 5' | python3 -m liq.across --archive archive staking market
 python3 -m liq.across --archive archive --csv rewards market < tags > rewards.csv
 """
-SHAPES: Dict[str, Tuple[str, ...]] = {
-    "audit": (), "staking": ("vawv", "stake", "unstake"), "rewards": ("waav", "tag"),
-}
 COLUMNS = {"audit": AuditRow._fields, "staking": StakeRow._fields, "rewards": RewardRow._fields}
 
 
@@ -87,7 +84,7 @@ def told(word: str, past: Past, lines: List[str]) -> List[str]:
     """What a word tells. Raises `NoLine`."""
     for at, line in enumerate(lines, 1):
         try:
-            read_words(line, *SHAPES[word])
+            read_asked(word, line)
         except NoRequest:
             raise NoLine(word, at) from None
     if word == "audit":
@@ -144,7 +141,7 @@ def read_lines() -> List[str]:
 
 def main(words: List[str]) -> int:
     parser = parser_of("across", __doc__, EXAMPLES)
-    parser.add_argument("word", metavar="audit|staking|rewards", choices=sorted(SHAPES), help="the word of the program")
+    parser.add_argument("word", metavar="audit|staking|rewards", choices=sorted(COLUMNS), help="the word of the program")
     parser.add_argument("folder", metavar="FOLDER", help="the market's folder")
     said_of_archive = "the generations before, as liq.archive keeps them"
     parser.add_argument("--archive", metavar="DIR", required=True, help=said_of_archive)

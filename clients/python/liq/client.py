@@ -2,7 +2,7 @@
 from typing import TYPE_CHECKING, Any, Callable, Optional, Sequence, Tuple, Type, TypeVar
 
 from .ends import Folder
-from .errors import BadType, BadValue, NotReady
+from .errors import BadValue, NotReady
 from .refusals import JournalFull, read_refusal
 from .replies import Adjusted, Advanced, Claimed, Closed, Done, Liquidated, LowestLiquidated, Moved, NextGeneration
 from .replies import Opened, Provided, Redeemed, Withdrawn

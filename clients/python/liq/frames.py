@@ -1,6 +1,8 @@
 """Rows as a frame of pandas, or as CSV; whole numbers stay whole.
 
     frame(market.troves(market.trove_accounts()))       # account, coll, debt, stake
+    frame(market.troves(range(100)), scaled=True)       # coll in ether and debt in LUSD, as floats
+    frame(market.troves(range(100)), of=Trove)          # these columns, where there is no trove too
     frame(batch.columns(market.query(asked), "trove", asked))
     write_csv(market.wallets(range(100)), "wallets.csv")
 
@@ -13,30 +15,65 @@ import dataclasses
 import numbers
 from decimal import Decimal
 from pathlib import Path
-from typing import Any, Dict, Iterable, List, Mapping, Optional, Sequence, TextIO, Tuple, Union
+from typing import Any, Dict, Iterable, List, Mapping, Optional, Sequence, TextIO, Tuple, Type, Union
 
 from .errors import BadType, BadValue
 from .optional import need
+from .replies import BY_QUERY, BY_VERB, places_of
 
 Row = Any  # a named tuple, a dataclass or a mapping; they share no class
 Rows = Union[Row, Iterable[Optional[Row]]]
+ROWS = {*BY_VERB.values(), *BY_QUERY.values()}  # that have units
 EXACT_MOST = 2**53  # up to here each whole number is a float
 
 
-def frame(rows: Rows) -> Any:
+def frame(rows: Rows, scaled: bool = False, of: Optional[Type[Any]] = None) -> Any:
     """A frame of pandas with a column for each field of the rows. One row alone is a frame of one. Raises `NoPackage`
     where pandas is not there.
 
     A column of whole numbers has the type int64, or uint64 where one of them passes that, or object with the ints
     themselves where one passes 2^64 or none is there in some row. So no number is rounded on the way; sums and products
-    of int64 and uint64 still wrap around without a word."""
+    of int64 and uint64 still wrap around without a word: `coll * price` passes int64 from 9.3 ether at a price of 1,000
+    LUSD on.
+
+    `scaled` gives ether, LUSD and rates as floats, which don't wrap, and leaves accounts, minutes and stakes whole. The
+    unit of a field is that of its row's type, one of `liq.replies`; others are a TypeError. `of` is the type of the
+    rows: its columns are there without a row too, and mappings and columns are scaled by it."""
     pandas = need("pandas", "a frame wants pandas, which is not there; write_csv() and the rows themselves do without")
     columns = _columns_of(rows)
     if columns is None:
-        names, found = table(rows)
-        columns = {name: [row.get(name) for row in found] for name in names}
-    typed = {name: _typed(values) for name, values in columns.items()}
+        kind, rows = of, [row for row in ([rows] if _is_row(rows) else rows) if row is not None]
+        names, found = table([_scaled(row, kind or type(row)) for row in rows] if scaled else rows)
+        columns = {name: [row.get(name) for row in found] for name in names or _fields_of_type(of)}
+    elif scaled:
+        columns = _scaled(columns, of or type(rows))
+    typed = {name: _typed(values, _empty_kind(name, of, scaled)) for name, values in columns.items()}
     return pandas.DataFrame({name: pandas.Series(values, dtype=kind) for name, (values, kind) in typed.items()})
+
+
+def _fields_of_type(of: Optional[Type[Any]]) -> Sequence[str]:
+    """The fields of a row's type: a named tuple or a dataclass. None has none."""
+    if dataclasses.is_dataclass(of):
+        return [field.name for field in dataclasses.fields(of)]
+    fields: Sequence[str] = getattr(of, "_fields", ())
+    return fields
+
+
+def _scaled(row: Row, of: Type[Any]) -> Dict[str, Any]:
+    """The fields of a row, or its columns, by the units of a type of row. Raises a TypeError where it has none."""
+    if of not in ROWS:
+        raise BadType(f"{of.__name__} says no units: the rows of liq.replies do, and of=Trove says it of others")
+    places = places_of(of)
+    return {name: _divided(value, places[name]) if name in places else value for name, value in fields_of(row).items()}
+
+
+def _divided(value: Any, places: int) -> Any:
+    """A whole number, or a column of such, over 10^places as floats."""
+    if hasattr(value, "astype"):
+        return value.astype("float64") / 10.0**places
+    if _is_column(value):
+        return [_divided(each, places) for each in value]
+    return None if value is None else int(value) / 10**places
 
 
 def write_csv(rows: Rows, to: Union[str, Path, TextIO]) -> None:
@@ -97,13 +134,22 @@ def _is_column(values: Any) -> bool:
     return isinstance(values, (list, tuple, range)) or getattr(values, "ndim", 0) == 1
 
 
-def _typed(values: Any) -> Tuple[Sequence[Any], Any]:
+def _empty_kind(name: str, of: Optional[Type[Any]], scaled: bool) -> str:
+    """The type of a column without a value."""
+    if of not in ROWS:
+        return "object"
+    return "float64" if scaled and name in places_of(of) else "int64"
+
+
+def _typed(values: Any, empty: str) -> Tuple[Sequence[Any], Any]:
     """The values of a column and its type; None where pandas may choose it."""
     if hasattr(values, "dtype"):
         # The column of a batch may have its bytes turned, which pandas does not take; its own types have no such.
         turned = getattr(values.dtype, "newbyteorder", None)
         return values.astype(turned("=")) if turned else values, None
     kinds = {_kind(value) for value in values}
+    if not kinds:
+        return values, empty
     if "whole" not in kinds:
         return values, object if kinds & {"none", "exact"} else None
     found = [int(value) if _kind(value) == "whole" else value for value in values]

@@ -30,7 +30,20 @@ class Query(NamedTuple):
     accounts: Tuple[int, ...]
 
 
+class Form(NamedTuple):
+    """The form of a word's lines: the names of what stands in them, a letter for each, and the verbs among them. The
+    letters are v for a number, a for an account, w for a verb."""
+
+    names: str
+    letters: str
+    verbs: Tuple[str, ...]
+
+
 Request = Union[Command, Query]
+FORMS: Dict[str, Form] = {
+    "staking": Form("AT ACCOUNT stake|unstake AMOUNT", "vawv", ("stake", "unstake")),
+    "rewards": Form("tag ACCOUNT FRONT RATE", "waav", ("tag",)),
+}
 
 
 def read_number(word: str, most: int = NUMBER_MOST) -> int:
@@ -40,13 +53,14 @@ def read_number(word: str, most: int = NUMBER_MOST) -> int:
     return int(word)
 
 
-def read_words(line: str, shape: str, *verbs: str) -> List[Any]:
-    """A line's words by a shape: v for a number, a for an account, w for one of the verbs. Raises NoRequest."""
-    words = line.split(" ")
-    if len(line) > LINE_BYTES_MOST or len(words) != len(shape) or words[shape.index("w")] not in verbs:
+def read_asked(word: str, line: str) -> List[Any]:
+    """The words of a line of `staking` or `rewards`. Raises NoRequest."""
+    words, form = line.split(" "), FORMS[word]
+    is_long = len(line) > LINE_BYTES_MOST or len(words) != len(form.letters)
+    if is_long or words[form.letters.index("w")] not in form.verbs:
         raise NoRequest(line)
     most = {"v": NUMBER_MOST, "a": NO_HINT}
-    return [word if letter == "w" else read_number(word, most[letter]) for letter, word in zip(shape, words)]
+    return [found if letter == "w" else read_number(found, most[letter]) for letter, found in zip(form.letters, words)]
 
 
 def read_request(line: str) -> Request:

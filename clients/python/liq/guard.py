@@ -49,6 +49,7 @@ from .journal import FRONT_BYTES, KINDS, PIECE_BYTES, RECORD_BYTES, SIDES
 from .journal import DamagedFile, Header, copy_file, files_of, open_file, read_checkpoint, read_command, read_header
 from .journal import settle
 from .linked import APART, CLIENT_AND_NUMBER, last_numbers, unlinked
+from .own import check_own
 from .progress import Bar
 from .reasons import distrusted
 from .scratch import bounded, scratch
@@ -440,8 +441,10 @@ def _look_once(folder: Path, bar: Optional[Bar], note: "Optional[Note]") -> Look
     if any(seen.is_open for seen in files):
         lines += missing(folder)
         lines += said_of_beside(files, current)
-    else:
+    elif folder.is_dir():
         lines.append(Line(f"no journal in {folder}: liq would begin a new market there"))
+    else:
+        lines.append(Line(f"{folder} is no folder: liq can't begin there"))
     return Look(folder, files, current, lines)
 
 
@@ -518,8 +521,9 @@ def note_of(found: Look, before: str = "") -> Note:
 
 
 def read_note(path: Folder) -> Optional[Note]:
-    """A note; None where there is none yet."""
+    """A note; None where there is none yet. Root takes it for that of the folder's owner."""
     try:
+        check_own(path, Path(path).absolute().parent.stat().st_uid if os.geteuid() == 0 else None)
         with open_file(path) as file:
             text = file.read(NOTE_BYTES_MOST).decode("ascii", "replace")
     except FileNotFoundError:

@@ -30,6 +30,7 @@ PLACES = (  # where the library is looked for: beside the package, in its checko
     HERE / "libliq.so", TOP / "crates/liq_c/out/libliq.so", HERE.parents[1] / "libliq.so.1",
     *(Path(prefix, "lib/libliq.so.1") for prefix in dict.fromkeys((sys.prefix, "/usr/local", "/usr"))),
 )
+TRIED = TOP / "crates/liq_c/out/libliq-tried.so"  # without a proof, where LIQ_TRY=1 asks for it and there is no other
 
 
 class NoLibrary(NotBuilt):
@@ -116,6 +117,9 @@ def find_library(library: Optional[Folder] = None) -> Path:
         if not path.is_file():
             raise missing(f"there is no library at {path}")
         return path
+    if os.environ.get("LIQ_TRY") == "1" and TRIED.is_file() and not any(path.is_file() for path in PLACES):
+        print(f"liq: UNPROVED library {TRIED} (tests at run time stay in); LIQ_TRY is set", file=sys.stderr)
+        return TRIED
     for path in PLACES:
         if path.is_file():
             return path

@@ -1,7 +1,7 @@
 """Commands, queries and replies as the library takes and gives them: 96 bytes, 8 bytes and 96 bytes
 (clients/c/liq.h)."""
 import struct
-from typing import Any, Callable, Dict, Iterable, Iterator, NamedTuple, Optional, Sequence, Tuple, Type
+from typing import Any, Callable, Dict, Iterator, NamedTuple, Optional, Sequence, Tuple, Type
 
 from .client import ACCOUNTS, pair
 from .errors import NotReady, OutOfMemory

@@ -14,7 +14,6 @@ It ends with 0, with 1 where a folder is refused, and with 2 where its words are
 import json
 import sys
 from fractions import Fraction
-from pathlib import Path
 from typing import Any, Dict, List, NamedTuple, Optional, Sequence, Tuple
 
 from .backup import backup

@@ -178,6 +178,28 @@ BY_QUERY: Dict[str, Type[Tuple[Any, ...]]] = {
 }
 
 
+# ---- in which unit a field is
+
+GWEI_FIELDS = {
+    "coll", "gain", "gas", "pool_coll", "spread_coll", "surplus", "drawn", "active_coll", "default_coll", "fee_coll",
+}
+MILLIONTHS_FIELDS = {
+    "debt", "fee", "repaid", "amount", "paid", "pool_debt", "spread_debt", "redeemed", "lusd", "balance", "active_debt",
+    "default_debt", "reserve", "fee_lusd", "pool_lusd", "price",
+}
+RATE_FIELDS = {"base", "base_rate"}
+
+
+def places_of(row: Type[Tuple[Any, ...]]) -> Dict[str, int]:
+    """How many places behind the point a field of such a row has in ether, in LUSD or as a rate. A field that is not in
+    it counts something else: accounts, minutes, stakes."""
+    places = {name: 9 for name in GWEI_FIELDS}
+    places.update({name: 6 for name in MILLIONTHS_FIELDS}, **{name: 18 for name in RATE_FIELDS})
+    if row is Redeemed:
+        places["fee"] = 9  # all other fees are LUSD
+    return {name: places[name] for name in told_fields(row) if name in places}
+
+
 def told_fields(row: Type[Tuple[Any, ...]]) -> Tuple[str, ...]:
     """The fields of a row that a reply has numbers for: all but the account that was asked for."""
     fields: Tuple[str, ...] = row._fields  # type: ignore[attr-defined]  # all rows are named tuples, and share no class

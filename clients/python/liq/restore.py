@@ -41,10 +41,10 @@ from .backup import DAY, LARGEST, open_copy
 from .console import add_forms, as_json, as_process, parser_of, refused
 from .ends import End, Folder, Unfit
 from .errors import LiqError
-from .gateway.book import TITLE
+from .gateway.book import TITLE, Book
 from .guard import BadNote, Held, How, Look, Seen, behind, generation_of, header_rotted, held, judged, look, read_at
 from .guard import read_note, stands
-from .journal import FRONT_BYTES, RECORD_BYTES, RECORDS_MOST, SIDES, NoRegularFile, files_of, open_file
+from .journal import FRONT_BYTES, RECORD_BYTES, RECORDS_MOST, SIDES, VERBS, Journal, NoRegularFile, files_of, open_file
 from .progress import Bar
 from .reasons import holder
 from .scratch import bounded
@@ -450,7 +450,7 @@ def settle_archive(folder: Path, directory: Path, wish: Wish, bar: Bar) -> Itera
         for kept in reversed(later):
             os.rename(kept.path, to / kept.path.name)
         sync(to)
-        yield f"{directory}: in {to} are {counted(len(later), 'generation')} that the market has no more"
+        yield f"{to} has {counted(len(later), 'generation')} that the market has no more"
     sync(directory)
     made = archive(folder, directory, bar)
     yield from said_of(folder, directory, made)
@@ -467,6 +467,7 @@ def settle_book(places: Places, book: Path, table: Path, wish: Wish) -> Iterator
         sync(to)
         sync(to.parent)
         kept = f"; as it was it is {to}"
+    parted = forget_other_history(places.folder, book)
     words = [sys.executable, "-m", "liq.gateway", str(places.folder), "--table", str(table), "--book", str(book), "--adopt"]
     modules = str(Path(__file__).resolve().parents[1])
     environment = {name: value for name, value in os.environ.items() if not name.startswith("LISTEN_")}
@@ -478,11 +479,39 @@ def settle_book(places: Places, book: Path, table: Path, wish: Wish) -> Iterator
     if done.returncode != 0:
         why = events[-1].get("why") if events else done.stderr.strip()
         raise NotRestored(f"the market is brought back, and its book is not: {why}. Call this again, with the same words")
-    adopted = [
+    adopted = [f"of {caller} the keys of another history are forgotten" for caller in parted]
+    adopted += [
         f"of {it['caller']} it goes on behind command {it['journal']}, and not {it['book']}"
         for it in events if it["event"] == "adopted"
     ]
     yield f"{book}: {'; '.join(adopted) or 'it has the commands of the market'}{kept}"
+
+
+def forget_other_history(folder: Path, book: Path) -> List[str]:
+    """Has a book forget what it has of commands in whose place the market has others, as behind a copy of before an
+    earlier restore: by the numbers alone it would not be told. Gives whose they were."""
+    disks = Journal(folder, LARGEST).chain
+    stands = {(it.client, it.number): essence(it.call) for disk in disks for it in disk.commands}
+    with contextlib.closing(sqlite3.connect(book)) as base:
+        noted = base.execute("SELECT client, number, call FROM replies WHERE reply LIKE 'ok%'").fetchall()
+        noted += base.execute("SELECT client, number, call FROM slots WHERE number IS NOT NULL").fetchall()
+    first: Dict[int, int] = {}
+    for client, number, call in noted:
+        if stands.get((client, number), essence(call)) != essence(call):
+            first[client] = min(number, first.get(client, number))
+    parted = []
+    if first:
+        with contextlib.closing(Book(book)) as opened:
+            for client, number in first.items():
+                opened.adopt(client, number - 1)
+                parted.append(opened.slots[client].caller)
+    return parted
+
+
+def essence(call: str) -> List[str]:
+    """The words of a call without its hints."""
+    verb, *words = call.split(" ")
+    return [verb, *(word for kind, word in zip(VERBS.get(verb, ""), words) if kind != "h")]
 
 
 def settle_note(folder: Path, note: Path, wish: Wish, bar: Bar) -> Iterator[str]:

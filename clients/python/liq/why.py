@@ -9,9 +9,10 @@ nothing is wrong it writes nothing, and ends with 0.
 """
 import re
 import sys
-from typing import Dict, List, Optional, Tuple
+from typing import Dict, List, Optional
 
-from .grammar import LINE_BYTES_MOST, NAMES, NUMBER_MOST, QUERIES, NoRequest, read_number, read_request, read_words
+from .grammar import FORMS, LINE_BYTES_MOST, NAMES, NUMBER_MOST, QUERIES, Form, NoRequest
+from .grammar import read_asked, read_number, read_request
 from .journal import NO_HINT, VERBS
 
 SHOWN_MOST = 40  # bytes of a word that are shown again
@@ -27,10 +28,6 @@ ENDS = {
     "\r": "a carriage return stands at its end, as in a file from Windows: tr -d '\\r' takes them out",
     ";": "a semicolon stands at its end: a line ends with its last word",
     ",": "a comma stands at its end: a line ends with its last word",
-}
-SHAPES: Dict[str, Tuple[str, str, Tuple[str, ...]]] = {
-    "staking": ("AT ACCOUNT stake|unstake AMOUNT", "vawv", ("stake", "unstake")),
-    "rewards": ("tag ACCOUNT FRONT RATE", "waav", ("tag",)),
 }
 EXAMPLES = """
 python3 -m liq.why '1 2 open 1 10ether 4000lusd any - -'
@@ -60,13 +57,12 @@ def why_asked(word: str, line: str) -> str:
     """The same of a line of the word `serve`, `staking` or `rewards`."""
     if word == "serve":
         return why_session(line)
-    if word not in SHAPES:
+    if word not in FORMS:
         return why(line)
-    names, shape, verbs = SHAPES[word]
     try:
-        read_words(line, shape, *verbs)
+        read_asked(word, line)
     except NoRequest:
-        return why_form(line) or why_shape(line.split(" "), names, shape, verbs)
+        return why_form(line) or why_asked_words(line.split(" "), FORMS[word])
     return ""
 
 
@@ -81,16 +77,16 @@ def why_session(line: str) -> str:
     return why(rest) if space else "a request stands behind the session"
 
 
-def why_shape(words: List[str], names: str, shape: str, verbs: Tuple[str, ...]) -> str:
-    """What is wrong with the words of a line that has one form."""
-    told = names.split(" ")
+def why_asked_words(words: List[str], form: Form) -> str:
+    """What is wrong with the words of a line that is to have a form."""
+    told = form.names.split(" ")
     if len(words) != len(told):
-        return f"{names} has {len(told)} words, and the line {len(words)}"
-    at = shape.index("w")
-    if words[at] not in verbs:
-        return f"{shown(words[at])} stands where {' or '.join(verbs)} does: {names}"
+        return f"{form.names} has {len(told)} words, and the line {len(words)}"
+    at = form.letters.index("w")
+    if words[at] not in form.verbs:
+        return f"{shown(words[at])} stands where {' or '.join(form.verbs)} does: {form.names}"
     most = {"v": NUMBER_MOST, "a": NO_HINT}
-    for word, name, letter in zip(words, told, shape):
+    for word, name, letter in zip(words, told, form.letters):
         if letter != "w":
             said = why_number(word, name, most[letter])
             if said:
@@ -157,7 +153,7 @@ def why_command(line: str) -> str:
         if verb not in VERBS:
             return f"{shown(words[at])} stands where a number does: CLIENT NUMBER VERB WORDS, or ? QUERY WORDS"
         missing = "CLIENT and NUMBER stand" if at == 0 else "CLIENT or NUMBER is missing, which stand"
-        return f"{missing} in front of the verb: {form(verb)}"
+        return f"{missing} in front of the verb: {command_form(verb)}"
     for word, name, most in zip(words, ("CLIENT", "NUMBER"), (NO_HINT, NUMBER_MOST)):
         said = why_number(word, name, most)
         if said:
@@ -223,7 +219,7 @@ def left_out(given: List[str], names: List[str]) -> str:
     return said + ("; - says no hint" if "HINT" in missing else "")
 
 
-def form(verb: str) -> str:
+def command_form(verb: str) -> str:
     """How a command of a verb is written."""
     return f"CLIENT NUMBER {verb} {NAMES[verb]}".rstrip()
 
@@ -299,18 +295,31 @@ def line_of(path: str, number: int) -> Optional[str]:
     return None
 
 
+def print_first(path: str, word: str) -> None:
+    """Writes why the first line of a file that the word can't read is none of its lines."""
+    with open(path, "rb") as file:
+        for at, line in enumerate(file, 1):
+            said = why_asked(word, (line[:-1] if line.endswith(b"\n") else line).decode("latin-1"))
+            if said:
+                print(f"line {at}: {said}")
+                return
+
+
 def main(words: List[str]) -> int:
     from .console import parser_of  # a caller of `why` needs none
 
     parser = parser_of("why", __doc__, EXAMPLES)
     parser.add_argument("text", metavar="LINE|FILE", help="a line, or with --line a file")
-    parser.add_argument("--line", metavar="N", type=int, help="line N of the file, counted from 1")
-    parser.add_argument("--word", choices=("run", "serve", *SHAPES), default="run", help="the word that reads it")
+    parser.add_argument("--line", metavar="N", help="line N of the file, counted from 1; `first`: the first that is no request")
+    parser.add_argument("--word", choices=("run", "serve", *FORMS), default="run", help="the word that reads it")
     asked = parser.parse_args(words)
     line: Optional[str] = asked.text
     if asked.line is not None:
         try:
-            line = line_of(asked.text, asked.line)
+            if asked.line == "first":
+                print_first(asked.text, asked.word)
+                return 1
+            line = line_of(asked.text, int(asked.line))
         except OSError as fault:
             parser.error(f"{asked.text} can't be read: {fault.strerror}")
         if line is None:

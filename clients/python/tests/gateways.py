@@ -136,7 +136,11 @@ class Gateways(OverProgram):
 
     def start(self, *more: str, **variables: str) -> "subprocess.Popen[bytes]":
         """A gateway that listens."""
-        process = subprocess.Popen(self.words(*more), env={**self.environment, **variables})
+        return self.begun(self.words(*more), None, **variables)
+
+    def begun(self, words: List[str], log: Optional[int], **variables: str) -> "subprocess.Popen[bytes]":
+        """A gateway by all its words, and its standard error."""
+        process = subprocess.Popen(words, env={**self.environment, **variables}, stderr=log)
         self.addCleanup(process.wait)
         self.addCleanup(process.kill)
         while process.poll() is None:

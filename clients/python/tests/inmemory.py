@@ -44,6 +44,17 @@ def busy_market(market: Any) -> Any:
     return market
 
 
+class Carried:
+    """What fails where its pickle is read."""
+
+    def __reduce__(self) -> Any:
+        return carried, ()
+
+
+def carried() -> None:
+    raise AssertionError("a pickle is a program, and it was carried out")
+
+
 class Life(Cases):
     """Forks, saves, and the end of a market."""
 
@@ -89,6 +100,23 @@ class Life(Cases):
         for data in (b"", saved[:-1], saved + b"\0", saved[:8], bytes(len(saved)), *turned):
             self.assertRaises(BadSave, Market.load, data)
         self.assertRaises(TypeError, Market.load, None)
+
+    def test_a_save_that_somebody_else_made(self) -> None:
+        """Under a digest that is right it is refused, or it is a market that saves just these bytes. A pickle is no
+        save, and nothing in it is carried out."""
+        saved = busy_market(self.begin()).save()
+        refused = 0
+        for at in range(0, len(saved) - 32, 29):
+            forged = saved[:at] + bytes([saved[at] ^ 1]) + saved[at + 1 : -32]
+            forged += hashlib.sha256(forged).digest()
+            try:
+                self.assertEqual(Market.load(forged).save(), forged)
+            except BadSave:
+                refused += 1
+        self.assertGreater(refused, 0)
+        made = pickle.dumps(Carried())
+        self.assertRaises(BadSave, Market.load, made)
+        self.assertRaises(AssertionError, pickle.loads, made)
 
     def test_a_closed_market(self) -> None:
         market = self.begin()

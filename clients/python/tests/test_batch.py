@@ -7,12 +7,12 @@ import sys
 import unittest
 from typing import Any
 
-from liq import BatchStopped, Market, batch, ether, lusd, refusals
+from liq import BatchStopped, batch, ether, lusd, refusals
 from liq.journal import COMMAND, VERBS
 from liq.model.disks import command_bytes
 from liq.model.told import generated
 from liq.packed import FORMS
-from liq.replies import Adjusted, Opened, Trove, Wallet
+from liq.replies import Adjusted, Trove, Wallet
 
 from .calls import fives, no_whole_numbers
 from .inmemory import busy_market

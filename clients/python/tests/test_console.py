@@ -24,7 +24,7 @@ from .market import TOP, InFolder, OverProgram, status_of
 from .modelled import Made, two_depositors
 
 NO_PROGRAM = {"LIQ_PROGRAM": "/none"}
-NEED_NO_WORD = ("prompt",)
+NEED_NO_WORD = ("prompt", "whole")
 
 
 class Terminal(io.StringIO):
@@ -85,6 +85,9 @@ class Words(unittest.TestCase):
                 status, _, said = ran(main, "--seconds", word, "x")
                 self.assertEqual(status, 2)
                 self.assertIn("argument --seconds", said)
+
+    def test_the_pages_that_are_named(self) -> None:
+        self.assertIn("docs/GATEWAY.md its routines", ran(dict(mains())["gateway"], "--help")[1])
 
     def test_the_list(self) -> None:
         status, told, _ = ran(list_or_run)

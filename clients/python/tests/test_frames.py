@@ -11,7 +11,7 @@ from typing import Any, NamedTuple
 
 from liq import batch
 from liq.frames import fields_of, frame, table, write_csv
-from liq.replies import System, Trove, Wallet
+from liq.replies import BY_QUERY, BY_VERB, Adjusted, Redeemed, System, Trove, Wallet, places_of, told_fields
 
 from .inmemory import busy_market
 from .market import TOP, InFolder, OverLibrary, OverStandIn
@@ -71,6 +71,12 @@ class Tables(InFolder):
         write_csv(rows, told)
         write_csv(rows, str(self.folder / "again.csv"))
         self.assertEqual([told.getvalue(), (self.folder / "again.csv").read_text()], [text, text])
+
+    def test_each_field_has_a_unit_or_is_a_count(self) -> None:
+        counts = {"minute", "fee_minute", "mode", "troves", "stakes", "stake", "records", "count", "generation"}
+        for row in {*BY_VERB.values(), *BY_QUERY.values()}:
+            self.assertEqual(set(told_fields(row)) - set(places_of(row)), counts & set(row._fields), row)
+        self.assertEqual((places_of(Redeemed)["fee"], places_of(Adjusted)["fee"]), (9, 6))
 
     def test_without_pandas(self) -> None:
         told = subprocess.run([sys.executable, "-c", """
@@ -135,6 +141,36 @@ class Frames(unittest.TestCase):
         self.assertEqual((len(frame([])), len(frame([None]))), (0, 0))
         self.assertEqual(frame(System(*range(10))).to_numpy().tolist(), [list(range(10))])
         self.assertEqual(frame(iter([{"a": 1}, {"b": 2}])).to_numpy().tolist(), [[1, None], [None, 2]])
+
+    def test_scaled(self) -> None:
+        """A ratio of whole numbers wraps from 9.3 ether at a price of 1,000; of ether and LUSD it doesn't."""
+        rows = [Trove(1, 10 * 10**9, 2000 * 10**6, 5), None, Trove(2, 10**19, 2**63 + 1, 6)]
+        made = frame(rows, scaled=True)
+        self.assertEqual(made.to_dict("list"), {
+            "account": [1, 2], "coll": [10.0, 1e10], "debt": [2000.0, (2**63 + 1) / 10**6], "stake": [5, 6]})
+        self.assertEqual((made.coll * 1000 / made.debt)[0], 5)
+        self.assertEqual(str(made.stake.dtype), "int64")
+        self.assertLess((frame(rows[:1]).coll * (1000 * 10**6))[0], 0)
+        fees = frame([Redeemed(10**6, 10**9, 10**9, 10**18), Adjusted(10**9, 10**6, 10**6)], scaled=True)
+        self.assertEqual((fees.fee.tolist(), fees.base[0], fees.drawn[0]), ([1.0, 1.0], 1.0, 1.0))
+        self.assertEqual(frame(System(*[10**18] * 10), scaled=True).iloc[0].to_dict()["base_rate"], 1.0)
+
+    def test_scaled_by_a_type_that_is_said(self) -> None:
+        columns = Trove(None, numpy.array([10**9], ">u8"), [10**6], range(1))
+        row = {"coll": 10**9, "debt": 10**6, "stake": 0}
+        for rows, of in ((columns, None), (columns._asdict(), Trove), (row, Trove), ([row], Trove)):
+            made = frame(rows, scaled=True, of=of).to_dict("list")
+            self.assertEqual(made, {"coll": [1.0], "debt": [1.0], "stake": [0]})
+        for wrong in ({"coll": 1}, [{"coll": 1}], [Numbered(1)], {"coll": [1]}, [Noted(1, 2.0)]):
+            self.assertRaises(TypeError, frame, wrong, scaled=True)
+
+    def test_columns_of_no_rows(self) -> None:
+        for scaled in (False, True):
+            for rows in ([], [None, None], iter([])):
+                self.assertEqual(list(frame(rows, scaled, of=Trove)), list(Trove._fields))
+        self.assertEqual((list(frame([], of=Noted)), list(frame([]))), (["hour", "price"], []))
+        self.assertEqual({str(kind) for kind in frame([], of=Trove).dtypes}, {"int64"})
+        self.assertEqual(str(frame([], scaled=True, of=Trove).coll.dtype), "float64")
 
     def test_columns(self) -> None:
         turned, own = numpy.array([3, 4], ">u8"), pandas.Series([5, 6], dtype="Int64")

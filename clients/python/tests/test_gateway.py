@@ -1,13 +1,17 @@
 """The gateway as a process: who speaks, the table, lines, connections, signals, two gateways, counts and the log."""
 import contextlib
+import fcntl
 import json
 import os
+import shutil
 import signal
 import socket
 import subprocess
+import sys
 import threading
 import time
 import unittest
+from pathlib import Path
 from typing import List
 
 from liq import Journal, TimedOut
@@ -15,6 +19,8 @@ from liq.gateway.caller import Caller, Gone
 from liq.gateway.lines import Refused, read_line
 from liq.gateway.log import Counts, Log
 from liq.gateway.table import BadTable, parse_table, read_table
+from liq.own import NotOwn
+from liq.service import Service
 
 from .gateways import ME, SECONDS, TABLE, Gateways
 from .market import InFolder
@@ -138,7 +144,7 @@ class Speaking(Gateways):
         self.start("--mode", "666")
         for user, name, line, wanted in (
             (2001, None, "a fund 10 5", "ok"), (2000, "alice", "a fund 1 5", "ok"),
-            (2000, "bob", "", "refused caller"), (2001, "alice", "", "refused bad_line"),
+            (2000, "bob", "", "refused caller"), (2001, "alice", "? wallet 10", "refused caller"),
             (2002, None, "", "refused caller"), (0, None, "", "refused caller"),
         ):
             os.seteuid(user)
@@ -150,6 +156,15 @@ class Speaking(Gateways):
                 with contextlib.suppress(Gone):
                     caller.send(line)
                 self.assertEqual(caller.read()[:len(wanted)], wanted, (user, name))
+
+    def test_a_connection_speaks_as_one_caller(self) -> None:
+        """Who asks for another name learns so, before a line is carried out for whom it is not meant."""
+        self.start()
+        for name in ("bob", "alice", "carol"):
+            alice = self.caller("alice")
+            self.assertTrue(alice.ask(f"as {name}").startswith("refused caller"), name)
+            self.assertTrue(self.is_gone(alice))
+        self.assertTrue(self.caller("alice").ask("as fund 1 5").startswith("ok"))
 
     def test_the_forced_command(self) -> None:
         self.start()
@@ -286,6 +301,114 @@ class Processes(Gateways):
         self.assertIn("another process listens there", self.said())
         self.assertEqual(self.caller().ask("a fund 1 5"), "ok")
 
+    def test_a_log_that_nobody_reads(self) -> None:
+        """A full pipe or socket stops nobody, and what is not written is counted, and told once it is read."""
+        reading, writing = os.pipe()
+        fcntl.fcntl(writing, fcntl.F_SETPIPE_SZ, 4096)
+        ours, theirs = socket.socketpair()
+        for reader, log in ((reading, writing), (ours.detach(), theirs.detach())):
+            self.addCleanup(os.close, reader)
+            self.addCleanup(os.close, log)
+            with self.subTest(log):
+                self.check_log(reader, log)
+
+    def check_log(self, reader: int, log: int) -> None:
+        words = [word for word in self.words() if word not in ("--log", str(self.log))]
+        self.log.touch()
+        gateway = self.begun(words, log)
+        alice = self.caller()
+        key = f"k{log}-" + "x" * 50
+        for first in range(0, 1600, 400):
+            alice.socket.sendall(b"".join(b"%s%d fund 1 1\n" % (key.encode(), first + it) for it in range(400)))
+            self.assertEqual([alice.read() for _ in range(400)], ["ok"] * 400)
+        with Caller(self.counts) as asking:
+            lost = next(line for line in iter(asking.read, "") if line.startswith("liq_log_lines_lost"))
+        self.assertGreater(int(lost.split(" ")[1]), 0)
+        os.set_blocking(reader, False)
+        with contextlib.suppress(BlockingIOError):
+            while os.read(reader, 65536):
+                pass
+        alice.ask(f"{key}-last fund 1 1")
+        self.assertIn(b'"event": "lost"', os.read(reader, 65536))
+        for index in range(400):
+            alice.ask(f"{key}-more{index} fund 1 1")
+        gateway.terminate()
+        self.assertEqual(gateway.wait(30), 0)
+
+    def test_files_that_are_another_users(self) -> None:
+        """What a stranger may have made or may write is never taken for the gateway's own."""
+        book = self.folder / "book"
+        gateway = self.start("--book", str(book))
+        self.assertEqual(self.caller().ask("a fund 1 5"), "ok")
+        gateway.kill()
+        gateway.wait()
+        own = self.folder / "of mine"
+        own.write_text("")
+        for part in ("", "-wal", "-shm", "-journal"):
+            with self.subTest(part):
+                path = self.folder / f"book{part}"
+                kept = path.read_bytes() if path.exists() else None
+                links = lambda: path.symlink_to(own), lambda: os.link(own, path)
+                for spoil in (*links, path.mkdir, lambda: self.foreign(path)):
+                    path.unlink(missing_ok=True)
+                    spoil()
+                    self.assertEqual(self.ends("--book", str(book)), 1)
+                    self.assertIn(f"the book {path}: it ", self.said())
+                    path.rmdir() if path.is_dir() else path.unlink()
+                if kept is not None:
+                    path.write_bytes(kept)
+                    path.chmod(0o600)
+        self.start("--book", str(book))
+        self.assertEqual(self.caller().ask("? wallet 1"), "5 0")
+
+    @staticmethod
+    def foreign(path: Path) -> None:
+        """A file that others may write."""
+        path.write_text("")
+        path.chmod(0o666)
+
+    def test_folders_that_others_may_write(self) -> None:
+        """The sticky bit lets a stranger make a write-ahead log there, and is enough above the folder alone."""
+        for mode in (0o777, 0o1777, 0o770):
+            folder = self.folder / f"{mode:o}"
+            (folder / "below").mkdir(parents=True)
+            folder.chmod(mode)
+            self.assertEqual(self.ends("--book", str(folder / "book")), 1)
+            self.assertIn("others may write it", self.said())
+            self.assertRaises(NotOwn, Log, folder / "log")
+            if mode == 0o1777:
+                Log(folder / "below/log").close()
+            else:
+                self.assertRaises(NotOwn, Log, folder / "below/log")
+
+    def test_logs_that_are_none(self) -> None:
+        own, link, pipe = (self.folder / name for name in ("own", "link", "pipe"))
+        own.write_text("")
+        link.symlink_to(own)
+        os.mkfifo(pipe)
+        for path in (link, pipe, Path("/dev/null")):
+            self.assertRaises(NotOwn, Log, path)
+        own.chmod(0o602)
+        self.assertRaises(NotOwn, Log, own)
+        own.chmod(0o600)
+        if ME == 0:
+            os.chown(own, 1234, 0)
+            self.assertRaises(NotOwn, Log, own)
+
+    def test_adopts_without_a_socket(self) -> None:
+        gateway = self.start("--book", str(self.folder / "book"))
+        self.assertEqual(self.caller().ask("a fund 1 5"), "ok")
+        gateway.terminate()
+        gateway.wait(30)
+        shutil.rmtree(self.market)
+        Service(self.market, create=True).close()
+        words = [sys.executable, "-m", "liq.gateway", str(self.market), "--table", str(self.table)]
+        words += ["--log", str(self.log), "--book", str(self.folder / "book")]
+        for more, status in (([], 2), (["--adopt"], 0)):
+            self.assertEqual(subprocess.run(words + more, env=self.environment, timeout=SECONDS).returncode, status)
+        self.start("--book", str(self.folder / "book"))
+        self.assertEqual(self.caller().ask("? wallet 1"), "0 0")
+
     def test_what_a_kill_left(self) -> None:
         gateway = self.start()
         alice = self.caller()
@@ -401,7 +524,8 @@ class Processes(Gateways):
 
 class Logs(InFolder):
     def test_what_can_not_be_written(self) -> None:
-        log = Log("/dev/full")
+        log = Log()
+        log._file = os.open("/dev/full", os.O_WRONLY)
         log.write("one")
         log.write("two")
         self.assertEqual(log.lost, 2)

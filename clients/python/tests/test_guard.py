@@ -14,12 +14,12 @@ from typing import Dict, Iterator, List, Optional, Tuple
 from unittest import mock
 
 from liq import Journal, guard
-from liq.ends import Damaged, Unfit
+from liq.ends import Damaged
 from liq.journal import SIDES, holds_journal
 from liq.progress import Bar
 from liq.words import state
 
-from .market import PROGRAM, READY, InFolder, OverProgram
+from .market import PROGRAM, InFolder, OverProgram
 from .market import forged as files_after
 
 Pair = Dict[str, bytes]
@@ -35,6 +35,15 @@ def gate_of(record: int, begin: int = BEGIN) -> int:
 def forged(lines: List[str], versions: str = "2") -> Pair:
     """Both files after these commands."""
     return files_after(versions, lines)
+
+
+class NoFolder(InFolder):
+    def test_a_folder_that_is_not_there(self) -> None:
+        """liq begins no market in it."""
+        (self.folder / "file").write_text("")
+        for name in ("none", "file"):
+            path = self.folder / name
+            self.assertEqual([line.text for line in guard.guard(path)], [f"{path} is no folder: liq can't begin there"])
 
 
 class Looking(InFolder):
@@ -308,6 +317,31 @@ class Notes(Looking):
         self.assertEqual(status, 1)
         self.assertTrue(said.splitlines()[-1].startswith(begins), said)
         self.assertEqual(Path(self.note).read_bytes(), kept)
+
+    def test_a_note_that_is_another_users(self) -> None:
+        """It is no note of this program: a stranger's may be one of an older market."""
+        self.put(forged(["1 1 fund 1 5"]))
+        note = self.folder / "note"
+        self.assertEqual(guard.guard(self.folder, note), [])
+        kept = note.read_text()
+        (self.folder / "kept").write_text(kept)
+        links = lambda: note.symlink_to("kept"), lambda: os.link(self.folder / "kept", note)
+        for spoil in (*links, lambda: self.loose(note, kept)):
+            note.unlink()
+            spoil()
+            (said,) = guard.guard(self.folder, note)
+            self.assertTrue(said.is_finding and said.text.startswith(f"the note: {note}: it is "), said)
+            self.assertEqual(note.read_text(), kept)
+        note.unlink()
+        self.folder.chmod(0o1777)
+        self.addCleanup(self.folder.chmod, 0o700)
+        self.assertIn("others may write it", guard.guard(self.folder, note)[-1].text)
+        self.assertFalse(note.exists())
+
+    @staticmethod
+    def loose(path: Path, text: str) -> None:
+        path.write_text(text)
+        path.chmod(0o666)
 
     def test_a_market_behind_its_note(self) -> None:
         self.put(forged(FUNDS))

@@ -412,6 +412,16 @@ class Book(Gateways):
         self.assertRegex(said.splitlines()[-1], f"of alice it goes on behind command 1, and not 2; as it was it is {kept}$")
         self.assertEqual(self.ask("a fund 1 5", "? wallet 1", "b fund 1 5", "? wallet 1"), ["ok", "5 0", "ok", "10 0"])
 
+    def test_the_keys_of_another_history(self) -> None:
+        second = self.folder / "second"
+        backup.backup(self.market, second)
+        words = ["--older", "--table", self.table]
+        self.assertEqual(restored(*words, self.copy, self.market)[0], 0)
+        self.assertEqual(self.ask("other fund 1 7"), ["ok"])
+        status, said = restored(*words, second, self.market)
+        self.assertEqual((status, "of alice the keys of another history are forgotten" in said), (0, True), said)
+        self.assertEqual(self.ask("a fund 1 5", "? wallet 1", "other fund 1 7", "? wallet 1"), ["ok", "10 0", "ok", "17 0"])
+
     def test_beside_a_gateway(self) -> None:
         process = self.start()
         why = restored("--older", "--table", self.table, self.copy, self.market)[1]

@@ -2,7 +2,6 @@
 import os
 import re
 import signal
-import unittest
 from unittest import mock
 
 from liq import Journal, MarketExists, NoJournal, Service, ends, refusals, service

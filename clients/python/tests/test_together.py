@@ -8,8 +8,6 @@ from unittest import mock
 from liq import Service, ends, ether, lusd, refusals, service
 from liq.client import Calls
 from liq.errors import BadValue, NotReady, TimedOut
-from liq.model import Market as Model
-from liq.model import answer
 from liq.refusals import Refusal
 from liq.replies import Adjusted, Done, Opened
 from liq.together import LATER, Together

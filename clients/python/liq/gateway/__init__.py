@@ -1,7 +1,7 @@
 """A market for several callers: who speaks is known, and may do what a table says.
 
 `python3 -m liq.gateway` listens on a Unix socket in front of one run of liq. It is no part of what is proved:
-docs/SECURITY.md says what it defends against, docs/OPERATING.md how it is run. The way of a line:
+docs/SECURITY.md says what it defends against, docs/GATEWAY.md how it is run. The way of a line:
 
     door    who is connected, by the system's word; a line, read without waiting for others
     lines   the grammar

@@ -2,9 +2,11 @@
 
 usage: python3 -m liq.gateway FOLDER --socket PATH --table FILE [--counts PATH] [--archive DIR] [--book FILE]
                               [--log FILE] [--idle SECONDS] [--mode MODE] [--adopt]
+       python3 -m liq.gateway FOLDER --adopt --table FILE [--book FILE] [--log FILE]
 
 Who connects is known by the system's word, and the table says what each may do: `python3 -m pydoc liq.gateway.table`
-has its words, docs/OPERATING.md its routines. It writes nothing to standard output; the log is a JSON object a line.
+has its words, docs/GATEWAY.md its routines. It writes nothing to standard output; the log is a JSON object a line.
+With --adopt and no socket it adopts, and ends.
 
 It ends with 0 where it is stopped by TERM or INT; with 1 where it can't begin or can't go on;
 with 2 where its words are not understood; with 5 or 6 where the run of liq has: then look first, and begin nothing by
@@ -150,7 +152,8 @@ def parsed(words: List[str]) -> argparse.Namespace:
     parser.add_argument("--log", metavar="FILE", type=Path, help="JSON lines; standard error if left out")
     parser.add_argument("--idle", metavar="SECONDS", type=positive, default=SECONDS_IDLE, help="without a whole line")
     parser.add_argument("--mode", metavar="MODE", type=rights, default=0o660, help="of the sockets; 660 if left out")
-    parser.add_argument("--adopt", action="store_true", help="take the market's numbers where the book has others; without --socket, do that and end")
+    said = "takes the market's numbers where the book has others; ends then where there is no socket"
+    parser.add_argument("--adopt", action="store_true", help=said)
     return parser.parse_args(words)
 
 
@@ -175,7 +178,7 @@ def main(words: List[str]) -> int:
         signal.signal(number, lambda *_: None)
     try:
         log = Log(asked.log)
-    except OSError as fault:
+    except (Unfit, OSError) as fault:
         print(f"gateway: {fault}", file=sys.stderr)
         return 1
     try:

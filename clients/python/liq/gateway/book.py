@@ -15,16 +15,17 @@ It is a database of SQLite, which its process holds for itself.
 import contextlib
 import os
 import sqlite3
-import stat
 from pathlib import Path
 from typing import Dict, Iterator, Mapping, NamedTuple, Optional, Sequence
 
 from ..ends import Folder, Unfit
+from ..own import NotOwn, check_own
 
 KEYS_KEPT = 100_000  # of each caller, the newest
 KEYS_SLACK = 1_000
 VERSION = 1
 TITLE = 0x6C697167  # "liqg"
+PARTS = ("", "-wal", "-shm", "-journal")  # the files of the database: SQLite takes what is there for its own
 TABLES = """
 CREATE TABLE slots (
     client INTEGER PRIMARY KEY, caller TEXT NOT NULL UNIQUE, accepted INTEGER NOT NULL,
@@ -97,6 +98,7 @@ class Book:
         self.path, self.keys_kept = Path(path), keys_kept
         self.slots: Dict[int, Slot] = {}
         is_new = not self.path.exists()
+        self._check_rights()
         before = os.umask(0o077)
         try:
             self._base = sqlite3.connect(self.path, timeout=0, isolation_level=None, check_same_thread=False)
@@ -105,7 +107,6 @@ class Book:
         finally:
             os.umask(before)
         try:
-            self._check_rights()
             self._open(is_new)
         except sqlite3.Error as fault:
             self._base.close()
@@ -116,10 +117,15 @@ class Book:
             raise
 
     def _check_rights(self) -> None:
-        """Raises `BadBook` where somebody else could write it."""
-        found = self.path.stat()
-        if found.st_uid not in (0, os.geteuid()) or found.st_mode & (stat.S_IWGRP | stat.S_IWOTH):
-            raise BadBook(self.path, "it is another user's, or others may write it: chown and chmod go-w it")
+        """Raises `BadBook` where somebody else could have made or could write one of its files."""
+        for part in PARTS:
+            path = self.path.with_name(self.path.name + part)
+            try:
+                check_own(path)
+            except NotOwn as fault:
+                raise BadBook(path, fault.why if fault.path == path else str(fault)) from None
+            except OSError as fault:
+                raise BadBook(path, str(fault)) from None
 
     def _open(self, is_new: bool) -> None:
         for setting in "locking_mode = EXCLUSIVE", "journal_mode = WAL", "synchronous = FULL":

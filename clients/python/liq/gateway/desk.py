@@ -473,5 +473,5 @@ def _apart(slot: Slot, last: int) -> str:
     return (
         f"the market is {which} the book: of {slot.caller} it has accepted {last} commands under client {slot.client},"
         f" and the book {slot.accepted}. Was a copy of one of the two brought back, or were lines sent beside the"
-        " gateway? See docs/OPERATING.md; --adopt goes on from the market"
+        " gateway? See docs/GATEWAY.md; --adopt goes on from the market"
     )

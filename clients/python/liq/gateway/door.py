@@ -163,6 +163,8 @@ class Door:
         caller = self.table.callers.get(connection.name)
         if caller is None or not self.table.may_speak(connection.user, caller):
             raise Refused("caller", f"the table has changed: this connection is no more {connection.name}'s")
+        if data.startswith(b"as ") and data.count(b" ") == 1:  # what comes behind it is meant for somebody else
+            raise Refused("caller", f"this connection speaks as {caller.name} alone, and no other name is taken")
         line = read_line(data)
         caller.check(line)
         if self._is_closing or self.desk is None:

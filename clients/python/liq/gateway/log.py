@@ -1,6 +1,9 @@
 """The log, a JSON object a line, and the counts, a name and a number a line."""
 import json
 import os
+import select
+import socket
+import stat
 import threading
 import time
 from collections import Counter
@@ -8,13 +11,14 @@ from datetime import datetime, timezone
 from typing import Any, Dict, List, Optional, Tuple
 
 from ..ends import Folder
+from ..own import open_own
 
 REFUSALS_A_SECOND = 10  # of a caller, that are logged one by one; the others are counted
 
 
 class Log:
     """Writes events to a file that only grows, or to standard error. A line that can't be written is counted as lost,
-    and the next one that can be written says how many are."""
+    and the next one that can be written says how many are. It waits for nobody who should read what is written."""
 
     def __init__(self, path: Optional[Folder] = None) -> None:
         self._path = path
@@ -29,7 +33,7 @@ class Log:
     def _open(self) -> int:
         if self._path is None:
             return 2
-        return os.open(self._path, os.O_WRONLY | os.O_APPEND | os.O_CREAT | os.O_CLOEXEC, 0o600)
+        return open_own(self._path, os.O_WRONLY | os.O_APPEND | os.O_CREAT)
 
     def reopen(self) -> None:
         """Goes on in a new file, where the old one was moved away."""
@@ -61,7 +65,7 @@ class Log:
             written = 0
             try:
                 while written < len(data):
-                    written += os.write(self._file, data[written:])
+                    written += write_some(self._file, data[written:])
                 self._said_lost = self.lost
                 self._is_cut = False
             except OSError:
@@ -86,6 +90,20 @@ class Log:
             events.append(("refused", {"caller": caller, "name": name, **about}))
         if events:
             self.write_all(events)
+
+
+def write_some(descriptor: int, data: bytes) -> int:
+    """Writes a part of some bytes, and gives how many. A socket, a pipe or a terminal that takes none now, as where its
+    reader has stopped, is a `BlockingIOError` at once."""
+    kind = os.fstat(descriptor).st_mode
+    if stat.S_ISREG(kind):
+        return os.write(descriptor, data)
+    if stat.S_ISSOCK(kind):
+        with socket.socket(fileno=os.dup(descriptor)) as to:
+            return to.send(data, socket.MSG_DONTWAIT | socket.MSG_NOSIGNAL)
+    if not select.select([], [descriptor], [], 0)[1]:
+        raise BlockingIOError
+    return os.write(descriptor, data[: select.PIPE_BUF])  # a pipe that takes something takes so much
 
 
 class Counts:

@@ -9,7 +9,7 @@ from ..shares import PlainLedger
 from .amounts import ONE, STEP, part_of, refuse, rounded_up
 from .owed import weight_of
 from .pool import Place, gain_by, place_after
-from ..grammar import read_words
+from ..grammar import read_asked
 from .requests import check_accounts, refusal_text
 from .state import Event, Fee, Market, Offset, Own
 
@@ -74,7 +74,7 @@ class Stakers:
         """The replies to lines beside these events of so many records. Raises NoRequest, of the first that is none."""
         fees = deque(event for event in events if isinstance(event, Fee))
         told, least = [], 0
-        for at, account, verb, amount in [read_words(line, "vawv", "stake", "unstake") for line in lines]:
+        for at, account, verb, amount in [read_asked("staking", line) for line in lines]:
             try:
                 refuse(not least <= at <= records, OutOfPlace, at, least, records)
                 least = at
@@ -175,7 +175,7 @@ def rewards_text(market: Market, lines: Iterable[str]) -> List[str]:
     """What `rewards` writes, for a market whose events were kept since its beginning. Raises NoRequest."""
     told, earners = [], Earners()
     tags: Dict[int, Tuple[int, int]] = {}
-    for _, account, front, rate in [read_words(line, "waav", "tag") for line in lines]:
+    for _, account, front, rate in [read_asked("rewards", line) for line in lines]:
         try:
             check_accounts((account, front))
             refuse(rate > ONE, TagRate, rate, ONE)

@@ -14,6 +14,7 @@ from ..ends import Folder, TooMuch
 from ..errors import LiqError
 from ..history import begun, replay
 from ..journal import SIDES, Command, DamagedFile, Disk, is_open, read_checkpoint
+from ..unproved import sync_folder
 from .disks import checkpoint_bytes, command_bytes, header, record
 from .requests import is_repeated, reply_to
 from .state import Market
@@ -201,21 +202,12 @@ def take_files(folder: Folder) -> Pair:
             taken.append(Held(path, opened(path, others)))
             others.append(id_of(os.fstat(taken[-1].descriptor)))
         for place in {Path(os.path.realpath(held.path)).parent for held in taken} | {Path(folder)}:
-            sync(place)
+            sync_folder(place)
     except OSError:
         for held in taken:
             os.close(held.descriptor)
         raise
     return Pair(*taken)
-
-
-def sync(folder: Path) -> None:
-    """Syncs a folder."""
-    descriptor = os.open(folder, os.O_RDONLY | os.O_DIRECTORY | os.O_CLOEXEC)
-    try:
-        os.fsync(descriptor)
-    finally:
-        os.close(descriptor)
 
 
 class Store:

@@ -3,22 +3,19 @@ import contextlib
 from typing import Callable, Dict, Iterator, List, Optional, Sequence, Tuple
 
 from ..ends import Folder
+from ..grammar import NoRequest, Query, Request, read_asked, read_number, read_request
 from ..journal import DamagedFile
 from ..unproved import admit
 from .beside import rewards_text, staking_text
 from .files import Pair, Store, take_files
 from .follower import Follower
 from .owed import audit_text
-from ..grammar import NoRequest, Query, Request, read_number, read_request, read_words
 from .requests import reply_to
 from .state import Market
 from .streams import LINES_MOST, BadInput, Halt, Lines, Sink, Source
 from .told import gen_text, report_text, state_text
 
 USAGE = "usage: liq run, serve, state, audit or gen SEED COUNT"
-SHAPES: Dict[str, Tuple[str, ...]] = {  # of the lines of a word: see `read_words`
-    "staking": ("vawv", "stake", "unstake"), "rewards": ("waav", "tag"),
-}
 SESSIONS = "12345678"
 COUNT_MOST = 1_000_000
 FED_MOST = 2**28
@@ -168,7 +165,7 @@ def tell_rewards(run: Run) -> None:
 def checked(word: str) -> Callable[[str], str]:
     """What gives a line again that is one of a word's. It raises NoRequest."""
     def check(line: str) -> str:
-        read_words(line, *SHAPES[word])
+        read_asked(word, line)
         return line
 
     return check
