@@ -26,6 +26,7 @@ from liq.gateway.sockets import BadSocket
 from liq.guard import Parted
 from liq.journal import DamagedFile, NoRegularFile
 from liq.model.streams import BadInput, Halt
+from liq.own import NotOwn
 from liq.refusals import Refusal, read_refusal
 from liq.statement import NotStated
 
@@ -33,7 +34,7 @@ MADE = {  # by what an exception is made where that is not a message alone
     NoJournal: (Path("a"),), MarketExists: ("a",), NoRegularFile: (Path("a/left.liq"),),
     DamagedFile: (Path("a/left.liq"), 3, "its digest is another"), TooMuch: ("a/left.liq has", 5, "bytes"),
     Parted: (1, 2), Differing: (Path("a/1-0.liq"), Path("b/left.liq"), 1, True),
-    NotArchived: (Path("a"), "generation 2 is missing"), NoLine: ("staking", 3),
+    NotArchived: (Path("a"), "generation 2 is missing"), NoLine: ("staking", 3), NotOwn: ("a/book", "it is a link"),
     BatchStopped: (3, 8, (1, 2)), TimedOut: (2.5, "1 1 fund 1 5"),
     BadBook: ("a/book", "it is none"), Stopped: (5, "disk fault"), Refused: ("verb", "it is none of yours"),
     BadSocket: ("a/callers", "it is heard"),

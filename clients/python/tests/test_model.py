@@ -53,13 +53,12 @@ class OfPages(unittest.TestCase):
     """What the pages print."""
 
     def test_each_example_of_a_run(self) -> None:
-        for page, least in (("REFERENCE.md", 24), ("OPERATING.md", 3)):
-            seen = 0
-            for market, lines, replies in examples(page):
-                seen += 1
-                with self.subTest(page=page, lines=lines):
-                    self.assertEqual(list(run(market, lines)), replies)
-            self.assertGreaterEqual(seen, least)
+        seen = 0
+        for market, lines, replies in examples("REFERENCE.md"):
+            seen += 1
+            with self.subTest(lines=lines):
+                self.assertEqual(list(run(market, lines)), replies)
+        self.assertGreaterEqual(seen, 24)
 
     def test_a_generated_load(self) -> None:
         told = re.search(r"^\$ liq gen 7 20000\n(.*)$", document("SIMULATING.md"), re.M)

@@ -227,7 +227,8 @@ class Missing(OverStandIn):
                 self.assertIsInstance(raised.exception, LiqError)
                 self.assertIn("liq would begin a new market there", str(raised.exception))
             said = [line.text for line in guard(folder)]
-            self.assertIn(f"no journal in {folder}: liq would begin a new market there", said)
+            begins = f"no journal in {folder}: liq would begin a new market there"
+            self.assertIn(begins if folder.is_dir() else f"{folder} is no folder: liq can't begin there", said)
 
 
 class Programs(Seen):

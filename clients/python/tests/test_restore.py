@@ -441,7 +441,10 @@ class Book(Gateways):
         self.folder.chmod(0o711)
         self.table.chmod(0o644)
         copy.chmod(0o700)
-        words = [sys.executable, "-m", "liq.restore", "--older", "--table", str(self.table), str(copy), str(self.market)]
+        python = next((path for path in (sys.executable, "/usr/bin/python3") if not path.startswith("/root/")), "")
+        if not os.access(python, os.X_OK):
+            self.skipTest("it takes a Python that others than root reach")
+        words = [python, "-m", "liq.restore", "--older", "--table", str(self.table), str(copy), str(self.market)]
         modules = self.folder / "modules"
         shutil.copytree(TOP / "clients/python/liq", modules / "liq", ignore=shutil.ignore_patterns("__pycache__"))
         environment = {**self.environment, "PYTHONPATH": str(modules)}

@@ -115,7 +115,7 @@ class Wheels(InFolder):
     def test_with_a_library(self) -> None:
         stub = self.stub()
         wheel, said = built(self.folder / "made", str(stub))
-        self.assertEqual(said, "")
+        self.assertEqual(said, f"wheel: {stub} doesn't say that it was built from proofs\n")
         self.assertRegex(wheel.name, r"-py3-none-(many)?linux_([0-9]+_[0-9]+_)?x86_64\.whl$")
         with zipfile.ZipFile(wheel) as opened:
             self.assertEqual(opened.read("liq/libliq.so"), stub.read_bytes())

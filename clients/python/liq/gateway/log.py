@@ -1,4 +1,5 @@
 """The log, a JSON object a line, and the counts, a name and a number a line."""
+import contextlib
 import json
 import os
 import select
@@ -62,13 +63,11 @@ class Log:
                 events = [("lost", {"lines": self.lost - self._said_lost}), *events]
             lines = [json.dumps({"time": now, "event": event, **about}) + "\n" for event, about in events]
             data = ("\n" if self._is_cut else "").encode() + "".join(lines).encode("ascii")
-            written = 0
-            try:
-                while written < len(data):
-                    written += write_some(self._file, data[written:])
+            written = write_most(self._file, data)
+            if written == len(data):
                 self._said_lost = self.lost
                 self._is_cut = False
-            except OSError:
+            else:
                 self.lost += min(count, data.count(b"\n", written))
                 self._is_cut = self._is_cut or data[:written][-1:] != b"\n"
 
@@ -92,17 +91,30 @@ class Log:
             self.write_all(events)
 
 
+def write_most(descriptor: int, data: bytes) -> int:
+    """Writes as many of some bytes as are taken without waiting, and gives how many."""
+    written = 0
+    with contextlib.suppress(OSError):
+        while written < len(data):
+            part = write_some(descriptor, data[written:])
+            if not part:
+                break
+            written += part
+    return written
+
+
 def write_some(descriptor: int, data: bytes) -> int:
-    """Writes a part of some bytes, and gives how many. A socket, a pipe or a terminal that takes none now, as where its
-    reader has stopped, is a `BlockingIOError` at once."""
+    """Writes a part of some bytes, and gives how many: 0 where a socket, a pipe or a terminal takes none now, as where
+    its reader has stopped. It never waits."""
     kind = os.fstat(descriptor).st_mode
     if stat.S_ISREG(kind):
         return os.write(descriptor, data)
     if stat.S_ISSOCK(kind):
-        with socket.socket(fileno=os.dup(descriptor)) as to:
+        with contextlib.suppress(BlockingIOError), socket.socket(fileno=os.dup(descriptor)) as to:
             return to.send(data, socket.MSG_DONTWAIT | socket.MSG_NOSIGNAL)
+        return 0
     if not select.select([], [descriptor], [], 0)[1]:
-        raise BlockingIOError
+        return 0
     return os.write(descriptor, data[: select.PIPE_BUF])  # a pipe that takes something takes so much
 
 
