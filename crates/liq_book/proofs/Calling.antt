@@ -16,11 +16,12 @@ use Rattle.liq_types.specs.declared.requests.Request.TheVariants.{Ask, Do}
 use Rattle.liq_types.specs.State.{State}
 use Rattle.liq_core.specs.Core.{StandsFor}
 use Rattle.liq_rule_step.specs.History.{own_entries, requests_of, state_after}
+use Rattle.liq_rule_step.specs.Step.{run}
 use Rattle.liq_rule_step.proofs.Histories.{legal-empty, legal-snoc, state-snoc}
 use Rattle.liq_disk_pair.specs.Past.{AtCommand}
 use Rattle.liq_disk_pair.proofs.Keeping.{settled_kept}
 use Rattle.liq_disk_pair.specs.Pair.{commands_on}
-use Rattle.liq_store.specs.Keeping.{IsInOrder, IsInOrderWith, IsKeptAround}
+use Rattle.liq_store.specs.Keeping.{IsInOrder, IsInOrderWith, IsKeptAround, LeavesPairs}
 use Rattle.liq_rule_step.specs.Memory.{IsAccepted}
 use Rattle.liq_store.specs.Stored.{Stored}
 use Rattle.liq_store.proofs.Past.{goes_on, stops, stops_kept, waits}
@@ -30,8 +31,10 @@ use Rattle.liq_book.specs.declared.items.Halt.{Halt}
 use Rattle.liq_book.specs.declared.items.TheConstants.{ENTRIES_MOST}
 use Rattle.liq_book.specs.Booked.{IsBook, IsKeptByStep, KeepsDisks}
 use Rattle.liq_book.specs.Entered.{Enters, IsTestedFirst}
+use Rattle.liq_book.specs.Moments.{KeepsBetween, tried}
 use Rattle.liq_book.specs.Origin.{GoesOnFrom, IsAtOrigin}
 use Rattle.liq_book.specs.Past.{KeepsPast, since_origin}
+use Rattle.liq_book.proofs.Moments.{along_more, begins_between}
 use Rattle.liq_book.proofs.Pasts.{begins_past, forgets_past, requests_more}
 use Rattle.liq_types.proofs.Tests.{value_of}
 
@@ -109,6 +112,33 @@ module _ {D : Type 0} (at : D → DiskAt) where
         → halt ≡ None → Booking store entries halt → Keeps entries None store
     past_of store entries halt none b = subst (λ (h : Option Halt). Keeps entries h store) none b.past
 
+    -- and between its calls
+    between_of : (store : Stored D) (entries : List Entry) (halt : Option Halt) → halt ≡ None
+        → Booking store entries halt
+        → KeepsBetween at left_origin right_origin base (requests_of entries) store.left store.right
+    between_of store entries halt none b =
+        let P : Option Halt → Type 0 = λ h.
+        KeepsBetween at left_origin right_origin base (tried (requests_of entries) h) store.left store.right in
+        subst P none b.between
+
+    -- one call more, whatever it answers
+    between_more : (old new : Stored D) (entries : List Entry) (halt : Option Halt) (request : Request) (a : Answer)
+        → Booking old entries halt → halt ≡ None → old.stopped ≡ None → Called old request a new
+        → KeepsBetween at left_origin right_origin base (requests_of entries ++ request ∷ []) new.left new.right
+    between_more old new entries halt request a b none going c l r told_left told_right =
+        let past = past_of old entries halt none b l r told_left told_right in
+        let before = between_of old entries halt none b l r told_left told_right in
+        let s : State = (run base (requests_of entries)).0 in
+        let x = value_of (at old.left).seen past.left_tells in
+        let y = value_of (at old.right).seen past.right_tells in
+        let P : List Command → Type 0 = λ held.
+        LeavesPairs at old.left old.right new.left new.right (IsKeptAround s held request) in (
+          before.0 ++ ((at new.left).moment, (at new.right).moment) ∷ [],
+          along_more at old.left old.right new.left new.right c.disks.left_time c.disks.right_time base
+              (commands_on l r) (requests_of entries) request (left_origin.moment, right_origin.moment) before.0 before.1
+              (subst P (past.holds x.0 y.0 x.1 y.1) (c.disks.kept going x.0 y.0 s x.1 y.1 past.stands)),
+        )
+
     pub begins : (store : Stored D)
         → store.stopped ≡ None → IsAtOrigin at base left_origin right_origin store → IsInOrder at store
         → Booking store [] None
@@ -122,6 +152,7 @@ module _ {D : Type 0} (at : D → DiskAt) where
       left = origin.left.time;
       right = origin.right.time;
       past = begins_past at left_origin right_origin may_stay base store going origin order;
+      between = begins_between at left_origin right_origin base store origin;
     }
 
     -- the same with other changes
@@ -138,6 +169,7 @@ module _ {D : Type 0} (at : D → DiskAt) where
       left = b.left;
       right = b.right;
       past = forgets_past at left_origin right_origin base (requests_of entries) halt old changes b.past;
+      between = b.between;
     }) where
       other : KeepsDisks at halt (state_after base entries) old
           → KeepsDisks at halt (state_after base entries) (record old { changes = changes })
@@ -192,6 +224,10 @@ module _ {D : Type 0} (at : D → DiskAt) where
               (requests_of entries) old new
               (past_of old entries halt none b l r told_left told_right) ordered request reply still c.order (c.step_is going)
               c.disks);
+          between =
+              subst (λ requests. KeepsBetween at left_origin right_origin base requests new.left new.right)
+              (sym (requests_more entries e))
+              (between_more old new entries halt request (answer.Reply reply) b none going c);
         })
 
     -- without memory nothing happened
@@ -217,6 +253,7 @@ module _ {D : Type 0} (at : D → DiskAt) where
               (requests_of entries) old new
               (past_of old entries halt none b l r told_left told_right) ordered request still (c.step_is going)
               c.disks;
+          between = rw ((c.disks.no_memory refl).0, (c.disks.no_memory refl).1) (between_of old entries halt none b);
         })
 
     -- a fault of a disk is the halt
@@ -264,6 +301,7 @@ module _ {D : Type 0} (at : D → DiskAt) where
                     (requests_of entries) old new earlier ordered request failed.0 failed.1
                     (c.step_is going) c.disks x y (may_stay new.left x told_x) (may_stay new.right y told_y),
               );
+          between = between_more old new entries halt request answer.DiskFault b none going c;
         }
 
     -- any other answer leaves the book as it was

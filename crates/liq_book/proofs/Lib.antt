@@ -3,6 +3,7 @@ mod Calling
 pub mod Chronicles
 pub mod Gathering
 mod Learning
+pub mod Moments
 pub mod Pasts
 mod Seating
 mod Telling

@@ -15,6 +15,7 @@ use Rattle.liq_store.specs.Stored.{Stored}
 use Rattle.liq_types.specs.declared.entries.Entry.{Entry}
 use Rattle.liq_book.specs.declared.items.Halt.{Halt}
 use Rattle.liq_book.specs.declared.items.TheConstants.{ENTRIES_MOST}
+use Rattle.liq_book.specs.Moments.{KeepsBetween, tried}
 use Rattle.liq_book.specs.Origin.{GoesOnFrom, faults_at}
 use Rattle.liq_book.specs.Past.{KeepsPast}
 
@@ -55,7 +56,8 @@ module _ {D : Type 0} (at : D → DiskAt) where
 -- What holds of every book: the entries are a legal history from its base, and the store's protocol
 -- is in the state after them. A halt is there exactly where the store is stopped, with the faults
 -- that it then tells. What a crash may have left of its disks since the origin is of a run of the
--- entries' requests.
+-- entries' requests; and what it may have left within a call is kept for the state before that call
+-- or after it.
 pub record IsBook
     {D : Type 0} (at : D → DiskAt) (base : State) (left_origin right_origin : DiskAt)
     (book : Booked D) : Type 0 where
@@ -71,3 +73,6 @@ pub record IsBook
   pub right : GoesOnFrom right_origin (at book.store.right)
   pub past :
       KeepsPast at left_origin right_origin base (requests_of book.entries) book.halt book.store
+  pub between :
+      KeepsBetween at left_origin right_origin base (tried (requests_of book.entries) book.halt)
+      book.store.left book.store.right

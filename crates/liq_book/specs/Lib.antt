@@ -4,6 +4,7 @@ pub mod Closing
 pub mod Entered
 pub mod Entering
 pub mod Items
+pub mod Moments
 pub mod Opened
 pub mod Origin
 pub mod Past

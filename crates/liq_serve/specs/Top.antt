@@ -18,7 +18,8 @@ use Rattle.liq_journal.specs.declared.damage.Damage.{Damage}
 use Rattle.liq_disk_pair.specs.declared.side.Side.{Side}
 use Rattle.liq_disk_pair.specs.Kept.{IsKeptWith}
 use Rattle.liq_disk_pair.specs.Pair.{commands_on, state_on}
-use Rattle.liq_disk_pair.specs.Past.{AtCommand, Fault, NoFault, held_at_end}
+use Rattle.liq_disk_pair.specs.Past.{AtCommand, Fault, NoFault, failed_commands, held_at_end}
+use Rattle.liq_book.specs.Moments.{HasMoments}
 use Rattle.liq_text_scripts.specs.declared.scripts.TheConstants.{SESSIONS}
 use Rattle.liq_text_scripts.specs.Asked.{Asks}
 use Rattle.liq_text_scripts.specs.Output.{served}
@@ -208,6 +209,10 @@ module _ {S K D : Type 0} (source_at : S → SourceAt) (sink_at : K → SinkAt) 
     -- all that a crash at some moment may have left of the disks is of one run of these requests
     pub past : OfTold (λ l r. IfOk (state_on l r) (λ start. LeavesOfRun disk_at before.left
         before.right (λ met. met ≡ fault) l r start (requests_of history) after.left after.right))
+    -- what one within a call may have left has all that was answered before this call
+    pub moments : OfTold (λ l r. IfOk (state_on l r) (λ start. HasMoments disk_at before.left
+        before.right l r start (requests_of history ++ map Do (failed_commands fault))
+        after.left after.right))
 
   -- ---- `staking` and `rewards`
 

@@ -16,7 +16,11 @@ use Rattle.liq_disk_pair.specs.Past.{AtCommand, Fault, KeptAtEnd, LeavesPast, No
 use Rattle.liq_disk_pair.proofs.Alike.{kept_alike, settled_alike}
 use Rattle.liq_store.proofs.Past.{past_alike}
 use Rattle.liq_sessions.specs.declared.script.Script.{Script}
+use Rattle.liq_rule_step.specs.Step.{newly_accepted, step}
+use Rattle.liq_store.specs.Keeping.{IsKeptAround}
 use Rattle.liq_store.specs.Leaving.{RestAtEnd}
+use Rattle.liq_book.specs.Moments.{AreKeptAlong, tried}
+use Rattle.std.proofs.lemmas.List.{append-nil}
 use Rattle.liq_book.specs.declared.items.Halt.{Halt}
 use Rattle.liq_book.specs.Booked.{IsKeptByStep}
 use Rattle.liq_book.specs.Past.{IsFaultOf, LeavesFrom, since_origin}
@@ -40,6 +44,20 @@ around_alike : {s t : State} → Alike s t → (request : Request) (l r : List �
     → IsKeptByStep t request l r
 around_alike alike request l r kept = ⊎_elim (λ before. inl (kept_alike alike l r before))
     (λ after. inr (kept_alike (step_alike alike request) l r after)) kept
+
+newly_alike : {s t : State} → Alike s t → (request : Request) → newly_accepted s request ≡ newly_accepted t request
+newly_alike {s} {t} alike request =
+    sym (append-nil (newly_accepted s request)) ∙ accepted_alike (request ∷ []) alike
+    ∙ append-nil (newly_accepted t request)
+
+kept_around_alike : {s t : State} → Alike s t → (held : List Command) (request : Request) (a b : List ℕ)
+    → IsKeptAround s held request a b → IsKeptAround t held request a b
+kept_around_alike alike held request a b (inl kept) =
+    inl (record { kept = kept_alike alike a b kept.kept; commands = kept.commands })
+kept_around_alike alike held request a b (inr kept) = inr (record {
+  kept = kept_alike (step_alike alike request) a b kept.kept;
+  commands = kept.commands ∙ ap (kept_behind held) (newly_alike alike request);
+})
 
 -- what is kept at the end of a run from the one state is so of a run from the other
 with_from : {s t : State} → Alike s t → (l r : List ℕ) (requests : List Request) (a b : List ℕ)
@@ -138,10 +156,28 @@ module _ {D : Type 0} (at : D → DiskAt) where
                   (subst (λ (f : Fault). KeptAtEnd l r s requests f a b) from.1.2 (from.4 a b told_a told_b)),
             )
 
+  along_alike : (left right : D) (requests : List Request) (later : List (ℕ × ℕ)) (first : ℕ × ℕ)
+      (held : List Command) (s t : State) → Alike s t → AreKeptAlong at left right s held requests first later
+      → AreKeptAlong at left right t held requests first later
+  along_alike left right [] [] first held s t alike is = is
+  along_alike left right [] (next ∷ later) first held s t alike is = absurd is
+  along_alike left right (request ∷ requests) [] first held s t alike is = absurd is
+  along_alike left right (request ∷ requests) (next ∷ later) first held s t alike is = (
+    record {
+      left_time = is.0.left_time;
+      right_time = is.0.right_time;
+      leaves = λ a b at_a at_b. kept_around_alike alike held request a b (is.0.leaves a b at_a at_b);
+    },
+    along_alike left right requests later next (kept_behind held (newly_accepted t request)) (step s request).0
+        (step t request).0 (step_alike alike request)
+        (subst (λ (cs : List Command). AreKeptAlong at left right (step s request).0 (kept_behind held cs) requests next
+        later) (newly_alike alike request) is.1),
+  )
+
   pub serves_alike : {s t : State} → Alike s t → (left_origin right_origin : DiskAt) (scripts : List Script)
       (served : Served D)
       → Serves at s left_origin right_origin scripts served → Serves at t left_origin right_origin scripts served
-  serves_alike alike left_origin right_origin scripts served it =
+  serves_alike {s} {t} alike left_origin right_origin scripts served it =
       let entries : List Entry = served.history in
       record {
         legal = legal_alike alike entries it.legal;
@@ -157,5 +193,11 @@ module _ {D : Type 0} (at : D → DiskAt) where
           right_time = it.since.right_time;
           past = from_alike alike left_origin right_origin (requests_of entries) (halt_of served.end) served.left
               served.right it.since.past;
+          between = λ l r told_left told_right.
+              let was = it.since.between l r told_left told_right in (
+                was.0,
+                along_alike served.left served.right (tried (requests_of entries) (halt_of served.end)) was.0
+                    (left_origin.moment, right_origin.moment) (commands_on l r) s t alike was.1,
+              );
         };
       }

@@ -8,7 +8,7 @@ use Rattle.std.proofs.lemmas.List.Elements.{Contains-append_left, Contains-appen
 use Rattle.liq_outside.specs.At.{DiskAt}
 use Rattle.liq_outside.specs.Disk.{LeftNow}
 use Rattle.liq_types.specs.State.{State}
-use Rattle.liq_rule_step.specs.History.{state_after}
+use Rattle.liq_rule_step.specs.History.{requests_of, state_after}
 use Rattle.liq_rule_step.proofs.Histories.{legal-empty}
 use Rattle.liq_lock.specs.declared.lock.Lock.{Lock}
 use Rattle.liq_lock.specs.History.{Behind}
@@ -24,6 +24,7 @@ use Rattle.liq_sessions.specs.Sessions.{HasRun}
 use Rattle.liq_store.specs.Keeping.{IsInOrder}
 use Rattle.liq_store.specs.Stored.{Stored}
 use Rattle.liq_types.specs.declared.entries.Entry.{Entry}
+use Rattle.liq_types.specs.declared.requests.Request.{Request}
 use Rattle.liq_book.specs.declared.items.Halt.{Halt}
 use Rattle.liq_book.specs.declared.items.Item.{Item}
 use Rattle.liq_book.specs.declared.items.Item.TheVariants as item
@@ -34,6 +35,8 @@ use Rattle.liq_book.specs.Items.{calls_of, chronicle, entries_of, faulted_in, se
 use Rattle.liq_book.specs.Origin.{IsAtOrigin}
 use Rattle.liq_book.specs.Seats.{AreSeated, IsNewSeat, items_seen, session_at}
 use Rattle.liq_book.proofs.Chronicles.{entries_of-chronicle}
+use Rattle.liq_book.specs.Moments.{KeepsBetween, tried}
+use Rattle.liq_book.proofs.Moments.{begins_between}
 use Rattle.liq_book.proofs.Pasts.{begins_past, past_left}
 use Rattle.liq_word_serve.specs.Answered.{IsServedFrom, IsServedWhole, LacksMemory, answered_of}
 use Rattle.liq_word_serve.specs.declared.served.End.{End}
@@ -282,6 +285,9 @@ module _ {D : Type 0} (at : D → DiskAt) (base : State) (left_origin right_orig
         since = l.since;
       }
 
+  abbrev Between : List Request → D → D → Type 0
+  Between requests left right = KeepsBetween at left_origin right_origin base requests left right
+
   -- where there was no memory for a book
   pub serves_none :
       (may_stay : (disk : D) (held : List ℕ) → (at disk).seen ≡ Some held → LeftNow at disk held)
@@ -304,6 +310,13 @@ module _ {D : Type 0} (at : D → DiskAt) (base : State) (left_origin right_orig
           rw (end_is, history_is, left_is, right_is)
           (past_left at left_origin right_origin base [] None store order going
           (begins_past at left_origin right_origin may_stay base store going origin order));
+      between =
+          subst (λ (e : End). Between (tried (requests_of served.history) (halt_of e)) served.left served.right)
+          (sym end_is)
+          (subst (λ (entries : List Entry). Between (requests_of entries) served.left served.right) (sym history_is)
+          (subst (λ (x : D). Between [] x served.right) (sym left_is)
+          (subst (λ (y : D). Between [] store.left y) (sym right_is)
+          (begins_between at left_origin right_origin base store origin))));
     };
   }
 

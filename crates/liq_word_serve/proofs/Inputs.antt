@@ -57,7 +57,8 @@ use Rattle.liq_word_serve.specs.declared.served.Served.{Served}
 use Rattle.liq_word_serve.specs.Ends.{halt_of}
 use Rattle.liq_word_serve.specs.Input.{Answers, AreAtRest, DiskCause, EndsDamaged, HoldsAfter, IsFinishOf, LeavesDamaged, ServesInput, StayFor, Written, reading_of}
 use Rattle.liq_word_serve.specs.Serves.{AreNumbered, LeavesDisks, Serves}
-use Rattle.liq_word_serve.proofs.Stops.{LeavesAt, LeavesOpening, called, ended_behind, ends_behind, halted_in, leaves_served, leaves_unopened, leaves_unread}
+use Rattle.liq_book.specs.Moments.{HasMoments}
+use Rattle.liq_word_serve.proofs.Stops.{LeavesAt, LeavesOpening, called, ended_behind, ends_behind, halted_in, leaves_served, leaves_unopened, leaves_unread, moments_served, moments_unopened, moments_unread}
 use Rattle.liq_word_serve.proofs.Told.{all_from, all_to, all_unmap}
 
 -- ---- the scripts of what was asked
@@ -177,8 +178,10 @@ module _ {K D : Type 0} (sink_at : K → SinkAt) (disk_at : D → DiskAt)
       → (disk_at left).seen ≡ Some l → (disk_at right).seen ≡ Some r → state_on l r ≡ Err (side, damage)
       → LeavesDamaged disk_at left right l r side damage finished.finish finished.left finished.right)
       → LeavesAt disk_at left right finished.finish None [] finished.left finished.right
+      → ((l r : List ℕ) (start : State) → (disk_at left).seen ≡ Some l → (disk_at right).seen ≡ Some r
+      → HasMoments disk_at left right l r start [] finished.left finished.right)
       → ServesInput sink_at disk_at before unread out out left right finished
-  serves_none before unread out left right finished asked few read answers written disks damaged past = record {
+  serves_none before unread out left right finished asked few read answers written disks damaged past moments = record {
     asked = asked;
     history = [];
     answered = record {
@@ -191,6 +194,7 @@ module _ {K D : Type 0} (sink_at : K → SinkAt) (disk_at : D → DiskAt)
       legal = λ l r start told_l told_r is. legal-empty start;
       disks = disks;
       past = past;
+      moments = λ l r start told_l told_r is. moments l r start told_l told_r;
       damaged = damaged;
     };
     written = written;
@@ -213,6 +217,7 @@ module _ {K D : Type 0} (sink_at : K → SinkAt) (disk_at : D → DiskAt)
         shut = λ other a b told_a told_b. (inl (cc (sym told_a ∙ told_l)), inl (cc (sym told_b ∙ told_r)));
       })
       (leaves_unread disk_at may_stay left right why_not)
+      (λ l r start told_l told_r. moments_unread disk_at may_stay left right l r start)
 
   -- there was no memory for the output, and nothing was read
   pub serves_nothing : (before : Option (List ℕ)) (out : K) (left right : D)
@@ -295,6 +300,7 @@ module _ {K D : Type 0} (sink_at : K → SinkAt) (disk_at : D → DiskAt)
             (opens (λ is_why. other (ap finish.NotOpened is_why)) l r a b told_l told_r told_a told_b) is;
       })
       (leaves_unopened disk_at may_stay left right why_not now_left now_right opening left_time right_time rest)
+      (moments_unopened disk_at may_stay left right now_left now_right opening)
 
 -- ---- the sessions were served
 
@@ -476,6 +482,13 @@ module _ {D : Type 0} (disk_at : D → DiskAt) (store : Stored D) (scripts : Lis
                   (time_since disk_at store.left served.left serves.since.left_time)
                   (time_since disk_at store.right served.right serves.since.right_time)
                   (λ l r start told_l told_r is. serves_at start (stands_at l r start told_l told_r is)) how how_is;
+              moments = λ l r start told_l told_r is.
+                  let stands = stands_at l r start told_l told_r is in
+                  moments_served disk_at may_stay left right store scripts served opening opened order
+                  left_telling right_telling
+                  (time_since disk_at store.left served.left serves.since.left_time)
+                  (time_since disk_at store.right served.right serves.since.right_time)
+                  l r start told_l told_r stands (serves_at start stands);
               damaged = λ l r side damage told_l told_r is. absurd (cc ((opened.state l r told_l told_r).1, is));
             };
             written = written;

@@ -78,5 +78,6 @@ module _ {D : Type 0} (at : D → DiskAt) where
                 rw (halt_is, history_is, left_is, right_is)
                 (past_left at left_origin right_origin base
                 (requests_of history) halt store order book.halt book.past);
+            between = rw (halt_is, history_is, left_is, right_is) book.between;
           };
         }

@@ -1,9 +1,9 @@
 -- What a stop leaves of the disks, at any moment of serving an input.
-use Rattle.std.proofs.Common.{ℕ, ◌≡◌, ◌≢◌, ◌≤◌, inl, inr, List, [], ◌∷◌, Option, Some, None, Ok, refl, sym, ap, ◌∙◌, subst, arith}
+use Rattle.std.proofs.Common.{is_some, ◌++◌, ℕ, ◌≡◌, ◌≢◌, ◌≤◌, inl, inr, List, [], ◌∷◌, Option, Some, None, Ok, refl, sym, ap, ◌∙◌, subst, arith}
 use Rattle.std.specs.Prelude.{IfSome, IsSome, ◌↔◌, false}
 use Rattle.liq_outside.specs.At.{DiskAt}
 use Rattle.liq_outside.specs.Disk.{GoesOn, LeavesOnly, LeftNow, Only}
-use Rattle.liq_outside.proofs.Moments.{started}
+use Rattle.liq_outside.proofs.Moments.{started, unmoved}
 use Rattle.liq_types.specs.declared.requests.Command.{Command}
 use Rattle.liq_types.specs.declared.requests.Request.{Request}
 use Rattle.liq_types.specs.declared.requests.Request.TheVariants.{Do, Ask}
@@ -28,9 +28,13 @@ use Rattle.liq_store.specs.Leaving.{LeavesBoth, RestAtEnd}
 use Rattle.liq_store.specs.Opening.{OpensOn}
 use Rattle.liq_store.specs.Past.{Past}
 use Rattle.liq_store.specs.Stored.{Stored}
-use Rattle.liq_store.proofs.Past.{begins, joins, opening_leaves}
+use Rattle.liq_store.proofs.Past.{begins, joins, opened_holds, opening_leaves}
 use Rattle.liq_text_lines.specs.declared.stops.Stop.{Stop}
+use Rattle.liq_core.specs.Core.{StandsFor}
+use Rattle.liq_book.specs.Moments.{AreKeptAlong, HasMoments, tried}
 use Rattle.liq_book.specs.Past.{IsFaultOf, since_origin}
+use Rattle.liq_book.proofs.Moments.{within_opening}
+use Rattle.std.proofs.lemmas.List.{append-nil}
 use Rattle.liq_sessions.specs.declared.script.Script.{Script}
 use Rattle.liq_word_serve.specs.declared.input.Finish.{Finish}
 use Rattle.liq_word_serve.specs.declared.input.Finish.TheVariants as finish
@@ -38,7 +42,7 @@ use Rattle.liq_word_serve.specs.declared.served.End.{End}
 use Rattle.liq_word_serve.specs.declared.served.End.TheVariants as end
 use Rattle.liq_word_serve.specs.declared.served.Served.{Served}
 use Rattle.liq_word_serve.specs.Ends.{halt_of}
-use Rattle.liq_word_serve.specs.Input.{IsFaultAt, IsFinishOf}
+use Rattle.liq_word_serve.specs.Input.{IsFaultAt, IsFinishOf, tried_of}
 use Rattle.liq_word_serve.specs.Serves.{Serves}
 
 -- a session and its command
@@ -68,11 +72,25 @@ ends_behind m n l r start requests c a b same (inr (allowed, kept)) = inr (
   },
 )
 
+-- the one request of a call that met a fault
+called_is : (session : ℕ) (request : Request) (c : Command) → request ≡ Do c
+    → request ∷ [] ≡ tried_of (called session request)
+called_is session (Do d) c is = refl
+called_is session (Ask query) c is = absurd (cc (is))
+
 -- the call that met a disk's fault
 abbrev pub halted_in : End → Option (ℕ × Command)
 halted_in (end.DiskFault halt) = called halt.session halt.request
 halted_in end.All = None
 halted_in end.NoMemory = None
+
+-- what a book tried, by the call that met a fault
+tried_is : (requests : List Request) (e : End) (fault : Fault) → IsFaultOf (halt_of e) fault
+    → tried requests (halt_of e) ≡ requests ++ tried_of (halted_in e)
+tried_is requests end.All fault is = sym (append-nil requests)
+tried_is requests end.NoMemory fault is = sym (append-nil requests)
+tried_is requests (end.DiskFault halt) fault is =
+    ap (λ (rs : List Request). requests ++ rs) (called_is halt.session halt.request is.0 is.1)
 
 module _ {D : Type 0} (at : D → DiskAt) (left right : D) where
   -- what a stop leaves of these disks, when serving them finished so
@@ -152,6 +170,35 @@ module _ {D : Type 0} (at : D → DiskAt)
         }
         by why.NoMemory rest =
             record { fault = NoFault; fault_is = refl; images = images NoFault; rests = rest (λ e. cc) }
+
+  -- the moments between no calls
+  pub moments_unread : (l r : List ℕ) (start : State) → HasMoments at left right l r start [] left right
+  moments_unread l r start = record {
+    opened = ((at left).moment, (at right).moment);
+    later = [];
+    opening = λ only_l only_r kept.
+        within_opening at left right left right left right (IsRecovered l r start) (unmoved at left) (unmoved at right)
+        (unmoved at left) (unmoved at right) (λ a b in_left in_right.
+        let one = (started at left (λ x. x ≡ l) only_l).each a in_left in
+        let two = (started at right (λ x. x ≡ r) only_r).each b in_right in
+        subst (λ (x : List ℕ). IsRecovered l r start x b) (sym one)
+        (subst (λ (y : List ℕ). IsRecovered l r start l y) (sym two)
+        (inl (record { kept = kept; commands = refl }))));
+    each = refl;
+  }
+
+  pub moments_unopened : (now_left now_right : D) → LeavesOpening at left right now_left now_right
+      → (l r : List ℕ) (start : State) → (at left).seen ≡ Some l → (at right).seen ≡ Some r
+      → HasMoments at left right l r start [] now_left now_right
+  moments_unopened now_left now_right opening l r start told_l told_r = record {
+    opened = ((at now_left).moment, (at now_right).moment);
+    later = [];
+    opening = λ only_l only_r kept.
+        within_opening at left right now_left now_right now_left now_right (IsRecovered l r start)
+        (opening.left_leaves l r told_l told_r only_l).goes_on (opening.right_leaves r told_r only_r).goes_on
+        (unmoved at now_left) (unmoved at now_right) (opening.recovers l r start told_l told_r only_l only_r kept);
+    each = refl;
+  }
 
   -- ---- the sessions were served
 
@@ -254,3 +301,35 @@ module _ {D : Type 0} (at : D → DiskAt)
                 rests = λ x y in_left in_right. ends_behind a.0 b.0 l r start (requests_of entries) c x y
                     (past.holds a.0 b.0 a.1 b.1) (at_c.1 x y in_left in_right);
               })
+
+    -- the moments between the calls
+    pub moments_served : LeavesOpening at left right store.left store.right → OpensOn at left right store
+        → IsInOrder at store
+        → (IsSome (at store.left).seen ↔ IsSome (at left).seen)
+        → (IsSome (at store.right).seen ↔ IsSome (at right).seen)
+        → GoesOn at store.left served.left → GoesOn at store.right served.right
+        → (l r : List ℕ) (start : State) → (at left).seen ≡ Some l → (at right).seen ≡ Some r
+        → StandsFor store.core start → Serves at start (at store.left) (at store.right) scripts served
+        → HasMoments at left right l r start (requests_of entries ++ tried_of (halted_in served.end)) served.left
+        served.right
+    moments_served opening opened order left_telling right_telling left_time right_time l r start told_l told_r stands
+        serves =
+        let a = value_of (at store.left).seen (left_telling.1 (ap is_some told_l)) in
+        let b = value_of (at store.right).seen (right_telling.1 (ap is_some told_r)) in
+        let same = opened_holds at l r start left right store told_l told_r opened order stands a.0 b.0 a.1 b.1 in
+        let from = serves.since.past a.0 b.0 a.1 b.1 in
+        let between = serves.since.between a.0 b.0 a.1 b.1 in
+        let first : ℕ × ℕ = ((at store.left).moment, (at store.right).moment) in
+        let Along : List Command → List Request → Type 0 = λ held requests.
+        AreKeptAlong at served.left served.right start held requests first between.0 in
+        record {
+          opened = first;
+          later = between.0;
+          opening = λ only_l only_r kept.
+              within_opening at left right store.left store.right served.left served.right (IsRecovered l r start)
+              (opening.left_leaves l r told_l told_r only_l).goes_on (opening.right_leaves r told_r only_r).goes_on
+              left_time right_time (opening.recovers l r start told_l told_r only_l only_r kept);
+          each = subst (Along (commands_on l r)) (tried_is (requests_of entries) served.end from.0 from.1)
+              (subst (λ (held : List Command). Along held (tried (requests_of entries) (halt_of served.end))) same
+              between.1);
+        }

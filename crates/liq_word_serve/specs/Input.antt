@@ -3,8 +3,8 @@
 -- go by the finish. `ServesInput` has the first four, over one list of what the lines ask and one
 -- history of what was answered. The counts of sink and disks stand at the end. Which status a
 -- finish comes to is said in `liq_serve` (Finishing).
-use Rattle.std.specs.Prelude.{ℕ, ◌≡◌, ◌≢◌, ◌≤◌, ◌⊎◌, List, [], ◌∷◌, length, All}
-use Rattle.std.specs.Prelude.{false, true, Option, Some, Result, Ok, Err}
+use Rattle.std.specs.Prelude.{ℕ, ◌≡◌, ◌≢◌, ◌≤◌, ◌⊎◌, ◌++◌, List, [], ◌∷◌, length, All}
+use Rattle.std.specs.Prelude.{false, true, Option, Some, None, Result, Ok, Err}
 use Rattle.std.specs.Option.{IsSomeAnd}
 use Rattle.liq_outside.specs.At.{DiskAt, SinkAt}
 use Rattle.liq_outside.specs.Disk.{LeavesOnly, LeftNow, Only}
@@ -30,6 +30,7 @@ use Rattle.liq_store.specs.Causes.{CausesWhy, Faults, OneRose}
 use Rattle.liq_store.specs.Keeping.{IsAtRest}
 use Rattle.liq_store.specs.Standing.{OnlyShuts}
 use Rattle.liq_store.specs.Leaving.{LeavesBoth}
+use Rattle.liq_book.specs.Moments.{HasMoments}
 use Rattle.liq_text_lines.specs.Writing.{Writes, WritesPart}
 use Rattle.liq_text_lines.specs.declared.stops.Stop.{Stop}
 use Rattle.liq_text_scripts.specs.declared.scripts.TheConstants.{SESSIONS}
@@ -169,10 +170,16 @@ IsFaultAt finish.DiskFault halted fault =
 IsFaultAt (finish.NotOpened why.DiskFault) halted fault = fault ≡ InOpening
 IsFaultAt _ halted fault = fault ≡ NoFault
 
+-- the request whose call met a disk's fault
+abbrev pub tried_of : Option (ℕ × Command) → List Request
+tried_of None = []
+tried_of (Some call) = Do call.1 ∷ []
+
 -- What the lines asked was answered along this history, as far as the finish says. It is what they
 -- asked where the source told its bytes, and the history is legal from the state for which the
 -- disks stood, where they told theirs. If they were kept for it, and nothing was pending, a stop at
--- any moment leaves what one in a run of the history's requests leaves.
+-- any moment leaves what one in a run of the history's requests leaves. What one within a call
+-- leaves is kept for the state before that call or after it.
 pub record AnswersInput
     {D : Type 0} (disk_at : D → DiskAt) (before unread : Option (List ℕ)) (left right : D)
     (finished : Finished D) (asked : List (ℕ × Request)) (history : List Entry) : Type 0 where
@@ -199,6 +206,11 @@ pub record AnswersInput
       → state_on l r ≡ Ok start → IsKept l r start
       → LeavesBoth disk_at left right (IsFaultAt finished.finish halted) l r start
       (requests_of history) finished.left finished.right
+  pub moments :
+      (l r : List ℕ) (start : State) → (disk_at left).seen ≡ Some l → (disk_at right).seen ≡ Some r
+      → state_on l r ≡ Ok start
+      → HasMoments disk_at left right l r start (requests_of history ++ tried_of halted)
+      finished.left finished.right
   pub damaged :
       (l r : List ℕ) (side : Side) (damage : Damage)
       → (disk_at left).seen ≡ Some l → (disk_at right).seen ≡ Some r

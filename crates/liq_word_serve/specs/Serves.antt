@@ -15,6 +15,7 @@ use Rattle.liq_store.specs.Stored.{Stored}
 use Rattle.liq_sessions.specs.declared.script.Script.{Script}
 use Rattle.liq_book.specs.Booked.{CausesHalt, IsKeptByStep}
 use Rattle.liq_book.specs.declared.items.TheConstants.{ENTRIES_MOST}
+use Rattle.liq_book.specs.Moments.{KeepsBetween, tried}
 use Rattle.liq_book.specs.Origin.{GoesOnFrom, TellsList, faults_at}
 use Rattle.liq_book.specs.Past.{LeavesFrom}
 use Rattle.liq_word_serve.specs.declared.served.End.{End}
@@ -70,7 +71,8 @@ module _ {D : Type 0} (at : D → DiskAt) where
 
 -- What became of the disks since the service began. A count of faults rose exactly where a call met
 -- the fault; each tells its bytes exactly if it told them then, time went on, and what a stop may
--- have left of them is of a run of the history's requests.
+-- have left of them is of a run of the history's requests. What one within a call may have left is
+-- kept for the state before that call or after it.
 pub record HasGoneOn
     {D : Type 0} (at : D → DiskAt) (base : State) (left_origin right_origin : DiskAt)
     (served : Served D) : Type 0 where
@@ -82,6 +84,9 @@ pub record HasGoneOn
   pub past :
       LeavesFrom at left_origin right_origin base (requests_of served.history)
       (halt_of served.end) served.left served.right
+  pub between :
+      KeepsBetween at left_origin right_origin base
+      (tried (requests_of served.history) (halt_of served.end)) served.left served.right
 
 -- The history is legal from the state with which the service began. Each session's entries in it
 -- are the first requests of its script, in order, and all of them where the service ended with all;
