@@ -4,7 +4,7 @@ use Rattle.liq_types.specs.declared.requests.Command.{Command}
 use Rattle.liq_types.specs.declared.requests.Request.{Request}
 use Rattle.liq_types.specs.State.{State}
 use Rattle.liq_outside.specs.At.{DiskAt}
-use Rattle.liq_outside.specs.Disk.{GoesOn, LeftBetween}
+use Rattle.liq_outside.specs.Disk.{GoesOn}
 use Rattle.liq_rule_step.specs.Step.{accepted, newly_accepted, run, step}
 use Rattle.liq_disk_pair.specs.Commands.{kept_behind}
 use Rattle.liq_disk_pair.proofs.Behind.{behind_more}

@@ -257,6 +257,7 @@ module _
         → ReadsTo Asks bytes (source_at after.source).left asked reading
     pub fault : Fault
     pub met : (other : Fault) → Meets other → other ≡ fault
+    pub there : Meets fault
     pub so :
         ((reading ≡ end) × (history ≡ []) × (fault ≡ NoFault)
         × StopsUnopened source_at sink_at disk_at before after end)
@@ -270,7 +271,14 @@ module _
   came_whole : (end : End) (fault : Fault) → IsWholeRead → Unopened fault end ⊎ Answered fault end
       → Came (λ other. other ≡ fault) end
   came_whole end fault read so =
-      record { reading = Ok tt; read = read; fault = fault; met = λ other is. is; so = inr (refl, so) }
+      record {
+        reading = Ok tt;
+        read = read;
+        fault = fault;
+        met = λ other is. is;
+        there = refl;
+        so = inr (refl, so);
+      }
 
   -- a call met a disk's fault
   halted_by : (halted : Option (ℕ × Command)) → serving.Answers finish.DiskFault halted asked history
@@ -398,6 +406,7 @@ module _
         read = λ bytes told. read_so Asks why_not bytes (source_at after.source).left asked (a.read bytes told);
         fault = NoFault;
         met = λ other is. is;
+        there = refl;
         so = inl (refl, a.answers, refl, ((same why_not refl).0, (same why_not refl).1, stopping why_not));
       }
   came_by (finish.NotOpened why.DiskFault) a same then written =

@@ -30,6 +30,7 @@ use Rattle.liq_word_exit.proofs.Causes.{six, unread_causes}
 use Rattle.liq_word_exit.proofs.Damaged.{untouched_damaged}
 use Rattle.liq_word_exit.proofs.Opened.{standing_still, state_formed, untouched}
 use Rattle.liq_word_exit.proofs.Passing.{untouched_past}
+use Rattle.liq_word_serve.proofs.Stops.{moments_unread}
 use Rattle.liq_word_exit.proofs.Shares.{all_shares}
 use Rattle.liq_types.specs.declared.requests.Command.{Command}
 use Rattle.liq_fees.specs.Lines as stakes
@@ -198,6 +199,8 @@ module _
         ));
         past = λ l r told_l told_r. if_found (state_on l r) _
             (λ start is. untouched_past disk_at stays before.left before.right l r start _ refl told_l told_r);
+        moments = λ l r told_l told_r. if_found (state_on l r) _
+            (λ start is. moments_unread disk_at stays before.left before.right l r start);
       }
 
   lines_nothing : {X : Type 0} (Says : List ℕ → X → Type 0) (text : ℕ → List Command → List X → List ℕ)

@@ -209,7 +209,9 @@ module _ {S K D : Type 0} (source_at : S → SourceAt) (sink_at : K → SinkAt) 
     -- all that a crash at some moment may have left of the disks is of one run of these requests
     pub past : OfTold (λ l r. IfOk (state_on l r) (λ start. LeavesOfRun disk_at before.left
         before.right (λ met. met ≡ fault) l r start (requests_of history) after.left after.right))
-    -- what one within a call may have left has all that was answered before this call
+    -- and call by call: from the end of the opening on there is a moment of both disks behind each
+    -- request, and what a crash between two may have left is kept for the state before the request
+    -- there or after it. So it has all that was answered before that call.
     pub moments : OfTold (λ l r. IfOk (state_on l r) (λ start. HasMoments disk_at before.left
         before.right l r start (requests_of history ++ map Do (failed_commands fault))
         after.left after.right))

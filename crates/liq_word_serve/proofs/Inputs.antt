@@ -1,5 +1,5 @@
 -- What serving an input comes to, by what was read, opened and served.
-use Rattle.std.proofs.Common.{ℕ, zero, suc, ◌+◌, ◌<◌, ◌≤◌, ◌≡◌, ◌⊎◌, inl, inr, ⊎_elim, List, [], ◌∷◌, map, length, false, true, Option, Some, None, is_some, Result, Ok, Err, refl, sym, ap, ap₂, ◌∙◌, subst, arith}
+use Rattle.std.proofs.Common.{ℕ, zero, suc, ◌+◌, ◌<◌, ◌≤◌, ◌≡◌, inl, inr, ⊎_elim, List, [], ◌∷◌, map, length, false, true, Option, Some, None, is_some, Result, Ok, Err, refl, sym, ap, ap₂, ◌∙◌, subst, arith, ◌++◌}
 use Rattle.std.specs.Prelude.{◌↔◌, ◌≢◌, All, Contains, IsSome, Vec, slice_index_or}
 use Rattle.std.specs.List.{AllByRecursion}
 use Rattle.std.specs.Global.{Global}
@@ -58,7 +58,7 @@ use Rattle.liq_word_serve.specs.Ends.{halt_of}
 use Rattle.liq_word_serve.specs.Input.{Answers, AreAtRest, DiskCause, EndsDamaged, HoldsAfter, IsFinishOf, LeavesDamaged, ServesInput, StayFor, Written, reading_of}
 use Rattle.liq_word_serve.specs.Serves.{AreNumbered, LeavesDisks, Serves}
 use Rattle.liq_book.specs.Moments.{HasMoments}
-use Rattle.liq_word_serve.proofs.Stops.{LeavesAt, LeavesOpening, called, ended_behind, ends_behind, halted_in, leaves_served, leaves_unopened, leaves_unread, moments_served, moments_unopened, moments_unread}
+use Rattle.liq_word_serve.proofs.Stops.{LeavesAt, LeavesOpening, called, ended_behind, ends_behind, halted_in, leaves_served, leaves_unopened, leaves_unread, moments_served, moments_unopened, moments_unread, none_tried, tried_failed}
 use Rattle.liq_word_serve.proofs.Told.{all_from, all_to, all_unmap}
 
 -- ---- the scripts of what was asked
@@ -194,7 +194,9 @@ module _ {K D : Type 0} (sink_at : K → SinkAt) (disk_at : D → DiskAt)
       legal = λ l r start told_l told_r is. legal-empty start;
       disks = disks;
       past = past;
-      moments = λ l r start told_l told_r is. moments l r start told_l told_r;
+      moments = λ l r start told_l told_r is fault at.
+          subst (λ (rs : List Request). HasMoments disk_at left right l r start rs finished.left finished.right)
+          (none_tried finished.finish fault at) (moments l r start told_l told_r);
       damaged = damaged;
     };
     written = written;
@@ -482,13 +484,16 @@ module _ {D : Type 0} (disk_at : D → DiskAt) (store : Stored D) (scripts : Lis
                   (time_since disk_at store.left served.left serves.since.left_time)
                   (time_since disk_at store.right served.right serves.since.right_time)
                   (λ l r start told_l told_r is. serves_at start (stands_at l r start told_l told_r is)) how how_is;
-              moments = λ l r start told_l told_r is.
+              moments = λ l r start told_l told_r is fault at.
                   let stands = stands_at l r start told_l told_r is in
-                  moments_served disk_at may_stay left right store scripts served opening opened order
+                  subst (λ (rs : List Request). HasMoments disk_at left right l r start
+                  (histories.requests_of entries ++ rs) served.left served.right)
+                  (tried_failed served.end how how_is fault at)
+                  (moments_served disk_at may_stay left right store scripts served opening opened order
                   left_telling right_telling
                   (time_since disk_at store.left served.left serves.since.left_time)
                   (time_since disk_at store.right served.right serves.since.right_time)
-                  l r start told_l told_r stands (serves_at start stands);
+                  l r start told_l told_r stands (serves_at start stands));
               damaged = λ l r side damage told_l told_r is. absurd (cc ((opened.state l r told_l told_r).1, is));
             };
             written = written;

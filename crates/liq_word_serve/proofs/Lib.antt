@@ -4,5 +4,5 @@ mod Counting
 mod Inputs
 mod Leaving
 mod Mapped
-mod Stops
+pub mod Stops
 mod Told

@@ -1,6 +1,6 @@
 -- What a stop leaves of the disks, at any moment of serving an input.
 use Rattle.std.proofs.Common.{is_some, ◌++◌, ℕ, ◌≡◌, ◌≢◌, ◌≤◌, inl, inr, List, [], ◌∷◌, Option, Some, None, Ok, refl, sym, ap, ◌∙◌, subst, arith}
-use Rattle.std.specs.Prelude.{IfSome, IsSome, ◌↔◌, false}
+use Rattle.std.specs.Prelude.{IfSome, IsSome, ◌↔◌, ◌⊎◌, false, map}
 use Rattle.liq_outside.specs.At.{DiskAt}
 use Rattle.liq_outside.specs.Disk.{GoesOn, LeavesOnly, LeftNow, Only}
 use Rattle.liq_outside.proofs.Moments.{started, unmoved}
@@ -17,7 +17,7 @@ use Rattle.liq_disk_pair.specs.declared.side.Side.TheVariants.{Left, Right}
 use Rattle.liq_disk_pair.specs.Kept.{IsKept}
 use Rattle.liq_disk_pair.specs.Commands.{kept_behind}
 use Rattle.liq_disk_pair.specs.Pair.{commands_on, state_on}
-use Rattle.liq_disk_pair.specs.Past.{AtCommand, Fault, InOpening, KeptAtEnd, LeavesPast, NoFault}
+use Rattle.liq_disk_pair.specs.Past.{AtCommand, Fault, InOpening, KeptAtEnd, LeavesPast, NoFault, failed_commands}
 use Rattle.liq_rule_step.specs.Step.{accepted}
 use Rattle.liq_disk_pair.specs.Sides.{on}
 use Rattle.liq_disk_pair.specs.Unfinished.{IsRecovered, LeftLeaves}
@@ -42,7 +42,7 @@ use Rattle.liq_word_serve.specs.declared.served.End.{End}
 use Rattle.liq_word_serve.specs.declared.served.End.TheVariants as end
 use Rattle.liq_word_serve.specs.declared.served.Served.{Served}
 use Rattle.liq_word_serve.specs.Ends.{halt_of}
-use Rattle.liq_word_serve.specs.Input.{IsFaultAt, IsFinishOf, tried_of}
+use Rattle.liq_word_serve.specs.Input.{IsFaultAt, IsFinishOf}
 use Rattle.liq_word_serve.specs.Serves.{Serves}
 
 -- a session and its command
@@ -72,6 +72,11 @@ ends_behind m n l r start requests c a b same (inr (allowed, kept)) = inr (
   },
 )
 
+-- the request whose call met a disk's fault
+abbrev pub tried_of : Option (ℕ × Command) → List Request
+tried_of None = []
+tried_of (Some call) = Do call.1 ∷ []
+
 -- the one request of a call that met a fault
 called_is : (session : ℕ) (request : Request) (c : Command) → request ≡ Do c
     → request ∷ [] ≡ tried_of (called session request)
@@ -91,6 +96,40 @@ tried_is requests end.All fault is = sym (append-nil requests)
 tried_is requests end.NoMemory fault is = sym (append-nil requests)
 tried_is requests (end.DiskFault halt) fault is =
     ap (λ (rs : List Request). requests ++ rs) (called_is halt.session halt.request is.0 is.1)
+
+-- a fault that is nowhere, or in the opening, has no command
+none_failed : (fault : Fault) → (fault ≡ NoFault) ⊎ (fault ≡ InOpening) → [] ≡ map Do (failed_commands fault)
+none_failed fault (inl is) = ap (λ (f : Fault). map Do (failed_commands f)) (sym is)
+none_failed fault (inr is) = ap (λ (f : Fault). map Do (failed_commands f)) (sym is)
+
+pub none_tried : (how : Finish) (fault : Fault) → IsFaultAt how None fault → [] ≡ map Do (failed_commands fault)
+none_tried finish.All fault is = none_failed fault (inl is)
+none_tried finish.WriteFault fault is = none_failed fault (inl is)
+none_tried finish.NoMemory fault is = none_failed fault (inl is)
+none_tried finish.DiskFault fault is = absurd is
+none_tried (finish.NotRead why_not) fault is = none_failed fault (inl is)
+none_tried (finish.NotOpened why.DiskFault) fault is = none_failed fault (inr is)
+none_tried (finish.NotOpened why.NoMemory) fault is = none_failed fault (inl is)
+none_tried (finish.NotOpened (why.Damaged side damage)) fault is = none_failed fault (inl is)
+
+-- the request whose call met a fault is that of the fault's command
+request_tried : (session : ℕ) (request : Request) (fault : Fault)
+    → IsFaultAt finish.DiskFault (called session request) fault
+    → tried_of (called session request) ≡ map Do (failed_commands fault)
+request_tried session (Do c) fault is = ap (λ (f : Fault). map Do (failed_commands f)) (sym is)
+request_tried session (Ask query) fault is = absurd is
+
+pub tried_failed : (e : End) (how : Finish) → IsFinishOf e how → (fault : Fault) → IsFaultAt how (halted_in e) fault
+    → tried_of (halted_in e) ≡ map Do (failed_commands fault)
+tried_failed end.All how (inl how_is) fault is =
+    none_failed fault (inl (subst (λ (h : Finish). IsFaultAt h None fault) how_is is))
+tried_failed end.All how (inr how_is) fault is =
+    none_failed fault (inl (subst (λ (h : Finish). IsFaultAt h None fault) how_is is))
+tried_failed end.NoMemory how how_is fault is =
+    none_failed fault (inl (subst (λ (h : Finish). IsFaultAt h None fault) how_is is))
+tried_failed (end.DiskFault halt) how how_is fault is =
+    request_tried halt.session halt.request fault
+    (subst (λ (h : Finish). IsFaultAt h (called halt.session halt.request) fault) how_is is)
 
 module _ {D : Type 0} (at : D → DiskAt) (left right : D) where
   -- what a stop leaves of these disks, when serving them finished so

@@ -4,7 +4,7 @@
 -- history of what was answered. The counts of sink and disks stand at the end. Which status a
 -- finish comes to is said in `liq_serve` (Finishing).
 use Rattle.std.specs.Prelude.{ℕ, ◌≡◌, ◌≢◌, ◌≤◌, ◌⊎◌, ◌++◌, List, [], ◌∷◌, length, All}
-use Rattle.std.specs.Prelude.{false, true, Option, Some, None, Result, Ok, Err}
+use Rattle.std.specs.Prelude.{false, true, map, Option, Some, Result, Ok, Err}
 use Rattle.std.specs.Option.{IsSomeAnd}
 use Rattle.liq_outside.specs.At.{DiskAt, SinkAt}
 use Rattle.liq_outside.specs.Disk.{LeavesOnly, LeftNow, Only}
@@ -23,7 +23,8 @@ use Rattle.liq_disk_pair.specs.declared.side.Side.{Side}
 use Rattle.liq_disk_pair.specs.Commands.{kept_behind}
 use Rattle.liq_disk_pair.specs.Kept.{IsKept, IsKeptWith}
 use Rattle.liq_disk_pair.specs.Pair.{commands_on, state_on}
-use Rattle.liq_disk_pair.specs.Past.{AtCommand, Fault, InOpening, NoFault, held_at_end}
+use Rattle.liq_disk_pair.specs.Past.{AtCommand, Fault, InOpening, NoFault, failed_commands}
+use Rattle.liq_disk_pair.specs.Past.{held_at_end}
 use Rattle.liq_disk_pair.specs.Unfinished.{IsRecovered, LeftLeaves}
 use Rattle.liq_store.specs.declared.answers.StoreWhy.TheVariants as why
 use Rattle.liq_store.specs.Causes.{CausesWhy, Faults, OneRose}
@@ -170,11 +171,6 @@ IsFaultAt finish.DiskFault halted fault =
 IsFaultAt (finish.NotOpened why.DiskFault) halted fault = fault ≡ InOpening
 IsFaultAt _ halted fault = fault ≡ NoFault
 
--- the request whose call met a disk's fault
-abbrev pub tried_of : Option (ℕ × Command) → List Request
-tried_of None = []
-tried_of (Some call) = Do call.1 ∷ []
-
 -- What the lines asked was answered along this history, as far as the finish says. It is what they
 -- asked where the source told its bytes, and the history is legal from the state for which the
 -- disks stood, where they told theirs. If they were kept for it, and nothing was pending, a stop at
@@ -208,9 +204,9 @@ pub record AnswersInput
       (requests_of history) finished.left finished.right
   pub moments :
       (l r : List ℕ) (start : State) → (disk_at left).seen ≡ Some l → (disk_at right).seen ≡ Some r
-      → state_on l r ≡ Ok start
-      → HasMoments disk_at left right l r start (requests_of history ++ tried_of halted)
-      finished.left finished.right
+      → state_on l r ≡ Ok start → (fault : Fault) → IsFaultAt finished.finish halted fault
+      → HasMoments disk_at left right l r start
+      (requests_of history ++ map Do (failed_commands fault)) finished.left finished.right
   pub damaged :
       (l r : List ℕ) (side : Side) (damage : Damage)
       → (disk_at left).seen ≡ Some l → (disk_at right).seen ≡ Some r

@@ -76,6 +76,8 @@ serves_to g c =
       past = λ l r told_l told_r. if_found (state_on l r) _ (λ start found only_l only_r kept.
           let so = answered.past l r start told_l told_r only_l only_r found kept in
           record { fault = so.fault; fault_is = came.met so.fault so.fault_is; images = so.images; rests = so.rests });
+      moments = λ l r told_l told_r. if_found (state_on l r) _ (λ start found.
+          answered.moments l r start told_l told_r found came.fault came.there);
       lawful = λ l r told_l told_r. if_found (state_on l r) _ (λ start found. (
         answered.legal l r start told_l told_r found,
         all_shares start (requests_of served.history) (state_formed l r start found),
