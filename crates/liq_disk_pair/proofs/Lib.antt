@@ -10,7 +10,7 @@ pub mod Commands
 pub mod FirstPlace
 pub mod Formed
 pub mod Generations
-pub mod Heard
+mod Heard
 pub mod Hints
 mod ImageTables
 pub mod Keeping
