@@ -53,8 +53,9 @@ from .own import check_own
 from .progress import Bar
 from .reasons import distrusted
 from .scratch import bounded, scratch
+from .service import find_program
 from .units import counted
-from .unproved import Unproved, is_marked
+from .unproved import Unproved, is_marked, is_proved
 
 RECORDS_READ = 1_000_001  # the gate behind a full journal's last record is that of this one, and liq reads no further
 RECORDS_AT_ONCE = 8128
@@ -853,6 +854,14 @@ def _adopted(asked: Namespace) -> int:
     return 0
 
 
+def said_of_program() -> Iterator[Line]:
+    """A program that would be run over a market, and that was not built from proofs. A launcher is none."""
+    program = find_program()
+    with contextlib.suppress(OSError, Unfit), open_file(program) as file:
+        if file.read(4) == b"\x7fELF" and not is_proved(program):
+            yield Line(f"{program} was not built from proofs: see what `liq version` says of it", is_finding=False)
+
+
 def _mended_and_judged(asked: Namespace) -> int:
     """Mends where that is asked for, and looks. Gives the status."""
     told: List[str] = []
@@ -882,6 +891,7 @@ def _mended_and_judged(asked: Namespace) -> int:
                 found = judged(asked.folder, How(asked.note, False, asked.quick, bar))
     except (Unfit, OSError) as fault:
         found = found._replace(lines=[Line(f"the guard can't look: {fault}")])
+    found = found._replace(lines=found.lines + list(said_of_program()))
     may_start = not refused and not found.found
     if asked.json:
         sys.stdout.write(as_json({
