@@ -7,6 +7,7 @@ import io
 import os
 import random
 import subprocess
+import sys
 import time
 import unittest
 from pathlib import Path
@@ -19,7 +20,7 @@ from liq.journal import SIDES, holds_journal
 from liq.progress import Bar
 from liq.words import state
 
-from .market import PROGRAM, InFolder, OverProgram
+from .market import PROGRAM, TOP, InFolder, OverProgram
 from .market import forged as files_after
 
 Pair = Dict[str, bytes]
@@ -554,6 +555,20 @@ class Settled(Looking):
         with mock.patch("os.fsync", side_effect=OSError(errno.EINVAL, "Invalid argument")):
             self.assertEqual(self.run_guard(), (0, ""))
             self.assertEqual(len(Journal(self.folder).lines), 6)
+
+
+class OfWhat(Looking):
+    """The program that would be run."""
+
+    def test_a_program_that_was_not_built_from_proofs(self) -> None:
+        self.put(forged(FUNDS))
+        program = os.path.realpath(sys.executable)
+        with mock.patch.dict(os.environ, {"LIQ_PROGRAM": program}):
+            told = f"{program} was not built from proofs: see what `liq version` says of it\n"
+            self.assertEqual(self.run_guard(), (0, told))
+        for other in ("/bin/false-program", str(TOP / "bin/liq")):
+            with mock.patch.dict(os.environ, {"LIQ_PROGRAM": other}):
+                self.assertEqual(self.run_guard(), (0, ""))
 
 
 class Mended(Looking):
