@@ -8,6 +8,7 @@ began is marked from its first byte on, and neither of them opens files that hav
 The file has a line that says what it is, and then a name and a value a line: `program`, `commit`, `date` and so on.
 """
 import os
+import struct
 import subprocess
 import time
 from pathlib import Path
@@ -122,5 +123,24 @@ def commit() -> Optional[str]:
 
 
 def is_proved(program: Folder) -> bool:
-    """Whether a program says that it was built from proofs. One that only looks so is somebody's lie, not an error."""
-    return PROVED in Path(program).read_bytes()
+    """Whether a program says in its section .comment that it was built from proofs. One that only looks so is somebody's
+    lie, not an error."""
+    return any(words.startswith(PROVED) for words in comment_of(Path(program).read_bytes()).split(b"\0"))
+
+
+def comment_of(file: bytes) -> bytes:
+    """The section .comment of a little-endian ELF file of 64 bits; nothing where the file has none, or is none."""
+    if file[:6] != b"\x7fELF\x02\x01":
+        return b""
+    try:
+        start, = struct.unpack_from("<Q", file, 0x28)
+        size, count, of_names = struct.unpack_from("<HHH", file, 0x3A)
+        # Of each section: where its name begins, its offset in the file and its size.
+        sections = [struct.unpack_from("<I20xQQ", file, start + size * at) for at in range(count)]
+        names = sections[of_names][1]
+    except (struct.error, IndexError):
+        return b""
+    for name, offset, length in sections:
+        if file.startswith(b".comment\0", names + name):
+            return file[offset : offset + length]
+    return b""

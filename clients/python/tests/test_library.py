@@ -1,4 +1,6 @@
 """The library: where it is looked for, what doesn't fit, and its header beside the package's tables."""
+import contextlib
+import io
 import os
 import re
 import shutil
@@ -52,6 +54,20 @@ class Missing(InFolder):
         self.assertRaises(NotBuilt, Market, self.folder / "y.so")
         (self.folder / "text.so").write_text("no library")
         self.assertIn("text.so can't be loaded", self.refused(LIQ_LIBRARY=f"{self.folder}/text.so"))
+
+    def test_the_tried_one_where_it_is_asked_for(self) -> None:
+        tried, built = self.folder / "libliq-tried.so", self.folder / "libliq.so.1"
+        tried.touch()
+        said = f"liq: UNPROVED library {tried} (tests at run time stay in); LIQ_TRY is set\n"
+        with mock.patch.multiple(library, TRIED=tried, PLACES=(built,)), mock.patch.dict(os.environ, LIQ_TRY="1"):
+            os.environ.pop("LIQ_LIBRARY", None)
+            with contextlib.redirect_stderr(io.StringIO()) as told:
+                self.assertEqual((library.find_library(), told.getvalue()), (tried, said))
+            with mock.patch.dict(os.environ, LIQ_TRY=""):
+                self.assertRaises(NotBuilt, library.find_library)
+            built.touch()
+            with contextlib.redirect_stderr(io.StringIO()) as told:
+                self.assertEqual((library.find_library(), told.getvalue()), (built, ""))
 
     def test_another_machine(self) -> None:
         (self.folder / "some.so").write_bytes(b"")
