@@ -34,6 +34,7 @@ COMMANDS: Dict[str, Command] = {
     "why": Command("why", "LINE", "what is wrong with a line"),
     "page": Command("page", "FOLDER", "a page of a market: what falls at which price"),
     "gateway": Command("gateway.__main__", "FOLDER --socket PATH --table FILE", "a socket in front of a run"),
+    "feed": Command("feed", "--begin-file FILE SOCKET", "brings clock and price to a market behind a gateway"),
     "gateway.speak": Command("gateway.speak", "SOCKET [NAME]", "lines to a gateway, replies back"),
 }
 
