@@ -11,7 +11,7 @@ It ends with 0; with 1 where it refuses, as of an archive that does not begin wi
 `audit` has a limit; and with 2 where the words are not understood.
 """
 import sys
-from typing import Any, Dict, List, NamedTuple, Optional, Tuple
+from typing import Any, Dict, List, NamedTuple, Optional
 
 from .archive import Generations, Kept, NotArchived, named_in, sources
 from .backup import backup

@@ -15,7 +15,7 @@ from argparse import Namespace
 from pathlib import Path
 from typing import List, Optional
 
-from .backup import DAY, LARGEST, open_copy
+from .backup import LARGEST, open_copy
 from .console import as_process, ended, parser_of
 from .ends import DiskFault, End, Unfit
 from .guard import behind, look, read_note

@@ -9,7 +9,7 @@ nothing is wrong it writes nothing, and ends with 0.
 """
 import re
 import sys
-from typing import Dict, List, Optional
+from typing import List, Optional
 
 from .grammar import FORMS, LINE_BYTES_MOST, NAMES, NUMBER_MOST, QUERIES, Form, NoRequest
 from .grammar import read_asked, read_number, read_request
