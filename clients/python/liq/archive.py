@@ -31,7 +31,7 @@ from .backup import DAY, LARGEST, SECONDS, fronts
 from .console import add_forms, as_csv, as_json, as_process, ended, parser_of
 from .ends import Folder, Unfit
 from .history import digest_of, read_begin, what_counts
-from .journal import FRONT_BYTES, DamagedFile, Disk, files_of, open_file, pieces_of, read_file, read_header
+from .journal import FRONT_BYTES, DamagedFile, Disk, files_of, open_file, pieces_of, read_file, read_header, sync
 from .linked import Left, check_link, left_in
 from .progress import Bar
 from .scratch import bounded
@@ -307,15 +307,6 @@ def make_folder(folder: Path) -> None:
         make_folder(folder.parent)
         folder.mkdir(0o700, exist_ok=True)
         sync(folder.parent)
-
-
-def sync(folder: Path) -> None:
-    """Waits until the names in a folder are on the disk."""
-    descriptor = os.open(folder, os.O_RDONLY)
-    try:
-        os.fsync(descriptor)
-    finally:
-        os.close(descriptor)
 
 
 # ---- the whole

@@ -23,7 +23,7 @@ from .console import add_forms, as_json, as_process, ended, parser_of, refused
 from .ends import Folder, NoJournal, NotBuilt, TooMuch, Unfit
 from .errors import LiqError
 from .journal import BYTES_MOST, FRONT_BYTES, HEADER_BYTES, RECORD_BYTES
-from .journal import files_of, is_open, open_file, pieces_of, settle
+from .journal import files_of, is_open, open_file, pieces_of, settle, sync
 from .linked import apart
 from .progress import Bar
 from .scratch import bounded, scratch
@@ -79,9 +79,9 @@ def backup(folder: Folder, to: Folder, most: int = BYTES_MOST, bar: Optional[Bar
     try:
         _copy_unrotated(Path(folder), to, most, bar or Bar())
         for path in (*files_of(to), to):
-            _sync(path)
+            sync(path)
         if is_new:
-            _sync(to.absolute().parent)
+            sync(to.absolute().parent)
     except BaseException:
         _clear(to)
         if is_new:
@@ -191,15 +191,6 @@ def open_copy(folder: Folder, program: Optional[Folder] = None) -> Optional[Stat
         return state(folder, program)
     except NotBuilt:
         return None
-
-
-def _sync(path: Path) -> None:
-    """Waits until a file, or the names in a folder, are on the disk."""
-    descriptor = os.open(path, os.O_RDONLY)
-    try:
-        os.fsync(descriptor)
-    finally:
-        os.close(descriptor)
 
 
 def _clear(to: Path) -> None:

@@ -47,7 +47,7 @@ from .console import add_forms, as_json, as_process, ended, parser_of
 from .ends import End, Folder, TooMuch, Unfit
 from .journal import FRONT_BYTES, KINDS, PIECE_BYTES, RECORD_BYTES, SIDES
 from .journal import DamagedFile, Header, copy_file, files_of, open_file, read_checkpoint, read_command, read_header
-from .journal import settle
+from .journal import settle, sync
 from .linked import APART, CLIENT_AND_NUMBER, last_numbers, unlinked
 from .own import check_own
 from .progress import Bar
@@ -556,11 +556,7 @@ def write_note(path: Folder, note: Note) -> None:
         with contextlib.suppress(OSError):
             beside.unlink()
         raise
-    descriptor = os.open(path.absolute().parent, os.O_RDONLY)
-    try:
-        os.fsync(descriptor)
-    finally:
-        os.close(descriptor)
+    sync(path.absolute().parent)
 
 
 def behind(found: Look, note: Note) -> Optional[str]:

@@ -403,6 +403,15 @@ def settle(file: BinaryIO) -> None:
             raise
 
 
+def sync(path: Folder) -> None:
+    """Waits until a file, or the names in a folder, are on the disk."""
+    descriptor = os.open(path, os.O_RDONLY)
+    try:
+        os.fsync(descriptor)
+    finally:
+        os.close(descriptor)
+
+
 def pieces_of(path: Folder, most: int = BYTES_MOST) -> Iterator[bytes]:
     """A regular file's bytes, piece by piece, settled behind the last one. More than `most` are refused before any is
     given, by the length that the file states; or, where it grows meanwhile or states none, once so many have come."""

@@ -36,7 +36,7 @@ from argparse import Namespace
 from pathlib import Path
 from typing import BinaryIO, Dict, Iterator, List, NamedTuple, Optional
 
-from .archive import Kept, archive, kept_in, named_in, said_of, sources, sync
+from .archive import Kept, archive, kept_in, named_in, said_of, sources
 from .backup import DAY, LARGEST, open_copy
 from .console import add_forms, as_json, as_process, parser_of, refused
 from .ends import End, Folder, Unfit
@@ -45,6 +45,7 @@ from .gateway.book import TITLE, Book
 from .guard import BadNote, Held, How, Look, Seen, behind, generation_of, header_rotted, held, judged, look, read_at
 from .guard import read_note, stands
 from .journal import FRONT_BYTES, RECORD_BYTES, RECORDS_MOST, SIDES, VERBS, Journal, NoRegularFile, files_of, open_file
+from .journal import sync
 from .progress import Bar
 from .reasons import holder
 from .scratch import bounded

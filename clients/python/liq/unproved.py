@@ -15,6 +15,7 @@ from pathlib import Path
 from typing import Dict, Optional
 
 from .ends import Folder, Unfit
+from .journal import sync
 from .version import __version__
 
 NAME = "unproved"
@@ -93,22 +94,13 @@ def make_mark(folder: Folder, program: str) -> None:
         file.write(text)
         file.flush()
         os.fsync(descriptor)
-    sync_folder(folder)
+    sync(folder)
 
 
 def take_away(folder: Folder) -> None:
     """Takes a mark away, for good."""
     os.unlink(mark_of(folder))
-    sync_folder(folder)
-
-
-def sync_folder(folder: Folder) -> None:
-    """Syncs a folder, so that the names in it outlast a loss of power."""
-    descriptor = os.open(folder, os.O_RDONLY | os.O_DIRECTORY | os.O_CLOEXEC)
-    try:
-        os.fsync(descriptor)
-    finally:
-        os.close(descriptor)
+    sync(folder)
 
 
 def commit() -> Optional[str]:

@@ -19,6 +19,7 @@ from pathlib import Path
 from typing import Dict, Iterator, Mapping, NamedTuple, Optional, Sequence
 
 from ..ends import Folder, Unfit
+from ..journal import sync
 from ..own import NotOwn, check_own
 
 KEYS_KEPT = 100_000  # of each caller, the newest
@@ -140,7 +141,7 @@ class Book:
             elif (title, version) != (TITLE, VERSION):
                 raise BadBook(self.path, "it is none of this program's, or of another version")
         if is_new:
-            _sync_names(self.path.absolute().parent)
+            sync(self.path.absolute().parent)
         for client, caller, accepted, number, key, call in self._base.execute("SELECT * FROM slots"):
             pending = None if number is None else Order(client, number, key, call)
             self.slots[client] = Slot(client, caller, accepted, pending)
@@ -258,12 +259,3 @@ class Book:
         with contextlib.suppress(sqlite3.Error), self._change():
             self._base.execute("DELETE FROM replies WHERE client = ? AND turn <= ?", (client, oldest))
             (self._counts[client],) = self._row(f"SELECT COUNT(*) FROM replies WHERE client = {client:d}")
-
-
-def _sync_names(folder: Path) -> None:
-    """Waits until the names in a folder are on the disk."""
-    descriptor = os.open(folder, os.O_RDONLY)
-    try:
-        os.fsync(descriptor)
-    finally:
-        os.close(descriptor)

@@ -13,8 +13,7 @@ from typing import List, NamedTuple, Optional, Sequence
 from ..ends import Folder, TooMuch
 from ..errors import LiqError
 from ..history import begun, replay
-from ..journal import SIDES, Command, DamagedFile, Disk, is_open, read_checkpoint
-from ..unproved import sync_folder
+from ..journal import SIDES, Command, DamagedFile, Disk, is_open, read_checkpoint, sync
 from .disks import checkpoint_bytes, command_bytes, header, record
 from .requests import is_repeated, reply_to
 from .state import Market
@@ -202,7 +201,7 @@ def take_files(folder: Folder) -> Pair:
             taken.append(Held(path, opened(path, others)))
             others.append(id_of(os.fstat(taken[-1].descriptor)))
         for place in {Path(os.path.realpath(held.path)).parent for held in taken} | {Path(folder)}:
-            sync_folder(place)
+            sync(place)
     except OSError:
         for held in taken:
             os.close(held.descriptor)
